@@ -1,0 +1,32 @@
+//! Access objects as they were told, and chains of them.
+
+ghost use Rattle.std.specs.Prelude.{◌≡◌, IfOk};
+
+use crate::access::Access;
+use crate::id::Place;
+use crate::key::Key;
+use crate::memory::{NoMemory, TryClone};
+use crate::sequence::Sequence;
+use std::alloc::Global;
+
+/// An access object as it was told under its key.
+#[derive(Debug, PartialEq, Eq, Drop)]
+pub struct Entry {
+    pub key: Key,
+    pub access: Access,
+    /// The place of the Serve that told it.
+    pub stamp: Place,
+}
+
+/// The entries of a path's directories, the root's first.
+pub type Chain = Sequence<Entry>;
+
+impl TryClone for Entry {
+    fn try_clone(&self, alloc: Global) -> Result<Self, NoMemory> {
+        Ok(Entry {
+            key: self.key.try_clone(alloc)?,
+            access: self.access.try_clone(alloc)?,
+            stamp: self.stamp,
+        })
+    }
+}
