@@ -1,3 +1,7 @@
+pub mod Changes
+pub mod Content
+pub mod Marks
 pub mod Memory
 pub mod Path
+pub mod Renames
 pub mod Setup
