@@ -1,3 +1,4 @@
+pub mod Identity
 pub mod Memory
 pub mod Path
 pub mod Setup
