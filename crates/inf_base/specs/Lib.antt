@@ -1,5 +1,6 @@
 pub mod Changes
 pub mod Content
+pub mod Identity
 pub mod Marks
 pub mod Memory
 pub mod Path
