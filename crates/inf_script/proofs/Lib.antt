@@ -1,0 +1,4 @@
+pub mod PartFacts
+pub mod ReadingFacts
+pub mod NameFacts
+pub mod Soundness

@@ -1,0 +1,108 @@
+//! The words that are names, paths and modes.
+
+ghost use Rattle.std.specs.Prelude.{◌≡◌, ◌<◌, ◌≤◌, ◌==◌, ◌||◌, length, IsTrue};
+ghost use Rattle.std.specs.List.{list_all, list_any};
+ghost use Rattle.inf_base.specs.Memory.{Gives};
+ghost use Rattle.inf_base.specs.Path.{is_reserved};
+ghost use Rattle.inf_base.specs.Setup.{is_letter, is_digit, ends_word, is_client_name};
+ghost use Rattle.inf_base.specs.declared.limits.TheConstants.{MOST_NAME_BYTES};
+ghost use Rattle.inf_script.specs.Faults.{line_cause};
+ghost use Rattle.inf_script.specs.Names.{is_plain, is_entry_name, is_single_path, is_octal, mode_of};
+
+use crate::fault::{BAD_WORD, LineFault};
+use inf_base::MOST_NAME_BYTES;
+
+fn is_letter(byte: u8) -> bool
+    ensures { result ≡ is_letter byte }
+{
+    b'a' <= byte && byte <= b'z'
+}
+
+fn is_digit(byte: u8) -> bool
+    ensures { result ≡ is_digit byte }
+{
+    b'0' <= byte && byte <= b'9'
+}
+
+fn are_letters_or_digits(bytes: &[u8]) -> bool
+    ensures { result ≡ list_all (λ byte. is_letter byte || is_digit byte) bytes.now }
+{
+    bytes.iter().all(|b| is_letter(*b) || is_digit(*b))
+}
+
+pub fn is_client_name(name: &[u8]) -> bool
+    ensures value { result ≡ is_client_name name.now }
+    ensures not_empty { IsTrue result → 0 < length name.now }
+    ensures short { IsTrue result → length name.now ≤ MOST_NAME_BYTES }
+{
+    let Some((first, others)) = name.split_first() else {
+        return false;
+    };
+    is_letter(*first) && are_letters_or_digits(others) && others.len() < 16
+}
+
+fn ends_word(byte: u8) -> bool
+    ensures { result ≡ ends_word byte }
+{
+    byte == b' ' || byte == b'\t' || byte == b'\n'
+}
+
+fn is_plain(byte: u8) -> bool
+    ensures { result ≡ is_plain byte }
+{
+    !(byte == b'/' || ends_word(byte) || byte == b'\r')
+}
+
+fn are_plain(bytes: &[u8]) -> bool
+    ensures { result ≡ list_all is_plain bytes.now }
+{
+    bytes.iter().all(|b| is_plain(*b))
+}
+
+fn has_nul(bytes: &[u8]) -> bool
+    ensures { result ≡ list_any (λ byte. byte == 0) bytes.now }
+{
+    bytes.iter().any(|b| *b == 0)
+}
+
+fn is_reserved(name: &[u8]) -> bool
+    ensures { result ≡ is_reserved name.now }
+{
+    name == b".".as_slice() || name == b"..".as_slice() || has_nul(name)
+}
+
+fn is_entry_name(name: &[u8]) -> bool
+    ensures { result ≡ is_entry_name name.now }
+{
+    !name.is_empty() && name.len() <= MOST_NAME_BYTES && !is_reserved(name) && are_plain(name)
+}
+
+/// Whether a word is the path of one name in the root.
+pub fn is_single_path(word: &[u8]) -> bool
+    ensures { result ≡ is_single_path word.now }
+{
+    let Some((first, name)) = word.split_first() else {
+        return false;
+    };
+    *first == b'/' && is_entry_name(name)
+}
+
+fn is_octal(byte: u8) -> bool
+    ensures { result ≡ is_octal byte }
+{
+    b'0' <= byte && byte <= b'7'
+}
+
+/// The mode that a word spells in three octal digits.
+pub fn mode_of(word: &[u8]) -> Result<u16, LineFault>
+    ensures { Gives line_cause result (mode_of word.now) }
+{
+    let [a, b, c] = word else {
+        return Err(BAD_WORD);
+    };
+    if is_octal(*a) && is_octal(*b) && is_octal(*c) {
+        Ok(u16::from(*a - b'0') * 64 + u16::from(*b - b'0') * 8 + u16::from(*c - b'0'))
+    } else {
+        Err(BAD_WORD)
+    }
+}
