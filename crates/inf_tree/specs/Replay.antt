@@ -54,3 +54,8 @@ requests_of caller calls = map (λ c. record { caller = caller; call = c }) call
 
 abbrev pub answers_of : Node → Caller → List Call → List Answer
 answers_of tree caller calls = answers_to tree (requests_of caller calls)
+
+-- the tree that calls leave, given what was answered to them
+abbrev pub replayed : Node → List Decided → Node
+replayed tree [] = tree
+replayed tree (d ∷ later) = replayed (tree_after d.answer tree (apply tree d.caller d.call)) later
