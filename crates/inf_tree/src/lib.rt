@@ -1,0 +1,11 @@
+//! The plain tree of files and directories: what each path call answers and leaves, as definitions and as code.
+#![tactic(auto)]
+
+mod examples;
+mod laws;
+
+pub use examples::{
+    files_and_permissions, limits_of_paths, moves_and_listings, not_empty, order_of_refusals,
+    the_root,
+};
+pub use laws::{answers_replay, calls_keep_the_tree};
