@@ -37,8 +37,8 @@ with_client line = text_of (codes "infinifs 1" ∷ line ∷ codes "end" ∷ [])
 pub record ScriptsAreRead : Type 0 where
   pub no_calls : Says (text_of (codes "infinifs 1" ∷ codes "client a 0 0" ∷ codes "end" ∷ [])) []
   pub two_calls : Says
-    (text_of (codes "infinifs 1" ∷ codes "client a 0 0" ∷ codes "call a create /f 644" ∷ codes "call a stat /..f" ∷ codes "end" ∷ []))
-    (call.Create (codes "/f") 420 ∷ call.Stat (codes "/..f") ∷ [])
+      (text_of (codes "infinifs 1" ∷ codes "client a 0 0" ∷ codes "call a create /f 644" ∷ codes "call a stat /..f" ∷ codes "end" ∷ []))
+      (call.Create (codes "/f") 420 ∷ call.Stat (codes "/..f") ∷ [])
   pub any_bytes : Says (with_line (codes "call a stat /" ++ 195 ∷ 164 ∷ 1 ∷ [])) (call.Stat (47 ∷ 195 ∷ 164 ∷ 1 ∷ []) ∷ [])
   pub least_mode : Says (with_line (codes "call a create /f 000")) (call.Create (codes "/f") 0 ∷ [])
   pub greatest_mode : Says (with_line (codes "call a create /f 777")) (call.Create (codes "/f") 511 ∷ [])

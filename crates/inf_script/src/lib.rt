@@ -21,3 +21,6 @@ pub use fault::ScriptFault;
 pub use reader::read_script;
 pub use refusal::{ScriptRefusal, Why};
 pub use script::{MOST_SCRIPT_BYTES, Script};
+
+#[cfg(test)]
+mod tests;
