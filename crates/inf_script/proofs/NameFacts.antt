@@ -91,9 +91,9 @@ pub mode_of-is_mode : (word : List ℕ) → IfOk (mode_of word) (λ mode. is_mod
 mode_of-is_mode (a ∷ b ∷ c ∷ []) =
     if_true (λ r. IfOk r (λ mode. is_mode mode ≡ true)) (is_octal a && is_octal b && is_octal c) (Ok ((a - 48) * 64 + (b - 48) * 8 + (c - 48))) bad_word
     (λ octal.
-    let first : a ≤ 55 = octal-short a (and_left _ _ (and_left _ _ octal)) in
-    let second : b ≤ 55 = octal-short b (and_right _ _ (and_left _ _ octal)) in
-    let third : c ≤ 55 = octal-short c (and_right _ _ octal) in
+    let first : a ≤ 55 = octal-short a (and_left (is_octal a) (is_octal b) (and_left (is_octal a && is_octal b) (is_octal c) octal)) in
+    let second : b ≤ 55 = octal-short b (and_right (is_octal a) (is_octal b) (and_left (is_octal a && is_octal b) (is_octal c) octal)) in
+    let third : c ≤ 55 = octal-short c (and_right (is_octal a && is_octal b) (is_octal c) octal) in
     le-leb _ _ (omega arith)) tt
 mode_of-is_mode [] = tt
 mode_of-is_mode (a ∷ []) = tt

@@ -6,3 +6,4 @@ pub mod CallLine
 pub mod Sections
 pub mod Reading
 pub mod Built
+pub mod Examples

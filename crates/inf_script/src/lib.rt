@@ -3,6 +3,7 @@
 
 mod bytes;
 mod call_line;
+mod examples;
 mod fault;
 mod lines;
 mod names;
@@ -13,7 +14,13 @@ mod sections;
 mod stage;
 mod words;
 
+pub use examples::{
+    paths_are_refused, scripts_are_read, texts_are_refused, too_long_is_refused, words_are_refused,
+};
 pub use fault::ScriptFault;
 pub use reader::read_script;
 pub use refusal::{ScriptRefusal, Why};
 pub use script::{MOST_SCRIPT_BYTES, Script};
+
+#[cfg(test)]
+mod tests;
