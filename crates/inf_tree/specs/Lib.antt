@@ -1,5 +1,6 @@
+pub mod Apply
+pub mod Examples
+pub mod Flat
+pub mod Replay
 pub mod Tree
 pub mod Walk
-pub mod Apply
-pub mod Replay
-pub mod Examples
