@@ -151,14 +151,14 @@ AreTrees-walk : (caller : Caller) (names : List (List ℕ)) (node : Node) → Is
 AreTrees-walk caller [] node old = AreTrees-directory node errno.ENOTDIR old
 AreTrees-walk caller (name ∷ names) node old =
     after (λ d. AreTrees d.entries) (λ d. AreTrees d.entries) (ok_or (directory_of node) errno.ENOTDIR) _ (AreTrees-directory node errno.ENOTDIR old) (λ here trees.
-        passed (λ d. AreTrees d.entries) (check (allows here caller want.Search) errno.EACCES) _ (
-        after IsTree (λ d. AreTrees d.entries) (ok_or (found name here.entries) errno.ENOENT) _ (IsTree-ok_or (found name here.entries) errno.ENOENT (IsTree-found name here.entries trees)) (λ next tree.
-        AreTrees-walk caller names next tree)))
+    passed (λ d. AreTrees d.entries) (check (allows here caller want.Search) errno.EACCES) _ (
+    after IsTree (λ d. AreTrees d.entries) (ok_or (found name here.entries) errno.ENOENT) _ (IsTree-ok_or (found name here.entries) errno.ENOENT (IsTree-found name here.entries trees)) (λ next tree.
+    AreTrees-walk caller names next tree)))
 
 AreTrees-parent : (tree : Node) (caller : Caller) (place : Place) → IsTree tree → IfOk (parent_of tree caller place) (λ d. AreTrees d.entries)
 AreTrees-parent tree caller place old =
     after (λ d. AreTrees d.entries) (λ d. AreTrees d.entries) (walk caller place.directory tree) _ (AreTrees-walk caller place.directory tree old) (λ parent trees.
-        passed (λ d. AreTrees d.entries) (check (allows parent caller want.Search) errno.EACCES) _ trees)
+    passed (λ d. AreTrees d.entries) (check (allows parent caller want.Search) errno.EACCES) _ trees)
 
 -- the calls that change the tree
 

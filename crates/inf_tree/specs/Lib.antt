@@ -1,5 +1,8 @@
+pub mod Apply
+pub mod Examples
+pub mod Flat
+pub mod Replay
+pub mod ReplayExamples
 pub mod Tree
 pub mod Walk
-pub mod Apply
-pub mod Replay
-pub mod Examples
+pub mod WalkExamples

@@ -21,9 +21,12 @@ mutual
     none : Entries
     entry : List ℕ → Node → Entries → Entries
 
--- an empty root, of user and group 0
+abbrev pub root_meta : DirMeta
+root_meta = record { mode = 0o755; owner = 0; group = 0 }
+
+-- an empty root
 abbrev pub opening_tree : Node
-opening_tree = dir (record { mode = 0o755; owner = 0; group = 0 }) none
+opening_tree = dir root_meta none
 
 abbrev pub names_of : Entries → List (List ℕ)
 names_of none = []

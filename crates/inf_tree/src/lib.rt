@@ -3,9 +3,11 @@
 
 mod examples;
 mod laws;
+mod tree;
 
 pub use examples::{
-    files_and_permissions, limits_of_paths, moves_and_listings, not_empty, order_of_refusals,
-    the_root,
+    a_file_moves, ends_of_walks, files_and_permissions, limits_of_paths, moves_and_listings,
+    not_empty, order_of_refusals, the_root, what_replays,
 };
 pub use laws::{answers_replay, calls_keep_the_tree};
+pub use tree::Tree;
