@@ -1,7 +1,37 @@
 //! A metadata service for very large file systems, whose answers are proved.
 #![tactic(auto)]
 
+mod input;
 mod report;
+mod run;
+mod sched;
+mod status;
+#[cfg(test)]
+mod tests;
 mod texts;
+mod top;
 
-fn main(rt: HostRuntime) {}
+use inf_io::{ReadSource, WriteSink};
+use status::Status;
+use std::process::ExitCode;
+use std::{env, io};
+use top::infinifs;
+
+/// The words after the program's name.
+fn words(rt: &HostRuntime) -> io::Result<Vec<String>> {
+    let mut words = Vec::new(rt.alloc());
+    for word in env::args(rt)?.skip(1) {
+        words.push(word)?;
+    }
+    Ok(words)
+}
+
+fn main(rt: HostRuntime) -> ExitCode {
+    // The words are all that is asked of the system, and only memory can be wanting for them.
+    let Ok(words) = words(&rt) else {
+        return ExitCode::from(Status::NoMemory.code());
+    };
+    let mut source = ReadSource::new(rt.stdin());
+    let mut sink = WriteSink::new(rt.stdout());
+    ExitCode::from(infinifs(rt.alloc(), &words, &mut source, &mut sink))
+}

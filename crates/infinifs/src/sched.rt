@@ -1,0 +1,133 @@
+//! The command `sched`: a script in, the report of its calls out.
+
+ghost use Rattle.std.specs.Prelude.{◌≡◌, Contains, [], ◌∷◌, IfOk, IfSome};
+ghost use Rattle.std.specs.Io.KnownBytes.{Keeps};
+ghost use Rattle.inf_base.specs.Setup.{IsValid};
+ghost use Rattle.inf_io.specs.Faults.{Rose};
+ghost use Rattle.inf_script.specs.Built.{IsBuilt};
+ghost use Rattle.infinifs.specs.declared.status.Status.TheVariants as status;
+ghost use Rattle.infinifs.specs.Command.{AppendsFront, Reported, RefusedScript, SchedDid, WriteDid, WritesWhole, sched_output, run_report, refusal_line, why_text};
+
+use crate::input::{InputFault, setup_of};
+use crate::status::Status;
+use crate::{report, run};
+use inf_base::{NoMemory, Setup};
+use inf_io::{Sink, Source, write_all};
+use inf_script::{ScriptRefusal, Why};
+use std::alloc::Global;
+
+/// Runs the script that all bytes of the source spell, and writes the report of its calls. A text that is no script is
+/// answered by the line that says why. The statuses are 0 for a report, 2 for a fault of the source, 3 for a refused
+/// script, 4 for a fault of the sink and 5 for want of memory. Where source and sink do not tell their bytes, as
+/// standard input and output do not, nothing is said of them.
+pub fn sched_command<S: Source, K: Sink>(alloc: Global, source: &mut S, sink: &mut K) -> u8
+    ensures statuses { Contains (0 ∷ 2 ∷ 3 ∷ 4 ∷ 5 ∷ []) result }
+
+    // The report of the script was written, in which each call has the answer of the plain tree.
+    ensures reported { result ≡ 0 → IfSome (S.left source.old)
+        (λ text. Reported text (K.held sink.old) (K.held sink.new)) }
+    ensures refused_script { result ≡ 3 → IfSome (S.left source.old)
+        (λ text. RefusedScript text (K.held sink.old) (K.held sink.new)) }
+
+    // The source failed in this call, and nothing was written.
+    ensures source_failed { result ≡ 2 → Rose (S.faults source.old) (S.faults source.new) }
+    ensures nothing_run { result ≡ 2 → Keeps (K.held sink.old) (K.held sink.new) }
+
+    // The sink failed in this call, and a front of what was to be written is there.
+    ensures sink_failed { result ≡ 4 → Rose (K.faults sink.old) (K.faults sink.new) }
+    ensures part_written { Contains (4 ∷ 5 ∷ []) result → IfSome (S.left source.old)
+        (λ text. AppendsFront (K.held sink.old) (K.held sink.new) (sched_output text)) }
+{
+    run_script(alloc, source, sink).code()
+}
+
+fn run_script<S: Source, K: Sink>(alloc: Global, source: &mut S, sink: &mut K) -> Status
+    ensures { SchedDid result (record {
+      text = S.left source.old;
+      source_before = S.faults source.old;
+      source_after = S.faults source.new;
+      sink_before = K.faults sink.old;
+      sink_after = K.faults sink.new;
+      held_before = K.held sink.old;
+      held_after = K.held sink.new;
+    }) }
+{
+    match setup_of(alloc, source) {
+        Ok(setup) => write_report(alloc, &setup, sink),
+        Err(InputFault::Refused(refusal)) => write_refusal(alloc, refusal, sink),
+        Err(InputFault::Read) => Status::ReadFault,
+        Err(InputFault::NoMemory) => Status::NoMemory,
+    }
+}
+
+fn write_report<K: Sink>(alloc: Global, setup: &Setup, sink: &mut K) -> Status
+    requires valid { IsValid setup.now }
+    requires built { IsBuilt setup.now }
+    ensures { WriteDid status.Done (run_report setup.now.clients) result
+        (K.faults sink.old) (K.faults sink.new) (K.held sink.old) (K.held sink.new) }
+{
+    match report_of(alloc, setup) {
+        Ok(text) => write(&text, Status::Done, sink),
+        Err(NoMemory) => Status::NoMemory,
+    }
+}
+
+fn write_refusal<K: Sink>(alloc: Global, refusal: ScriptRefusal, sink: &mut K) -> Status
+    ensures { WriteDid status.ScriptRefused (refusal_line refusal) result
+        (K.faults sink.old) (K.faults sink.new) (K.held sink.old) (K.held sink.new) }
+{
+    match refusal_text(alloc, refusal) {
+        Ok(text) => write(&text, Status::ScriptRefused, sink),
+        Err(NoMemory) => Status::NoMemory,
+    }
+}
+
+/// Writes a text whole, and ends with `done` then.
+pub fn write<K: Sink>(text: &[u8], done: Status, sink: &mut K) -> Status
+    requires { WritesWhole done }
+    ensures { WriteDid done text.now result
+        (K.faults sink.old) (K.faults sink.new) (K.held sink.old) (K.held sink.new) }
+{
+    match write_all(sink, text) {
+        Ok(()) => done,
+        Err(_) => Status::WriteFault,
+    }
+}
+
+fn report_of(alloc: Global, setup: &Setup) -> Result<Vec<u8>, NoMemory>
+    requires valid { IsValid setup.now }
+    requires built { IsBuilt setup.now }
+    ensures { IfOk result (λ text. text.items ≡ run_report setup.now.clients) }
+{
+    let clients = setup.clients.as_slice();
+    let [client] = clients else { unreachable!() };
+    let calls = client.calls.as_slice();
+    let answers = run::answers(alloc, client.caller, calls)?;
+    report::text(alloc, clients, calls, &answers)
+}
+
+fn why_word(why: Why) -> &'static [u8]
+    ensures { result.now ≡ why_text why }
+{
+    match why {
+        Why::BadWord => b"bad-word",
+        Why::BadNumber => b"bad-number",
+        Why::UnknownClient => b"unknown-client",
+        Why::DoubleClient => b"double-client",
+        Why::TooMany => b"too-many",
+        Why::TooLong => b"too-long",
+        Why::NotUtf8 => b"not-utf8",
+    }
+}
+
+fn refusal_text(alloc: Global, refusal: ScriptRefusal) -> Result<Vec<u8>, NoMemory>
+    ensures { IfOk result (λ text. text.items ≡ refusal_line refusal) }
+{
+    let mut text = Vec::new(alloc);
+    text.extend_from_slice(b"script ")?;
+    text.extend_from_slice(refusal.line.to_string(alloc)?.as_bytes())?;
+    text.extend_from_slice(b" ")?;
+    text.extend_from_slice(why_word(refusal.why))?;
+    text.push(b'\n')?;
+    Ok(text)
+}

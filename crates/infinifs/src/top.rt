@@ -1,0 +1,60 @@
+//! All that the program does, over its words, a source and a sink.
+
+ghost use Rattle.std.specs.Prelude.{◌≡◌, Contains, true, false, [], ◌∷◌, ◌≤◌, map, string_bytes, IfSome};
+ghost use Rattle.std.specs.Io.KnownBytes.{Appends, Keeps};
+ghost use Rattle.inf_io.specs.Faults.{Rose};
+ghost use Rattle.infinifs.specs.Command.{AppendsFront, Reported, RefusedScript, are_accepted, output, usage_line};
+
+use crate::sched::{sched_command, write};
+use crate::status::Status;
+use inf_io::{Sink, Source};
+use std::alloc::Global;
+
+const USAGE: &[u8] = b"usage: infinifs sched | run | work START SIZE\n";
+
+fn are_accepted(words: &[String]) -> bool
+    ensures { result ≡ are_accepted (map string_bytes words.now) }
+{
+    match words {
+        [word] => word.as_str() == "sched",
+        _ => false,
+    }
+}
+
+/// Does what the program does: `sched` alone is accepted today, and runs a script; any other words are answered by the
+/// usage line. The statuses are those of `sched_command`, and 1 for refused words.
+pub fn infinifs<S: Source, K: Sink>(
+    alloc: Global,
+    words: &[String],
+    source: &mut S,
+    sink: &mut K,
+) -> u8
+    ensures statuses { result ≤ 5 }
+
+    // The usage line was written exactly where the words are refused.
+    ensures refused_words { result ≡ 1 → Appends (K.held sink.old) (K.held sink.new) usage_line }
+    ensures refused { result ≡ 1 → are_accepted (map string_bytes words.now) ≡ false }
+    ensures accepted { Contains (0 ∷ 2 ∷ 3 ∷ []) result → are_accepted (map string_bytes words.now) ≡ true }
+
+    // The report of the script was written, in which each call has the answer of the plain tree.
+    ensures reported { result ≡ 0 → IfSome (S.left source.old)
+        (λ text. Reported text (K.held sink.old) (K.held sink.new)) }
+    ensures refused_script { result ≡ 3 → IfSome (S.left source.old)
+        (λ text. RefusedScript text (K.held sink.old) (K.held sink.new)) }
+
+    // The source failed in this call, and nothing was written.
+    ensures source_failed { result ≡ 2 → Rose (S.faults source.old) (S.faults source.new) }
+    ensures nothing_run { result ≡ 2 → Keeps (K.held sink.old) (K.held sink.new) }
+
+    // The sink failed in this call, and a front of what was to be written is there.
+    ensures sink_failed { result ≡ 4 → Rose (K.faults sink.old) (K.faults sink.new) }
+    ensures part_written { Contains (4 ∷ 5 ∷ []) result →
+        IfSome (output (map string_bytes words.now) (S.left source.old))
+        (λ text. AppendsFront (K.held sink.old) (K.held sink.new) text) }
+{
+    if are_accepted(words) {
+        sched_command(alloc, source, sink)
+    } else {
+        write(USAGE, Status::WordsRefused, sink).code()
+    }
+}
