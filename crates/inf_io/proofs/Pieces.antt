@@ -1,6 +1,6 @@
 -- Bytes that move piece by piece from what is left.
-use Rattle.std.proofs.Common.{◌≡◌, ℕ, ◌+◌, ◌-◌, ◌≤◌, ◌<◌, List, [], ◌∷◌, ◌++◌, length, take, drop, get_or, refl, sym, ap, ap₂, ◌∙◌, subst, arith, Option, None, Some, Result, Ok, Err, length-take, length-drop, take-append-drop}
-use Rattle.std.specs.Io.KnownBytes.{Consumes, Keeps, Appends, ReadConsumes, WriteAppends}
+use Rattle.std.proofs.Common.{◌≡◌, ℕ, ◌+◌, ◌-◌, ◌≤◌, ◌<◌, List, [], ◌∷◌, ◌++◌, length, take, drop, get_or, sym, ap, ap₂, ◌∙◌, subst, arith, Option, length-take, length-drop, take-append-drop}
+use Rattle.std.specs.Io.KnownBytes.{Consumes}
 use Rattle.std.proofs.KnownBytes.{Consumes-trans}
 use Rattle.std.proofs.lemmas.List.{drop-drop, take_at, take_more, take_all, length-append}
 use Rattle.inf_io.specs.Reading.{LosesAtMost, TookOneMore}
@@ -17,9 +17,9 @@ copied_piece bytes start n front rest left is_left is_front fits =
 -- what is lost in two steps
 pub LosesAtMost-more : (a b c : Option (List ℕ)) (all : List ℕ) (limit most : ℕ) → Consumes a b all → length all + most ≤ limit + 1 → LosesAtMost most b c → LosesAtMost (limit + 1) a c
 LosesAtMost-more a b c all limit most before short now = record {
-    lost = all ++ now.lost;
-    few = let few = now.few in omega (arith, length-append all now.lost);
-    consumed = Consumes-trans a b c all now.lost before now.consumed
+  lost = all ++ now.lost;
+  few = let few = now.few in omega (arith, length-append all now.lost);
+  consumed = Consumes-trans a b c all now.lost before now.consumed;
 }
 
 -- one byte more than the limit was taken

@@ -1,5 +1,5 @@
 -- Which numbers a plan may have.
-use Rattle.std.proofs.Common.{◌≡◌, ℕ, ◌+◌, ◌<◌, Bool, false, eqb, List, [], ◌∷◌, get_or, suc, refl, ap₂, arith, Fits, w64, ◌||◌}
+use Rattle.std.proofs.Common.{◌≡◌, ℕ, ◌+◌, ◌<◌, false, eqb, List, [], ◌∷◌, get_or, suc, refl, ap₂, arith, Fits, w64, ◌||◌}
 use Rattle.std.proofs.lemmas.Bool.Decides.{nat_tests}
 use Rattle.inf_io.specs.Faults.{is_planned}
 

@@ -39,5 +39,5 @@ after_put s bytes = record {
   room = s.room;
   fails = s.fails;
   calls = next_call s.calls;
-  faults = count_after (fails_now s) s.faults
+  faults = count_after (fails_now s) s.faults;
 }

@@ -37,7 +37,7 @@ after_take s room = record {
   piece = s.piece;
   fails = s.fails;
   calls = next_call s.calls;
-  faults = count_after (is_planned s.fails s.calls) s.faults
+  faults = count_after (is_planned s.fails s.calls) s.faults;
 }
 
 -- the bytes taken lie at the front of the buffer, which is otherwise as it was

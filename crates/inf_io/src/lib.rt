@@ -12,6 +12,8 @@ mod reading;
 mod sink;
 mod source;
 mod take;
+#[cfg(test)]
+mod tests;
 mod write_sink;
 mod writing;
 

@@ -28,12 +28,12 @@ impl Model for MemSink {
     ghost Value = { MemSinkState };
 
     ghost view = { λ s. record {
-        held = s.bytes.items;
-        piece = s.piece;
-        room = s.room;
-        fails = s.plan.fails.items;
-        calls = s.plan.calls;
-        faults = s.plan.faults
+      held = s.bytes.items;
+      piece = s.piece;
+      room = s.room;
+      fails = s.plan.fails.items;
+      calls = s.plan.calls;
+      faults = s.plan.faults;
     } };
 
     ghost invariant = { λ s. (vec_len s.bytes ≤ s.room) × (s.room ≤ vec_capacity s.bytes) × (0 < s.piece) };
@@ -41,20 +41,15 @@ impl Model for MemSink {
 
 impl MemSink {
     /// Takes the memory for `room` bytes, so that no put takes any.
-    pub fn new(
-        alloc: Global,
-        piece: usize,
-        room: usize,
-        fails: Vec<u64>,
-    ) -> Result<Self, NoMemory>
+    pub fn new(alloc: Global, piece: usize, room: usize, fails: Vec<u64>) -> Result<Self, NoMemory>
         requires { 0 < piece }
         ensures { IfOk result (λ sink. sink ≡ record {
-            held = [];
-            piece = piece;
-            room = room;
-            fails = fails.items;
-            calls = 0;
-            faults = 0
+          held = [];
+          piece = piece;
+          room = room;
+          fails = fails.items;
+          calls = 0;
+          faults = 0;
         }) }
     {
         Ok(MemSink {
@@ -94,7 +89,10 @@ impl Sink for MemSink {
         if is_failure {
             return Give::Failed;
         }
-        let n = self.piece.min(bytes.len()).min(self.room - self.bytes.len());
+        let n = self
+            .piece
+            .min(bytes.len())
+            .min(self.room - self.bytes.len());
         self.bytes.extend_from_slice(&bytes[..n]).unwrap();
         Give::Gave(n)
     }

@@ -19,31 +19,35 @@ pub struct MemSource {
 }
 
 impl Model for MemSource {
-    ghost use Rattle.std.specs.Prelude.{◌<◌, ◌≤◌, drop, vec_len};
+    ghost use Rattle.std.specs.Prelude.{◌≡◌, ◌<◌, ◌≤◌, [], drop, vec_len};
     ghost use Rattle.inf_io.specs.MemSource.{MemSourceState};
 
     ghost Value = { MemSourceState };
 
     ghost view = { λ s. record {
-        left = drop s.start s.bytes.items;
-        piece = s.piece;
-        fails = s.plan.fails.items;
-        calls = s.plan.calls;
-        faults = s.plan.faults
+      left = drop s.start s.bytes.items;
+      piece = s.piece;
+      fails = s.plan.fails.items;
+      calls = s.plan.calls;
+      faults = s.plan.faults;
     } };
 
-    ghost invariant = { λ s. (s.start ≤ vec_len s.bytes) × (0 < s.piece) };
+    ghost invariant = { λ s. record {
+      start : s.start ≤ vec_len s.bytes;
+      piece : 0 < s.piece;
+      no_plan : s.plan.fails.items ≡ [] → s.plan.faults ≡ 0;
+    } };
 }
 
 impl MemSource {
     pub fn new(bytes: Vec<u8>, piece: usize, fails: Vec<u64>) -> Self
         requires { 0 < piece }
         ensures { result ≡ record {
-            left = bytes.items;
-            piece = piece;
-            fails = fails.items;
-            calls = 0;
-            faults = 0
+          left = bytes.items;
+          piece = piece;
+          fails = fails.items;
+          calls = 0;
+          faults = 0;
         } }
     {
         MemSource {
@@ -71,7 +75,9 @@ impl Source for MemSource {
         ensures answer { result ≡ take_answer self.old (length buf.old) }
         ensures after { self.new ≡ after_take self.old (length buf.old) }
         ensures front { FillsFront self.old.left result buf.old buf.new }
-        ensures no_fault_unplanned { self.old.fails ≡ [] → self.new.faults ≡ self.old.faults }
+
+        // With no plan the count is 0 for good.
+        ensures no_plan { self.old.fails ≡ [] → self.new.faults ≡ 0 }
     {
         let is_failure = self.plan.next_is_planned();
         self.plan.count(is_failure);
@@ -88,7 +94,10 @@ impl Source for MemSource {
         Take::Taken(n)
     }
 
-    fn faults(&self) -> u64 {
+    fn faults(&self) -> u64
+        ensures count { result ≡ self.now.faults }
+        ensures no_plan { self.now.fails ≡ [] → result ≡ 0 }
+    {
         self.plan.faults
     }
 }

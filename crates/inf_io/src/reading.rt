@@ -16,7 +16,7 @@ use std::fmt;
 const CHUNK: usize = 65536;
 
 /// Why a source was not read whole.
-#[derive(Debug, Drop)]
+#[derive(Debug, PartialEq, Eq, Drop)]
 pub enum ReadFault {
     /// The source failed.
     Read,
@@ -85,7 +85,9 @@ pub fn read_all<S: Source>(
         IfSome (S.left source.old) (λ bytes. length bytes ≤ limit → IsOkUnless result ReadFault.NoMemory) }
     ensures never_falls { S.faults source.old ≤ S.faults source.new }
 
-    // Whatever the answer.
+    // What the source has lost: at a read fault no more than the limit, and else at most one more.
+    ensures lost_at_read { IsErrOf result ReadFault.Read →
+        LosesAtMost limit (S.left source.old) (S.left source.new) }
     ensures lost { LosesAtMost (limit + 1) (S.left source.old) (S.left source.new) }
 {
     let mut chunk = vec![in alloc; 0; CHUNK.min(limit + 1)]?;

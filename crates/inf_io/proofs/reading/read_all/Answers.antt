@@ -1,4 +1,4 @@
-use Rattle.std.proofs.Common.{arith, rules}
+use Rattle.std.proofs.Common.{arith}
 use Rattle.inf_io.proofs.Pieces.{LosesAtMost-more, TookOneMore-from_all}
 use Rattle.inf_io.proofs.reading.read_all.Goals as goal
 

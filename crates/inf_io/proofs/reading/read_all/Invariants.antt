@@ -7,7 +7,7 @@ invariant-loop-all g l = record {
   consumed : Consumes (g.S.Source.left l.initial.source) (g.S.Source.left l.source) l.all.items;
   few : vec_len l.all ≤ l.limit + 1;
   room : 0 < vec_len l.chunk;
-  count : g.S.Source.faults l.initial.source ≤ g.S.Source.faults l.source
+  count : g.S.Source.faults l.initial.source ≤ g.S.Source.faults l.source;
 }
 
 abbrev pub decreases-loop-all : goal.decreases-loop-all

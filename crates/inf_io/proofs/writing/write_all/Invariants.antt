@@ -6,7 +6,7 @@ abbrev pub invariant-loop-rest : goal.invariant-loop-rest
 invariant-loop-rest g l = record {
   written : WrittenTo (g.K.Sink.held l.initial.sink) (g.K.Sink.held l.sink) l.bytes l.rest;
   count : g.K.Sink.faults l.initial.sink ≤ g.K.Sink.faults l.sink;
-  untouched : l.bytes ≡ [] → l.sink ≡ l.initial.sink
+  untouched : l.bytes ≡ [] → l.sink ≡ l.initial.sink;
 }
 
 abbrev pub decreases-loop-rest : goal.decreases-loop-rest

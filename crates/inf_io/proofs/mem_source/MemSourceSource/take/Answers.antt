@@ -1,4 +1,4 @@
-use Rattle.std.proofs.Common.{ap, sym, rules, arith, ◌∙◌, drop, ◌≡◌}
+use Rattle.std.proofs.Common.{ap, sym, rules, arith}
 use Rattle.inf_io.specs.MemSource.{MemSourceState}
 use Rattle.inf_io.proofs.Pieces.{copied_piece}
 use Rattle.inf_io.proofs.mem_source.MemSourceSource.take.Goals as goal
