@@ -1,5 +1,5 @@
 -- The words that are names, paths and modes: what a path of one name names, and that what is read is valid.
-use Rattle.std.proofs.Common.{◌≡◌, ℕ, ◌+◌, ◌-◌, ◌*◌, ◌≤◌, Bool, true, false, ◌&&◌, ◌||◌, not, cond, nat_lt, List, [], ◌∷◌, length, Ok, IfOk, refl, sym, subst, arith}
+use Rattle.std.proofs.Common.{◌≡◌, ℕ, ◌+◌, ◌-◌, ◌*◌, ◌≤◌, Bool, true, false, ◌&&◌, ◌||◌, not, cond, nat_lt, List, [], ◌∷◌, length, Ok, Result, MatchResult, refl, sym, subst, arith}
 use Rattle.std.specs.List.{list_all, slice_split}
 use Rattle.std.proofs.lemmas.Bool.{eqb-true, ltb-true, leb-true, le-leb, not-true, false≢true}
 use Rattle.std.proofs.lemmas.List.Elements.{All-weaker}
@@ -8,6 +8,8 @@ use Rattle.std.proofs.lemmas.List.Splits.{slice_split_none}
 use Rattle.inf_base.specs.Path.{is_slash, is_piece, is_reserved, path_of}
 use Rattle.inf_base.specs.Setup.{ends_word, is_word, is_mode}
 use Rattle.inf_base.specs.declared.limits.TheConstants.{MOST_NAME_BYTES}
+use Rattle.inf_script.specs.declared.refusal.Why.{Why}
+use Rattle.inf_script.specs.declared.refusal.Why.TheVariants as why
 use Rattle.inf_script.specs.Names.{is_plain, is_entry_name, is_single_path, is_octal, mode_of}
 use Rattle.inf_script.specs.Faults.{bad_word}
 use Rattle.inf_script.specs.Built.{IsSinglePath}
@@ -27,6 +29,10 @@ or_left false b neither = refl
 or_right : (a b : Bool) → (a || b) ≡ false → b ≡ false
 or_right true b neither = absurd (false≢true (sym neither))
 or_right false b neither = neither
+
+-- a value of which P holds, or a refusal as bad-word
+abbrev pub Reads : {X : Type 0} → Result X Why → (X → Type 0) → Type 0
+Reads r P = MatchResult r P (λ reason. reason ≡ why.BadWord)
 
 -- what holds of the value of each branch holds of the choice
 pub if_true : {X : Type 0} (P : X → Type 0) (b : Bool) (x y : X) → (b ≡ true → P x) → P y → P (cond b x y)
@@ -87,15 +93,15 @@ single_path-is_word (byte ∷ name) single =
 octal-short : (byte : ℕ) → is_octal byte ≡ true → byte ≤ 55
 octal-short byte octal = leb-true byte 55 (and_right _ _ octal)
 
-pub mode_of-is_mode : (word : List ℕ) → IfOk (mode_of word) (λ mode. is_mode mode ≡ true)
+pub mode_of-is_mode : (word : List ℕ) → Reads (mode_of word) (λ mode. is_mode mode ≡ true)
 mode_of-is_mode (a ∷ b ∷ c ∷ []) =
-    if_true (λ r. IfOk r (λ mode. is_mode mode ≡ true)) (is_octal a && is_octal b && is_octal c) (Ok ((a - 48) * 64 + (b - 48) * 8 + (c - 48))) bad_word
+    if_true (λ r. Reads r (λ mode. is_mode mode ≡ true)) (is_octal a && is_octal b && is_octal c) (Ok ((a - 48) * 64 + (b - 48) * 8 + (c - 48))) bad_word
     (λ octal.
     let first : a ≤ 55 = octal-short a (and_left (is_octal a) (is_octal b) (and_left (is_octal a && is_octal b) (is_octal c) octal)) in
     let second : b ≤ 55 = octal-short b (and_right (is_octal a) (is_octal b) (and_left (is_octal a && is_octal b) (is_octal c) octal)) in
     let third : c ≤ 55 = octal-short c (and_right (is_octal a && is_octal b) (is_octal c) octal) in
-    le-leb _ _ (omega arith)) tt
-mode_of-is_mode [] = tt
-mode_of-is_mode (a ∷ []) = tt
-mode_of-is_mode (a ∷ b ∷ []) = tt
-mode_of-is_mode (a ∷ b ∷ c ∷ d ∷ rest) = tt
+    le-leb _ _ (omega arith)) refl
+mode_of-is_mode [] = refl
+mode_of-is_mode (a ∷ []) = refl
+mode_of-is_mode (a ∷ b ∷ []) = refl
+mode_of-is_mode (a ∷ b ∷ c ∷ d ∷ rest) = refl

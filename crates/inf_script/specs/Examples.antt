@@ -4,9 +4,8 @@ use Rattle.std.specs.List.{flat_map}
 use Rattle.inf_base.specs.declared.call.Call.{Call}
 use Rattle.inf_base.specs.declared.call.Call.TheVariants as call
 use Rattle.inf_base.specs.declared.setup.Setup.{Setup}
-use Rattle.inf_script.specs.declared.refusal.Why.TheVariants as why
-use Rattle.inf_script.specs.declared.refusal.ScriptRefusal.{ScriptRefusal}
 use Rattle.inf_script.specs.declared.script.TheConstants.{MOST_SCRIPT_BYTES}
+use Rattle.inf_script.specs.Faults.{bad_word_at_1}
 use Rattle.inf_script.specs.Reading.{reading, meaning}
 
 -- these lines, each with the newline that ends it
@@ -19,9 +18,6 @@ setup_with calls = record { servers = 1; digest_bytes = 32; cache = 256; clients
 
 abbrev pub Says : List ℕ → List Call → Type 0
 Says text calls = reading text false ≡ Ok (record { setup = setup_with calls })
-
-abbrev pub bad_word_at_1 : ScriptRefusal
-bad_word_at_1 = record { line = 1; why = why.BadWord }
 
 abbrev pub IsRefused : List ℕ → Type 0
 IsRefused text = reading text false ≡ Err bad_word_at_1

@@ -20,3 +20,7 @@ line_cause line_fault.NoMemory = None
 -- a line that does not fit the form
 abbrev pub bad_word : {X : Type 0} → Result X Why
 bad_word = Err why.BadWord
+
+-- the one refusal that a script of today's form meets
+abbrev pub bad_word_at_1 : ScriptRefusal
+bad_word_at_1 = record { line = 1; why = why.BadWord }

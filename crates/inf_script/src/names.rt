@@ -30,6 +30,7 @@ fn are_letters_or_digits(bytes: &[u8]) -> bool
     bytes.iter().all(|b| is_letter(*b) || is_digit(*b))
 }
 
+/// Whether a word may be the name of a client.
 pub fn is_client_name(name: &[u8]) -> bool
     ensures value { result ≡ is_client_name name.now }
     ensures not_empty { IsTrue result → 0 < length name.now }

@@ -1,12 +1,12 @@
 //! The reading of a whole script.
 
-ghost use Rattle.std.specs.Prelude.{◌≤◌, ◌≡◌, length, IfOk, IsTrue, Ok};
+ghost use Rattle.std.specs.Prelude.{◌≤◌, ◌≡◌, length, IfOk, IfErr, IfSome, IsTrue, Ok};
 ghost use Rattle.std.specs.Str.{is_utf8};
 ghost use Rattle.inf_base.specs.Memory.{Gives};
 ghost use Rattle.inf_base.specs.Setup.{IsValid};
 ghost use Rattle.inf_script.specs.declared.script.TheConstants.{MOST_SCRIPT_BYTES};
 ghost use Rattle.inf_script.specs.declared.stage.Stage.TheVariants as stage;
-ghost use Rattle.inf_script.specs.Faults.{cause, line_cause};
+ghost use Rattle.inf_script.specs.Faults.{cause, line_cause, bad_word_at_1};
 ghost use Rattle.inf_script.specs.Lines.{lines_of};
 ghost use Rattle.inf_script.specs.Reading.{at_end, read_from, setup_in, reading};
 ghost use Rattle.inf_script.specs.Built.{IsBuilt};
@@ -85,6 +85,7 @@ fn read(alloc: Global, bytes: &[u8], more: bool) -> Result<Setup, LineFault>
 pub fn read_script(alloc: Global, bytes: &[u8], more: bool) -> Result<Script, ScriptFault>
     requires { IsTrue more → MOST_SCRIPT_BYTES ≤ length bytes.now }
     ensures exact { Gives cause result (reading bytes.now more) }
+    ensures refused { IfErr result (λ fault. IfSome (cause fault) (λ refusal. refusal ≡ bad_word_at_1)) }
     ensures valid { IfOk result (λ script. IsValid script.setup) }
     ensures built { IfOk result (λ script. IsBuilt script.setup) }
 {

@@ -1,11 +1,10 @@
 //! The lines of a script, section by section, one function for each place of a word.
 
-ghost use Rattle.std.specs.Prelude.{◌≡◌, ◌<◌, ◌≤◌, length};
+ghost use Rattle.std.specs.Prelude.{◌≡◌, ◌<◌, ◌≤◌, length, Ok};
 ghost use Rattle.inf_base.specs.Memory.{Gives};
 ghost use Rattle.inf_base.specs.declared.limits.TheConstants.{MOST_NAME_BYTES};
 ghost use Rattle.inf_script.specs.Faults.{line_cause};
 ghost use Rattle.inf_script.specs.Sections.{version, first_line, client_group, client_user, client_name, client_line, with_call, call_line, after_line};
-ghost use Rattle.std.specs.Prelude.{Ok};
 
 use crate::call_line::call_client;
 use crate::fault::{BAD_WORD, LineFault};
