@@ -3,6 +3,8 @@
 
 mod examples;
 mod laws;
+#[cfg(test)]
+mod tests;
 mod tree;
 
 pub use examples::{
