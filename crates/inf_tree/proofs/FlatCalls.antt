@@ -12,8 +12,8 @@ use Rattle.inf_base.specs.declared.caller.Caller.{Caller}
 use Rattle.inf_base.specs.declared.errno.Errno.TheVariants as errno
 use Rattle.inf_base.specs.declared.file.FileMeta.{FileMeta}
 use Rattle.inf_base.specs.declared.item.Kind.TheVariants as kind
-use Rattle.inf_tree.specs.Tree.{DirMeta, Node, Entries, file, dir, found, placed, root_meta}
-use Rattle.inf_tree.specs.Apply.{Applied, new_file, apply}
+use Rattle.inf_tree.specs.Tree.{file, dir, found, root_meta}
+use Rattle.inf_tree.specs.Apply.{apply}
 use Rattle.inf_tree.specs.Flat.{entries_of}
 use Rattle.inf_tree.proofs.FlatFiles.{found-entries_of, entries_of-insert_entry}
 

@@ -1,5 +1,5 @@
 -- The files of the root, as the map keeps them and as the plain tree shows them.
-use Rattle.std.proofs.Common.{◌≡◌, ℕ, Bool, true, false, cond, List, [], ◌∷◌, Option, Some, None, refl, ap}
+use Rattle.std.proofs.Common.{◌≡◌, ℕ, Bool, true, false, cond, List, [], ◌∷◌, Some, refl, ap}
 use Rattle.std.specs.BTreeMap.{insert_entry, is_at}
 use Rattle.std.specs.Cmp.Lexicographic.{slice_cmp}
 use Rattle.std.specs.Map.{lookup}
@@ -11,7 +11,7 @@ use Rattle.std.specs.declared.cmp.Ordering.TheVariants.{Less, Equal, Greater}
 use Rattle.std.proofs.lemmas.Map.Text.{is_eq-slice_cmp}
 use Rattle.inf_base.specs.declared.file.FileMeta.{FileMeta}
 use Rattle.inf_tree.specs.Flat.{entries_of}
-use Rattle.inf_tree.specs.Tree.{Node, Entries, file, entry, found, placed}
+use Rattle.inf_tree.specs.Tree.{Entries, file, entry, found, placed}
 
 pub found-entries_of : (name : List ℕ) (files : List (List ℕ × FileMeta)) → found name (entries_of files) ≡ option_map file (lookup (is_at (slice_cmp nat_cmp name)) files)
 found-entries_of name [] = refl

@@ -15,10 +15,9 @@ use Rattle.inf_base.specs.declared.item.Item.{Item}
 use Rattle.inf_base.specs.declared.item.Kind.{Kind}
 use Rattle.inf_base.specs.declared.item.Kind.TheVariants as kind
 use Rattle.inf_perm.specs.Classes.{may}
-use Rattle.inf_perm.specs.declared.want.Want.{Want}
 use Rattle.inf_perm.specs.declared.want.Want.TheVariants as want
-use Rattle.inf_tree.specs.Tree.{DirMeta, Node, Entries, file, dir, none, entry, found, changed, hung, cut, with_mode, with_length}
-use Rattle.inf_tree.specs.Walk.{◌>>=◌, ◌>>◌, check, Directory, directory_of, allows, Place, place_of, parent_of, node_at}
+use Rattle.inf_tree.specs.Tree.{Node, Entries, file, dir, none, entry, found, changed, hung, cut, with_mode, with_length}
+use Rattle.inf_tree.specs.Walk.{◌>>=◌, ◌>>◌, check, Directory, directory_of, allows, place_of, parent_of, node_at}
 
 pub record Applied : Type 0 where
   pub answer : Answer

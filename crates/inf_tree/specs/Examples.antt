@@ -1,5 +1,5 @@
 -- Calls in turn from the opening tree, and their answers.
-use Rattle.std.specs.Prelude.{ℕ, ◌+◌, List, [], ◌∷◌, ◌++◌, map, replicate, codes, Result, Ok, Err}
+use Rattle.std.specs.Prelude.{ℕ, List, [], ◌∷◌, ◌++◌, map, replicate, codes}
 use Rattle.std.specs.List.{range_with_len, flat_map}
 use Rattle.inf_base.specs.declared.answer.Answer.{Answer}
 use Rattle.inf_base.specs.declared.answer.Answer.TheVariants as answer
@@ -8,14 +8,8 @@ use Rattle.inf_base.specs.declared.call.Call.TheVariants as call
 use Rattle.inf_base.specs.declared.caller.Caller.{Caller}
 use Rattle.inf_base.specs.declared.errno.Errno.{Errno}
 use Rattle.inf_base.specs.declared.errno.Errno.TheVariants as errno
-use Rattle.inf_base.specs.declared.file.FileMeta.{FileMeta}
-use Rattle.inf_base.specs.declared.item.Item.{Item}
-use Rattle.inf_base.specs.declared.item.Kind.{Kind}
 use Rattle.inf_base.specs.declared.item.Kind.TheVariants as kind
-use Rattle.inf_tree.specs.Tree.{DirMeta, Node, Entries, file, dir, none, entry, opening_tree}
-use Rattle.inf_tree.specs.Walk.{Directory, walk}
-use Rattle.inf_tree.specs.Apply.{apply}
-use Rattle.inf_tree.specs.Replay.{Request, Decided, answers_to}
+use Rattle.inf_tree.specs.Replay.{Request}
 
 -- the super user, and a user that owns nothing
 abbrev pub super : Caller

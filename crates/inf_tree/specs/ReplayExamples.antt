@@ -1,10 +1,9 @@
 -- Lists of decided calls, one that replays and one that does not.
-use Rattle.std.specs.Prelude.{ℕ, List, [], ◌∷◌, codes}
+use Rattle.std.specs.Prelude.{List, [], ◌∷◌, codes}
 use Rattle.inf_base.specs.declared.answer.Answer.{Answer}
 use Rattle.inf_base.specs.declared.answer.Answer.TheVariants as answer
 use Rattle.inf_base.specs.declared.call.Call.{Call}
 use Rattle.inf_base.specs.declared.call.Call.TheVariants as call
-use Rattle.inf_base.specs.declared.errno.Errno.TheVariants as errno
 use Rattle.inf_base.specs.declared.item.Kind.TheVariants as kind
 use Rattle.inf_tree.specs.Replay.{Decided}
 use Rattle.inf_tree.specs.Examples.{super}

@@ -1,5 +1,5 @@
 -- The walk along a path, and the checks on the way.
-use Rattle.std.specs.Prelude.{ℕ, Bool, true, false, if◌then◌else◌, List, [], ◌∷◌, Option, Some, None, Result, Ok, Err}
+use Rattle.std.specs.Prelude.{ℕ, Bool, true, false, List, [], ◌∷◌, Option, Some, None, Result, Ok, Err}
 use Rattle.std.specs.Option.{ok_or}
 use Rattle.inf_base.specs.declared.caller.Caller.{Caller}
 use Rattle.inf_base.specs.declared.errno.Errno.{Errno}

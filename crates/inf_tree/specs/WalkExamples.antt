@@ -1,11 +1,10 @@
 -- Walks in a small tree, and one call whose tree is shown whole.
 use Rattle.std.specs.Prelude.{ℕ, List, [], ◌∷◌, codes, Result, Ok, Err}
 use Rattle.inf_base.specs.declared.answer.Answer.TheVariants as answer
-use Rattle.inf_base.specs.declared.call.Call.TheVariants as call
 use Rattle.inf_base.specs.declared.caller.Caller.{Caller}
 use Rattle.inf_base.specs.declared.errno.Errno.{Errno}
 use Rattle.inf_base.specs.declared.errno.Errno.TheVariants as errno
-use Rattle.inf_tree.specs.Tree.{DirMeta, Node, Entries, file, dir, none, entry, root_meta}
+use Rattle.inf_tree.specs.Tree.{DirMeta, Node, file, dir, none, entry, root_meta}
 use Rattle.inf_tree.specs.Walk.{Directory, walk}
 use Rattle.inf_tree.specs.Apply.{Applied}
 use Rattle.inf_tree.specs.Examples.{super, other}
