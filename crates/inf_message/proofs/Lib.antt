@@ -1,0 +1,4 @@
+pub mod HistoryDecides
+pub mod PartDecides
+pub mod ReplyDecides
+pub mod RequestDecides
