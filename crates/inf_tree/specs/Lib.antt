@@ -1,0 +1,5 @@
+pub mod Tree
+pub mod Walk
+pub mod Apply
+pub mod Replay
+pub mod Examples
