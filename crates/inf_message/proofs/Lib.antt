@@ -1,0 +1,6 @@
+pub mod ClientLaws
+pub mod HistoryDecides
+pub mod HistoryLaws
+pub mod PartDecides
+pub mod ReplyDecides
+pub mod RequestDecides
