@@ -12,7 +12,7 @@ use Rattle.inf_message.specs.declared.ask.Ask.{Ask}
 use Rattle.inf_message.specs.declared.reply.Reply.{Reply}
 use Rattle.inf_message.specs.declared.reply.Reply.TheVariants as reply
 use Rattle.inf_server.specs.Checks.{asked_of, searched, writable}
-use Rattle.inf_server.specs.Served.{Served}
+use Rattle.inf_server.specs.Response.{Response}
 use Rattle.inf_server.specs.Slots.{slot_for, with_slot}
 use Rattle.inf_server.specs.State.{Site, State, with_content}
 
@@ -20,7 +20,7 @@ use Rattle.inf_server.specs.State.{Site, State, with_content}
 abbrev pub new_file : Caller → ℕ → Slot
 new_file caller mode = file (record { mode = mode; owner = caller.uid; group = caller.gid; length = 0 }) None
 
-abbrev pub create : Site → State → Ask → List Entry → List ℕ → ℕ → Result Served Reply
+abbrev pub create : Site → State → Ask → List Entry → List ℕ → ℕ → Result Response Reply
 create site state ask chain name mode = do
   asked ← asked_of site state ask.from chain
   searched ask.caller chain
@@ -36,7 +36,7 @@ told (reserved by access) = reply.Other
 told (file meta held) = reply.Stat kind.File meta
 told (directory access held) = reply.Stat kind.Dir (record { mode = access.mode; owner = access.owner; group = access.group; length = 0 })
 
-abbrev pub stat : Site → State → Ask → List Entry → List ℕ → Result Served Reply
+abbrev pub stat : Site → State → Ask → List Entry → List ℕ → Result Response Reply
 stat site state ask chain name = do
   asked ← asked_of site state ask.from chain
   searched ask.caller chain

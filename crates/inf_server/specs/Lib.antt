@@ -2,6 +2,6 @@ pub mod Checks
 pub mod Files
 pub mod Lookups
 pub mod Machine
-pub mod Served
+pub mod Response
 pub mod Slots
 pub mod State

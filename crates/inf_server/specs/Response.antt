@@ -6,11 +6,11 @@ use Rattle.inf_message.specs.declared.reply.Reply.TheVariants as reply
 use Rattle.inf_message.specs.declared.reply.Spot.{Spot}
 use Rattle.inf_server.specs.State.{State}
 
-pub record Served : Type 0 where
+pub record Response : Type 0 where
   pub reply : Reply
   pub state : State
 
 -- a request that some check refuses leaves the state
-abbrev pub served : State → Result Served Reply → Served
-served state (Ok done) = done
-served state (Err refusal) = record { reply = refusal; state = state }
+abbrev pub response : State → Result Response Reply → Response
+response state (Ok done) = done
+response state (Err refusal) = record { reply = refusal; state = state }
