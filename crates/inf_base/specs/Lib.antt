@@ -1,3 +1,4 @@
+pub mod Checks
 pub mod Changes
 pub mod Content
 pub mod Identity

@@ -1,0 +1,2 @@
+//! One server: its state, and how it replies.
+#![tactic(auto)]
