@@ -1,5 +1,5 @@
-pub mod Checks
 pub mod Changes
+pub mod Checks
 pub mod Content
 pub mod Identity
 pub mod Marks

@@ -1,7 +1,7 @@
 -- What holds of a chain of checks where none refuses.
 use Rattle.std.proofs.Common.{Result, Ok, Err, IfOk}
 use Rattle.inf_base.specs.declared.errno.Errno.{Errno}
-use Rattle.inf_tree.specs.Walk.{◌>>=◌, ◌>>◌}
+use Rattle.inf_base.specs.Checks.{◌>>=◌, ◌>>◌}
 
 pub after : {A B : Type 0} (P : A → Type 0) (Q : B → Type 0) (x : Result A Errno) (next : A → Result B Errno) → IfOk x P → ((a : A) → P a → IfOk (next a) Q) → IfOk (x >>= next) Q
 after P Q (Ok a) next h g = g a h

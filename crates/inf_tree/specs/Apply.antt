@@ -2,6 +2,7 @@
 use Rattle.std.specs.Prelude.{ℕ, Bool, true, false, ◌&&◌, ◌||◌, not, ◌==◌, List, [], ◌∷◌, Option, Some, None, is_some, Result, Ok, Err}
 use Rattle.std.specs.Option.{ok_or}
 use Rattle.std.specs.Str.{bytes_eq}
+use Rattle.inf_base.specs.Checks.{◌>>=◌, ◌>>◌, check}
 use Rattle.inf_base.specs.Path.{path_of}
 use Rattle.inf_base.specs.declared.answer.Answer.{Answer}
 use Rattle.inf_base.specs.declared.answer.Answer.TheVariants as answer
@@ -17,7 +18,7 @@ use Rattle.inf_base.specs.declared.item.Kind.TheVariants as kind
 use Rattle.inf_perm.specs.Classes.{may}
 use Rattle.inf_perm.specs.declared.want.Want.TheVariants as want
 use Rattle.inf_tree.specs.Tree.{Node, Entries, file, dir, none, entry, found, changed, hung, cut, with_mode, with_length}
-use Rattle.inf_tree.specs.Walk.{◌>>=◌, ◌>>◌, check, Directory, directory_of, allows, place_of, parent_of, node_at}
+use Rattle.inf_tree.specs.Walk.{Directory, directory_of, allows, place_of, parent_of, node_at}
 
 pub record Applied : Type 0 where
   pub answer : Answer

@@ -1,6 +1,7 @@
 -- The walk along a path, and the checks on the way.
 use Rattle.std.specs.Prelude.{ℕ, Bool, true, false, List, [], ◌∷◌, Option, Some, None, Result, Ok, Err}
 use Rattle.std.specs.Option.{ok_or}
+use Rattle.inf_base.specs.Checks.{◌>>=◌, ◌>>◌, check}
 use Rattle.inf_base.specs.declared.caller.Caller.{Caller}
 use Rattle.inf_base.specs.declared.errno.Errno.{Errno}
 use Rattle.inf_base.specs.declared.errno.Errno.TheVariants as errno
@@ -8,21 +9,6 @@ use Rattle.inf_perm.specs.Classes.{may}
 use Rattle.inf_perm.specs.declared.want.Want.{Want}
 use Rattle.inf_perm.specs.declared.want.Want.TheVariants as want
 use Rattle.inf_tree.specs.Tree.{DirMeta, Node, Entries, file, dir, found}
-
--- one check after another: the first refusal decides
-infixl 10 ◌>>=◌
-abbrev pub ◌>>=◌ : {A B : Type 0} → Result A Errno → (A → Result B Errno) → Result B Errno
-Ok x >>= next = next x
-Err error >>= next = Err error
-
-infixl 10 ◌>>◌
-abbrev pub ◌>>◌ : {A B : Type 0} → Result A Errno → Result B Errno → Result B Errno
-Ok x >> next = next
-Err error >> next = Err error
-
-abbrev pub check : Bool → Errno → Result (Unit {0}) Errno
-check true error = Ok tt
-check false error = Err error
 
 pub record Directory : Type 0 where
   pub meta : DirMeta
