@@ -11,7 +11,8 @@ use Rattle.inf_base.specs.declared.errno.Errno.{Errno}
 use Rattle.inf_base.specs.declared.errno.Errno.TheVariants as errno
 use Rattle.inf_perm.specs.declared.want.Want.TheVariants as want
 use Rattle.inf_tree.specs.Tree.{Node, IsTree, file, dir}
-use Rattle.inf_tree.specs.Walk.{check, allows, directory_of, node_at, place_of}
+use Rattle.inf_base.specs.Checks.{check}
+use Rattle.inf_tree.specs.Walk.{allows, directory_of, node_at, place_of}
 use Rattle.inf_tree.specs.Apply.{Applied, changes, looks, told, with_new, without_dir, without_file, truncated, with_new_mode, renamed, stat, listing, new_dir, new_file, apply}
 use Rattle.inf_tree.specs.Replay.{Request, Decided, Passes, tree_after, Replays, answers_to, decided, replayed}
 use Rattle.inf_tree.proofs.Checks.{each, passed}

@@ -20,7 +20,8 @@ use Rattle.inf_perm.specs.declared.want.Want.TheVariants as want
 use Rattle.inf_base.specs.declared.answer.Answer.{Answer}
 use Rattle.inf_tree.proofs.Checks.{after, each, passed}
 use Rattle.inf_tree.specs.Tree.{Node, Entries, file, dir, none, entry, names_of, IsTree, AreTrees, found, placed, without, changed_under, changed, hung, cut, with_mode, with_length}
-use Rattle.inf_tree.specs.Walk.{check, allows, directory_of, walk, Place, parent_of, place_of, node_at}
+use Rattle.inf_base.specs.Checks.{check}
+use Rattle.inf_tree.specs.Walk.{allows, directory_of, walk, Place, parent_of, place_of, node_at}
 use Rattle.inf_tree.specs.Apply.{changes, looks, with_new, without_dir, without_file, truncated, with_new_mode, renamed, stat, listing, new_dir, new_file, is_dir, is_free, is_empty, is_below, meta_of_file, owner_of, apply}
 
 abbrev IsBefore : List ℕ → List (List ℕ) → Type 0
