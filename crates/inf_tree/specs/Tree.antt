@@ -51,7 +51,10 @@ found name (entry other node rest) = if bytes_eq name other then Some node else 
 abbrev pub placed : List ℕ → Node → Entries → Entries
 placed name node none = entry name node none
 placed name node (entry other old rest) =
-    match_ordering (slice_cmp nat_cmp name other) (entry name node (entry other old rest)) (entry other node rest) (entry other old (placed name node rest))
+    match_ordering (slice_cmp nat_cmp name other)
+    (entry name node (entry other old rest))
+    (entry other node rest)
+    (entry other old (placed name node rest))
 
 abbrev pub without : List ℕ → Entries → Entries
 without name none = none
@@ -61,7 +64,8 @@ without name (entry other node rest) = if bytes_eq name other then rest else ent
 abbrev pub changed_under : List ℕ → (Node → Node) → Entries → Entries
 changed_under name change none = none
 changed_under name change (entry other node rest) =
-    if bytes_eq name other then entry other (change node) rest else entry other node (changed_under name change rest)
+    if bytes_eq name other then entry other (change node) rest
+    else entry other node (changed_under name change rest)
 
 -- the tree with the node at a path changed
 abbrev pub changed : (Node → Node) → List (List ℕ) → Node → Node

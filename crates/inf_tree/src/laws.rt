@@ -20,11 +20,13 @@ pub fn one_name_changes()
 /// Trees stay sorted, and the names of each directory distinct, whatever is called.
 pub fn calls_keep_the_tree()
     ensures opening { IsTree opening_tree }
-    ensures call { (tree : Node) (caller : Caller) (call : Call) → IsTree tree → IsTree (apply tree caller call).tree }
+    ensures call { (tree : Node) (caller : Caller) (call : Call)
+        → IsTree tree → IsTree (apply tree caller call).tree }
     ensures calls { (tree : Node) (calls : List Decided) → IsTree tree → IsTree (replayed tree calls) }
 {}
 
 /// The answers that the tree gives to calls in turn are answers that replay.
 pub fn answers_replay()
-    ensures { (tree : Node) (requests : List Request) → Replays tree (decided requests (answers_to tree requests)) }
+    ensures { (tree : Node) (requests : List Request)
+        → Replays tree (decided requests (answers_to tree requests)) }
 {}

@@ -30,7 +30,8 @@ impl Tree {
     /// Makes a call, of those that are built.
     pub fn apply(&mut self, alloc: Global, caller: Caller, call: &Call) -> Result<Answer, NoMemory>
         requires { IsBuilt caller call.now }
-        ensures answer { IfOk result (λ answer. answer ≡ (apply (tree_of self.old) caller call.now).answer) }
+        ensures answer { IfOk result
+            (λ answer. answer ≡ (apply (tree_of self.old) caller call.now).answer) }
         ensures tree { OnOk result (tree_of self.new ≡ (apply (tree_of self.old) caller call.now).tree) }
         ensures err { OnErr result (tree_of self.new ≡ tree_of self.old) }
     {
@@ -50,8 +51,10 @@ impl Tree {
     ) -> Result<Answer, NoMemory>
         requires user { caller.uid ≡ 0 }
         requires path { IsOfOneName path.now }
-        ensures answer { IfOk result (λ answer. answer ≡ (apply (tree_of self.old) caller (call.Create path.now mode)).answer) }
-        ensures tree { OnOk result (tree_of self.new ≡ (apply (tree_of self.old) caller (call.Create path.now mode)).tree) }
+        ensures answer { IfOk result
+            (λ answer. answer ≡ (apply (tree_of self.old) caller (call.Create path.now mode)).answer) }
+        ensures tree { OnOk result
+            (tree_of self.new ≡ (apply (tree_of self.old) caller (call.Create path.now mode)).tree) }
         ensures err { OnErr result (tree_of self.new ≡ tree_of self.old) }
     {
         let name = name_of(alloc, path)?;
@@ -71,7 +74,8 @@ impl Tree {
     fn stat(&self, alloc: Global, caller: Caller, path: &Text) -> Result<Answer, NoMemory>
         requires user { caller.uid ≡ 0 }
         requires path { IsOfOneName path.now }
-        ensures { IfOk result (λ answer. answer ≡ (apply (tree_of self.now) caller (call.Stat path.now)).answer) }
+        ensures { IfOk result
+            (λ answer. answer ≡ (apply (tree_of self.now) caller (call.Stat path.now)).answer) }
     {
         let name = name_of(alloc, path)?;
         match self.files.get(&name) {
