@@ -1,6 +1,6 @@
 //! Laws of histories that hold whether or not one is legal.
 
-ghost use Rattle.std.specs.Prelude.{◌≡◌, ◌≢◌, ◌==◌, ℕ, suc, ◌≤◌, not, List, ◌∷◌, length, filter, All};
+ghost use Rattle.std.specs.Prelude.{◌≡◌, ◌≢◌, ◌==◌, ℕ, suc, ◌≤◌, not, List, ◌∷◌, length, filter, reverse, slice_get, All};
 ghost use Rattle.inf_message.specs.declared.ask.Ask.{Ask};
 ghost use Rattle.inf_message.specs.declared.event.Event.{Event};
 ghost use Rattle.inf_message.specs.declared.event.Event.TheVariants as event;
@@ -14,6 +14,12 @@ pub fn places_stay()
         → event_at place (e ∷ h) ≡ event_at place h }
     ensures asks { (place : ℕ) (e : Event) (h : List Event) → place ≤ length h
         → asked_at place (e ∷ h) ≡ asked_at place h }
+{}
+
+/// In a list that holds the oldest event first, an event's index is one less than its place.
+#[tactic(auto, using(crate::proofs::OldestFirst::event_is_indexed))]
+pub fn places_are_indexes()
+    ensures { (i : ℕ) (h : List Event) → event_at (suc i) h ≡ slice_get (reverse h) i }
 {}
 
 /// An Ask is found at a place from 1 to the length, and exactly where it is the event.

@@ -11,6 +11,8 @@ mod op;
 mod reply;
 mod request;
 mod step;
+#[cfg(test)]
+mod tests;
 mod trip;
 
 pub use aim::{Aim, What};
@@ -22,8 +24,8 @@ pub use examples::{
     example_of_waiting,
 };
 pub use laws::{
-    asks_have_places, asks_wait_for_their_serves, clients_stand_apart, places_stay,
-    servers_stand_apart, trips_are_shown,
+    asks_have_places, asks_wait_for_their_serves, clients_stand_apart, places_are_indexes,
+    places_stay, servers_stand_apart, trips_are_shown,
 };
 pub use op::Op;
 pub use reply::{Reply, Spot};
