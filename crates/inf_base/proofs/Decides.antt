@@ -1,5 +1,5 @@
 -- The `==` of the base types tells exactly whether two values are equal.
-use Rattle.std.proofs.Common.{◌≡◌, ℕ, Bool, false, List, Decides, rules, refl, ap}
+use Rattle.std.proofs.Common.{◌≡◌, ℕ, false, List, Decides, rules, refl, ap}
 use Rattle.std.proofs.lemmas.Bool.{false≢true}
 use Rattle.std.proofs.lemmas.Bool.Decides.{Decides-like, Decides-and, Decides-eqb}
 use Rattle.std.proofs.lemmas.Slice.Eq.{slice_eq-Decides}

@@ -1,16 +1,15 @@
 -- What one more event changes for a client, and that its trips are what the history shows.
-use Rattle.std.proofs.Common.{◌≡◌, ◌≢◌, ◌==◌, ℕ, not, filter, suc, ◌≤◌, Bool, true, false, cond, eqb, List, [], ◌∷◌, length, map, Option, None, Some, IfSome, All, refl, sym, ap, ap₂, subst, ◌∙◌, arith, eq-eqb}
-use Rattle.std.proofs.lemmas.Bool.Decides.{nat_tests, Decides-eqb}
+use Rattle.std.proofs.Common.{◌≡◌, ◌≢◌, ◌==◌, ℕ, not, filter, suc, Bool, true, false, cond, eqb, List, [], ◌∷◌, length, map, Option, None, Some, IfSome, All, refl, sym, ap, subst, ◌∙◌}
+use Rattle.std.proofs.lemmas.Bool.Decides.{Decides-eqb}
 use Rattle.std.proofs.lemmas.List.Elements.{All-nil, All-cons, All-head, All-tail, All-map, All-weaker}
 use Rattle.std.specs.List.{filter_map, cons_option}
 use Rattle.inf_message.specs.declared.ask.Ask.{Ask}
 use Rattle.inf_message.specs.declared.event.Event.{Event}
 use Rattle.inf_message.specs.declared.event.Event.TheVariants as event
 use Rattle.inf_message.specs.declared.reply.Reply.{Reply}
-use Rattle.inf_message.specs.declared.trip.Trip.{Trip}
 use Rattle.inf_message.specs.History.{Made, Own, Posted, Told, asked_at, asks_of, event_at, made_ask, or_told, own_ask, served_at, trip_of, trip_with, told_reply, trips_of, unless_told, waiting_in, waiting_of}
 use Rattle.inf_message.specs.Shown.{IsMade, IsOwn, IsToldAt, IsTrip}
-use Rattle.inf_message.proofs.HistoryLaws.{IsPlaceOf, asked_newest, asked_stays, asked_within, event_stays, event_within, itself, other}
+use Rattle.inf_message.proofs.HistoryLaws.{asked_newest, asked_stays, asked_within, event_stays, event_within, itself, other}
 
 pub asks_apart : (client number : ℕ) (ask : Ask) (h : List Event) → ask.from.client ≢ client → asks_of client (event.Ask number ask ∷ h) ≡ asks_of client h
 asks_apart client number ask h unlike = rw (other ask.from.client client unlike) refl

@@ -1,5 +1,5 @@
 -- The `==` of asks and events tells exactly whether two of them are equal.
-use Rattle.std.proofs.Common.{◌≡◌, ℕ, Decides, refl, ap}
+use Rattle.std.proofs.Common.{◌≡◌, Decides, refl, ap}
 use Rattle.std.proofs.lemmas.Bool.Decides.{Decides-like, Decides-and, Decides-eqb}
 use Rattle.inf_base.specs.declared.caller.Caller.{Caller}
 use Rattle.inf_base.specs.declared.caller.CallRef.{CallRef}
@@ -7,7 +7,6 @@ use Rattle.inf_base.proofs.Decides.{different, call_decides, caller_decides}
 use Rattle.inf_message.specs.declared.ask.Ask.{Ask}
 use Rattle.inf_message.specs.declared.event.Event.{Event}
 use Rattle.inf_message.specs.declared.event.Event.TheVariants as event
-use Rattle.inf_message.specs.declared.reply.Reply.{Reply}
 use Rattle.inf_message.specs.declared.request.Request.{Request}
 use Rattle.inf_message.specs.contracts.ask.AskPartialEq.TheImpl as ask_eq
 use Rattle.inf_message.specs.contracts.event.EventPartialEq.TheImpl as event_eq

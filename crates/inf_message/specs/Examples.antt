@@ -1,7 +1,5 @@
 -- A short history of two clients and two servers, in which answers come in another order than asks.
 use Rattle.std.specs.Prelude.{ℕ, List, [], ◌∷◌}
-use Rattle.inf_base.specs.declared.caller.Caller.{Caller}
-use Rattle.inf_base.specs.declared.caller.CallRef.{CallRef}
 use Rattle.inf_base.specs.declared.key.LookKey.TheVariants as look_key
 use Rattle.inf_message.specs.declared.ask.Ask.{Ask}
 use Rattle.inf_message.specs.declared.event.Event.{Event}
