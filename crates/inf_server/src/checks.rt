@@ -1,6 +1,8 @@
 //! The checks that come before anything is looked up.
 
 ghost use Rattle.std.specs.Prelude.{◌≡◌, ◌≤◌, Ok, Err, IfOk, IfErr, OnOk};
+ghost use Rattle.std.specs.List.{list_all};
+ghost use Rattle.inf_perm.specs.declared.want.Want.TheVariants as want;
 ghost use Rattle.inf_server.specs.Checks.{lets, searched, writable};
 ghost use Rattle.inf_server.specs.Refusal.{reply_of};
 ghost use Rattle.inf_server.specs.RootFiles.{asked_entry, is_root};
@@ -55,11 +57,17 @@ pub fn search(caller: Caller, chain: &Chain) -> Result<(), Refusal>
     ensures ok { OnOk result (searched caller chain.now ≡ Ok tt) }
     ensures refused { IfErr result (λ refusal. searched caller chain.now ≡ Err (reply_of refusal)) }
 {
-    if chain.iter().all(|entry| lets(caller, Want::Search, entry)) {
+    if all_let_search(caller, chain) {
         Ok(())
     } else {
         Err(Refusal::Denied(Errno::EACCES))
     }
+}
+
+fn all_let_search(caller: Caller, chain: &Chain) -> bool
+    ensures { result ≡ list_all (lets caller want.Search) chain.now }
+{
+    chain.iter().all(|entry| lets(caller, Want::Search, entry))
 }
 
 /// Whether the directory asked lets the caller write.

@@ -179,10 +179,10 @@ impl<R: IdRule> Server<R> {
             group: ask.caller.gid,
             length: 0,
         };
-        match self.files.put(name, meta) {
-            Ok(()) => Ok(Reply::Fine),
-            Err(NoMemory) => Ok(Reply::NoMem),
-        }
+        let Ok(()) = self.files.put(name, meta) else {
+            return Ok(Reply::NoMem);
+        };
+        Ok(Reply::Fine)
     }
 
     /// The metadata of the file of a name.
@@ -198,6 +198,9 @@ impl<R: IdRule> Server<R> {
     {
         asked_entry(self.number, self.servers, self.root, chain)?;
         search(ask.caller, chain)?;
-        self.files.get(name).ok_or(Refusal::Denied(Errno::ENOENT))
+        match self.files.get(name) {
+            Some(meta) => Ok(meta),
+            None => Err(Refusal::Denied(Errno::ENOENT)),
+        }
     }
 }
