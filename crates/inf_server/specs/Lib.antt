@@ -1,5 +1,6 @@
 pub mod Chains
 pub mod Checks
+pub mod Examples
 pub mod Files
 pub mod Lookups
 pub mod Machine

@@ -1,4 +1,4 @@
-use Rattle.std.proofs.Common.{sym, ◌∙◌}
+use Rattle.std.proofs.Common.{refl, sym, ◌∙◌}
 use Rattle.std.proofs.lemmas.Result.{err_from_is_err_and}
 use Rattle.inf_server.proofs.RootLaws.{create_not_asked, create_present, create_done}
 use Rattle.inf_server.specs.Refusal.{reply_of}
