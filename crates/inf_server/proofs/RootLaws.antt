@@ -69,22 +69,25 @@ asked_agrees here root files by chain = by_last (last_of chain)
   where
     by_dir : (r : DirRef) (entry : Entry) (b : Bool)
         → Agrees (Some r) files (check b reply.Gone >> Ok entry)
-            (ok_or (if b then Some (content_with r files) else None) reply.Gone >>= λ content. unsealed by content content.seal >> Ok (record { entry = entry; content = content }))
+        (ok_or (if b then Some (content_with r files) else None) reply.Gone >>= λ content. unsealed by content content.seal >> Ok (record { entry = entry; content = content }))
     by_dir r entry true = refl
     by_dir r entry false = refl
+
     by_root : (root : Option DirRef) (entry : Entry)
         → Agrees root files (check (is_root root (dir_of entry)) reply.Gone >> Ok entry)
-            (ok_or (content_of (dir_of entry) (state_with root files).contents) reply.Gone >>= λ content. unsealed by content content.seal >> Ok (record { entry = entry; content = content }))
+        (ok_or (content_of (dir_of entry) (state_with root files).contents) reply.Gone >>= λ content. unsealed by content content.seal >> Ok (record { entry = entry; content = content }))
     by_root None entry = refl
     by_root (Some r) entry = by_dir r entry (is_same_dir (dir_of entry) r)
+
     by_here : (entry : Entry) (b : Bool)
         → Agrees root files (check b reply.Other >> (check (is_root root (dir_of entry)) reply.Gone >> Ok entry))
-            (check b reply.Other >> (ok_or (content_of (dir_of entry) (state_with root files).contents) reply.Gone >>= λ content. unsealed by content content.seal >> Ok (record { entry = entry; content = content })))
+        (check b reply.Other >> (ok_or (content_of (dir_of entry) (state_with root files).contents) reply.Gone >>= λ content. unsealed by content content.seal >> Ok (record { entry = entry; content = content })))
     by_here entry true = by_root root entry
     by_here entry false = refl
+
     by_last : (last : Option Entry)
         → Agrees root files (ok_or last reply.Other >>= λ entry. check (here.number == server_of entry.access.id here.servers) reply.Other >> (check (is_root root (dir_of entry)) reply.Gone >> Ok entry))
-            (ok_or last reply.Other >>= λ entry. check (is_here here entry.access.id) reply.Other >> (ok_or (content_of (dir_of entry) (state_with root files).contents) reply.Gone >>= λ content. unsealed by content content.seal >> Ok (record { entry = entry; content = content })))
+        (ok_or last reply.Other >>= λ entry. check (is_here here entry.access.id) reply.Other >> (ok_or (content_of (dir_of entry) (state_with root files).contents) reply.Gone >>= λ content. unsealed by content content.seal >> Ok (record { entry = entry; content = content })))
     by_last None = refl
     by_last (Some entry) = by_here entry (is_here here entry.access.id)
 

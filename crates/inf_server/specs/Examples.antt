@@ -1,24 +1,19 @@
 -- One server, or one of two, of a rule that gives every message one identifier: what it replies to single requests.
-use Rattle.std.specs.Prelude.{ℕ, List, [], ◌∷◌, replicate, codes, Option, Some, None}
-use Rattle.inf_base.specs.declared.access.Access.{Access}
+use Rattle.std.specs.Prelude.{ℕ, List, [], ◌∷◌, replicate, codes, Some, None}
 use Rattle.inf_base.specs.declared.caller.CallRef.{CallRef}
-use Rattle.inf_base.specs.declared.caller.Caller.{Caller}
-use Rattle.inf_base.specs.declared.directory.DirRef.{DirRef}
 use Rattle.inf_base.specs.declared.entry.Entry.{Entry}
 use Rattle.inf_base.specs.declared.file.FileMeta.{FileMeta}
 use Rattle.inf_base.specs.declared.id.Id.{Id}
 use Rattle.inf_base.specs.declared.key.Key.TheVariants as key
 use Rattle.inf_base.specs.declared.key.LookKey.TheVariants as look
-use Rattle.inf_base.specs.declared.triple.Triple.TheVariants as triple
-use Rattle.inf_base.specs.Content.{Content, Hold, Slot, reserved, file}
+use Rattle.inf_base.specs.Content.{Content, Slot, reserved, file}
 use Rattle.inf_message.specs.declared.ask.Ask.{Ask}
 use Rattle.inf_message.specs.declared.op.Op.{Op}
 use Rattle.inf_message.specs.declared.op.Op.TheVariants as op
 use Rattle.inf_message.specs.declared.reply.Reply.{Reply}
 use Rattle.inf_message.specs.declared.request.Request.{Request}
 use Rattle.inf_message.specs.declared.request.Request.TheVariants as request
-use Rattle.inf_message.specs.History.{Served, served_ask}
-use Rattle.inf_server.specs.Machine.{machine, state_after}
+use Rattle.inf_server.specs.Machine.{machine}
 use Rattle.inf_server.specs.State.{Site, State, opening, root_access, root_content}
 
 -- 32 zeros: of any number of servers, server 0 keeps it
@@ -32,9 +27,13 @@ odd_id = record { bytes = 0 ∷ 0 ∷ 0 ∷ 0 ∷ 0 ∷ 0 ∷ 0 ∷ 1 ∷ replic
 abbrev pub digest_to_one : List ℕ → Id
 digest_to_one message = one_id
 
--- server 0 of so many
+-- server 0 of so many, which keeps the root
 abbrev pub server_0 : ℕ → Site
 server_0 servers = record { number = 0; servers = servers; digest = digest_to_one }
+
+-- server 1 of two
+abbrev pub server_1 : Site
+server_1 = record { number = 1; servers = 2; digest = digest_to_one }
 
 abbrev pub root : Entry
 root = record { key = key.Top; access = root_access (server_0 1); stamp = 2 }
@@ -57,7 +56,7 @@ ask_as user asked = record { from = call; caller = record { uid = user; gid = us
 abbrev pub look_up : Ask
 look_up = ask_as 0 (request.Lookup look.Top)
 
--- the root's chain, and what is asked of it by a user
+-- what a user asks at the end of a chain
 abbrev pub finish : ℕ → List Entry → Op → Ask
 finish user chain asked = ask_as user (request.Finish chain asked)
 

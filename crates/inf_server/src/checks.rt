@@ -21,9 +21,7 @@ pub fn asked_entry(
 ) -> Result<&Entry, Refusal>
     requires { 1 ≤ servers }
     ensures ok { IfOk result (λ entry. asked_entry number servers root chain.now ≡ Ok entry.now) }
-    ensures refused {
-        IfErr result (λ refusal. asked_entry number servers root chain.now ≡ Err (reply_of refusal))
-    }
+    ensures refused { IfErr result (λ refusal. asked_entry number servers root chain.now ≡ Err (reply_of refusal)) }
 {
     let Some(entry) = chain.as_slice().last() else {
         return Err(Refusal::Other);

@@ -44,10 +44,10 @@ impl<R: IdRule> Model for Server<R> {
     ghost Value = { Standing R };
 
     ghost view = { λ s. record {
-        rule = s.rule;
-        number = s.number;
-        servers = s.servers;
-        state = state_with s.root s.files;
+      rule = s.rule;
+      number = s.number;
+      servers = s.servers;
+      state = state_with s.root s.files;
     } };
 
     ghost invariant = { λ s. KeepsRoot (site s.number s.servers (R.digest_of s.rule)) s.root };
@@ -82,9 +82,7 @@ impl<R: IdRule> Server<R> {
     pub fn serve(&mut self, ask_place: Place, ask: &Ask) -> Reply
         requires built { is_built ask.now.request ≡ true }
         requires short_chains { HasShortChains ask.now.request }
-        ensures serves {
-            Serves (site_of R.digest_of self.old) self.old.state ask_place ask.now result self.new.state
-        }
+        ensures serves { Serves (site_of R.digest_of self.old) self.old.state ask_place ask.now result self.new.state }
         ensures no_memory { result ≡ reply.NoMem → self.new ≡ self.old }
         ensures same { IsSameServer self.old self.new }
     {
@@ -96,12 +94,10 @@ impl<R: IdRule> Server<R> {
 
     fn reply_to(&mut self, ask_place: Place, ask: &Ask) -> Result<Reply, Refusal>
         requires { is_built ask.now.request ≡ true }
-        ensures done {
-            IfOk result (λ given. Serves (site_of R.digest_of self.old) self.old.state ask_place ask.now given self.new.state)
-        }
-        ensures refused {
-            IfErr result (λ refusal. Serves (site_of R.digest_of self.old) self.old.state ask_place ask.now (reply_of refusal) self.old.state)
-        }
+        ensures done { IfOk result (λ given.
+            Serves (site_of R.digest_of self.old) self.old.state ask_place ask.now given self.new.state) }
+        ensures refused { IfErr result (λ refusal.
+            Serves (site_of R.digest_of self.old) self.old.state ask_place ask.now (reply_of refusal) self.old.state) }
         ensures unchanged { OnErr result (self.new ≡ self.old) }
         ensures same { IsSameServer self.old self.new }
     {
@@ -127,13 +123,11 @@ impl<R: IdRule> Server<R> {
 
     /// The root's access object.
     fn lookup_top(&self) -> Result<Access, Refusal>
-        ensures found {
-            IfOk result (λ access. lookup_top (site_of R.digest_of self.now) self.now.state
-                ≡ done (reply.Found key.Top access) self.now.state)
-        }
-        ensures refused {
-            IfErr result (λ refusal. lookup_top (site_of R.digest_of self.now) self.now.state ≡ Err (reply_of refusal))
-        }
+        ensures found { IfOk result (λ access.
+            lookup_top (site_of R.digest_of self.now) self.now.state
+            ≡ done (reply.Found key.Top access) self.now.state) }
+        ensures refused { IfErr result (λ refusal.
+            lookup_top (site_of R.digest_of self.now) self.now.state ≡ Err (reply_of refusal)) }
     {
         let Some(root) = self.root else {
             return Err(Refusal::Other);
@@ -149,21 +143,13 @@ impl<R: IdRule> Server<R> {
     }
 
     /// Puts an empty file of the caller's under a name that is free.
-    fn create(
-        &mut self,
-        ask: &Ask,
-        chain: &Chain,
-        name: &Name,
-        mode: u16,
-    ) -> Result<Reply, Refusal>
-        ensures done {
-            IfOk result (λ given. Gives self.old.state
-                (create (site_of R.digest_of self.old) self.old.state ask.now chain.now name.now mode) given self.new.state)
-        }
-        ensures refused {
-            IfErr result (λ refusal. create (site_of R.digest_of self.old) self.old.state ask.now chain.now name.now mode
-                ≡ Err (reply_of refusal))
-        }
+    fn create(&mut self, ask: &Ask, chain: &Chain, name: &Name, mode: u16) -> Result<Reply, Refusal>
+        ensures done { IfOk result (λ given. Gives self.old.state
+            (create (site_of R.digest_of self.old) self.old.state ask.now chain.now name.now mode)
+            given self.new.state) }
+        ensures refused { IfErr result (λ refusal.
+            create (site_of R.digest_of self.old) self.old.state ask.now chain.now name.now mode
+            ≡ Err (reply_of refusal)) }
         ensures unchanged { OnErr result (self.new ≡ self.old) }
         ensures same { IsSameServer self.old self.new }
     {
@@ -187,14 +173,12 @@ impl<R: IdRule> Server<R> {
 
     /// The metadata of the file of a name.
     fn stat(&self, ask: &Ask, chain: &Chain, name: &Name) -> Result<FileMeta, Refusal>
-        ensures found {
-            IfOk result (λ meta. stat (site_of R.digest_of self.now) self.now.state ask.now chain.now name.now
-                ≡ done (reply.Stat kind.File meta) self.now.state)
-        }
-        ensures refused {
-            IfErr result (λ refusal. stat (site_of R.digest_of self.now) self.now.state ask.now chain.now name.now
-                ≡ Err (reply_of refusal))
-        }
+        ensures found { IfOk result (λ meta.
+            stat (site_of R.digest_of self.now) self.now.state ask.now chain.now name.now
+            ≡ done (reply.Stat kind.File meta) self.now.state) }
+        ensures refused { IfErr result (λ refusal.
+            stat (site_of R.digest_of self.now) self.now.state ask.now chain.now name.now
+            ≡ Err (reply_of refusal)) }
     {
         asked_entry(self.number, self.servers, self.root, chain)?;
         search(ask.caller, chain)?;

@@ -25,8 +25,11 @@ pub returns-clause-done : goal.returns-clause-done
 returns-clause-done g c =
     let s = c.self.inside in
     let here = site s.number s.servers (g.R.IdRule.digest_of s.rule) in
-    rw (c.in-Ok.ensures.ok, ← c.self.view_is,
-        create_done here s.files c.args.ask.now c.args.chain.now c.args.name.now c.args.mode
-            s.root c.in_ok-entry.entry.now c.get.result c.in_ok-entry.ensures.ok c.in_ok-search.ensures.ok c.in_ok-write.ensures.ok
-            (sym c.get.ensures) (sym c.is_some.ensures ∙ c.if-is_some.false))
+    rw (
+      c.in-Ok.ensures.ok,
+      ← c.self.view_is,
+      create_done here s.files c.args.ask.now c.args.chain.now c.args.name.now c.args.mode
+          s.root c.in_ok-entry.entry.now c.get.result c.in_ok-entry.ensures.ok c.in_ok-search.ensures.ok c.in_ok-write.ensures.ok
+          (sym c.get.ensures) (sym c.is_some.ensures ∙ c.if-is_some.false),
+    )
     refl
