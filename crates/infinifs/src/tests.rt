@@ -1,3 +1,5 @@
+ghost use Rattle.std.specs.Prelude.{◌<◌};
+
 use crate::top::infinifs;
 use inf_io::{MemSink, MemSource};
 use std::alloc::Global;
@@ -16,13 +18,13 @@ const REFUSED: &[u8] = b"script 1 bad-word\n";
 
 /// A source of these bytes in pieces of `piece`, of whose calls those of the numbers in `fails` fail.
 fn source(alloc: Global, bytes: &[u8], piece: usize, fails: &[u64]) -> Result<MemSource, Fail>
-    requires { 1 ≤ piece }
+    requires { 0 < piece }
 {
     Ok(MemSource::new(bytes.to_vec(alloc)?, piece, fails.to_vec(alloc)?))
 }
 
 fn sink(alloc: Global, piece: usize, fails: &[u64]) -> Result<MemSink, Fail>
-    requires { 1 ≤ piece }
+    requires { 0 < piece }
 {
     Ok(MemSink::new(alloc, piece, 4096, fails.to_vec(alloc)?)?)
 }
