@@ -1,1 +1,3 @@
 pub mod RootState
+pub mod ServeLookup
+pub mod ServeOwes
