@@ -1,3 +1,4 @@
 pub mod RootState
+pub mod ServeCreate
 pub mod ServeLookup
 pub mod ServeOwes

@@ -5,6 +5,8 @@ use Rattle.std.specs.Cmp.Lexicographic.{slice_cmp}
 use Rattle.std.specs.Map.{lookup}
 use Rattle.std.specs.Option.{option_map}
 use Rattle.std.specs.Ordering.{nat_cmp, match_ordering, is_eq}
+use Rattle.std.specs.Str.{bytes_eq}
+use Rattle.std.proofs.lemmas.Slice.Eq.{bytes_eq-Decides}
 use Rattle.std.specs.declared.cmp.Ordering.{Ordering}
 use Rattle.std.specs.declared.cmp.Ordering.TheVariants.{Less, Equal, Greater}
 use Rattle.inf_base.specs.declared.file.FileMeta.{FileMeta}
@@ -87,3 +89,6 @@ serves_by site old place ask given new s wanting done = done s
 pub state_goes_on : (site : Site) (old : State) (place : ℕ) (ask : Ask) (given : Reply) (new : State) → Serves site old place ask given new → after_reply given old (machine site old place ask) ≡ new
 state_goes_on site old place ask reply.NoMem new s = sym s.1
 state_goes_on site old place ask given new s = ap (λ (r : Response). r.state) (sym s)
+
+pub bytes_same : (bytes : List ℕ) → bytes_eq bytes bytes ≡ true
+bytes_same bytes = (bytes_eq-Decides bytes bytes).1 refl
