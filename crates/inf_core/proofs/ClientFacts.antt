@@ -161,7 +161,7 @@ sent_at world who left stage.Compose place message one at = absurd (cc)
 sent_at world who left (stage.Round keys) place message one at = record { top = at.top; open_one = refl }
 sent_at world who left (stage.Act chain asked) place message one at = record { key = at.key; stamp = at.stamp; of_root = at.of_root; next = at.next; open_one = refl }
 
-open_at : (world : World) (left : List Call) (stage : Stage) (sent : List Sent) → IsAt world left stage sent → IsOpen sent
+pub open_at : (world : World) (left : List Call) (stage : Stage) (sent : List Sent) → IsAt world left stage sent → IsOpen sent
 open_at world left stage.Compose sent at = subst IsOpen (sym at) tt
 open_at world left (stage.Round keys) sent at = at.open_one
 open_at world left (stage.Act chain asked) sent at = at.open_one

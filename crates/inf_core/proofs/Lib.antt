@@ -1,4 +1,6 @@
 pub mod ClientFacts
+pub mod ClientTurns
+pub mod Pending
 pub mod RootState
 pub mod ServeCreate
 pub mod ServeLookup
