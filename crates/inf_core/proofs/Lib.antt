@@ -3,6 +3,8 @@ pub mod ClientTurns
 pub mod Pending
 pub mod RootState
 pub mod ServeCreate
+pub mod ServeFacts
 pub mod ServeLookup
 pub mod ServeOwes
+pub mod ServeReplays
 pub mod ServeStat
