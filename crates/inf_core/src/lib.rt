@@ -2,7 +2,9 @@
 #![tactic(auto)]
 
 mod examples;
+mod laws;
 mod stage;
 
 pub use examples::{next_asks, outcomes, replies, wanting};
+pub use laws::serves_replay;
 pub use stage::{LookKeys, Stage};
