@@ -1,7 +1,6 @@
 -- What holds of every client in a legal history: its group is one message, which asks of the root what its call needs.
-use Rattle.std.proofs.Common.{◌≡◌, ℕ, suc, Bool, true, false, cond, eqb, List, [], ◌∷◌, ◌++◌, length, Option, Some, None, is_some, slice_get, refl, sym, ap, subst, ◌∙◌}
+use Rattle.std.proofs.Common.{◌≡◌, ℕ, Bool, true, false, cond, eqb, List, [], ◌∷◌, ◌++◌, length, Option, Some, None, is_some, slice_get, refl, sym, ap, subst}
 use Rattle.inf_base.specs.declared.call.Call.{Call}
-use Rattle.inf_base.specs.declared.caller.Caller.{Caller}
 use Rattle.inf_base.specs.declared.entry.Entry.{Entry}
 use Rattle.inf_base.specs.declared.answer.Answer.TheVariants as answer
 use Rattle.inf_base.specs.declared.key.Key.{Key}
@@ -10,19 +9,15 @@ use Rattle.inf_base.specs.declared.key.LookKey.TheVariants as look
 use Rattle.inf_base.specs.declared.setup.ClientLine.{ClientLine}
 use Rattle.inf_message.specs.declared.ask.Ask.{Ask}
 use Rattle.inf_message.specs.declared.op.Op.{Op}
-use Rattle.inf_message.specs.declared.reply.Reply.{Reply}
-use Rattle.inf_message.specs.declared.reply.Reply.TheVariants as reply
 use Rattle.inf_message.specs.declared.step.Message.{Message}
-use Rattle.inf_message.specs.History.{Told}
 use Rattle.inf_core.specs.World.{World, root_of}
-use Rattle.inf_core.specs.Client.{Client, Sent, Who, ended, placed, start, starting}
+use Rattle.inf_core.specs.Client.{Client, Sent, Who, ended, placed, starting}
 use Rattle.inf_core.specs.Duty.{Next, Duty, asks, is_over, waits, ask_of, asked, at_call, begun, next_in, next_of, next_step, wants}
 use Rattle.inf_core.specs.Group.{composed, composed_stage, first_round, first_stage, group, op_of}
-use Rattle.inf_core.specs.Turn.{Turn, act_with, after_act, after_lookup, begins_again, ends, goes_on, next_op, recorded, served, success_of, turn_at, turned, unless_success}
+use Rattle.inf_core.specs.Turn.{next_op}
 use Rattle.inf_core.specs.declared.stage.Stage.{Stage}
 use Rattle.inf_core.specs.declared.stage.Stage.TheVariants as stage
-use Rattle.inf_core.proofs.ServeOwes.{IsRootTold, root_chain}
-use Rattle.inf_message.proofs.HistoryLaws.{itself}
+use Rattle.inf_core.proofs.ServeOwes.{root_chain}
 
 -- at most one Ask, which is not answered yet
 abbrev pub IsOpen : List Sent → Type 0
@@ -85,7 +80,7 @@ composed_ready world s ready =
     let at : IsAt world s.left s.stage [] = subst (IsAt world s.left s.stage) ready.none ready.sound.at in
     record {
       sound = record { root = ready.sound.root; servers = ready.sound.servers; at = subst (IsAt world s.left (composed_stage s.left s.stage)) (sym ready.none) (composed_is world s.left s.stage at) };
-      none = ready.none
+      none = ready.none;
     }
 
 wants_ready : (world : World) (s : Client) (call : Call) → IsReady world s → IsReady world (wants s (Some call))
@@ -180,11 +175,12 @@ ready_begins world s t place number ask free ready duty =
     let at : IsAt world t.left t.stage [] = subst (IsAt world t.left t.stage) ready.none ready.sound.at in
     record {
       sound = record {
-        root = ready.sound.root; servers = ready.sound.servers;
-        at = subst (IsAt world t.left t.stage) (sym sent) (sent_at world t.who t.left t.stage place goes.message goes.one at)
+        root = ready.sound.root;
+        servers = ready.sound.servers;
+        at = subst (IsAt world t.left t.stage) (sym sent) (sent_at world t.who t.left t.stage place goes.message goes.one at);
       };
       waits = record { sent = sent; message = goes.message; one = goes.one; server = goes.server; is_asked = goes.is_asked };
-      free = free
+      free = free;
     }
 
 -- nothing follows the one message of a group

@@ -1,5 +1,5 @@
 -- What the answer to a client's one message does to it.
-use Rattle.std.proofs.Common.{◌≡◌, ℕ, Bool, true, false, cond, eqb, ◌||◌, List, [], ◌∷◌, Option, Some, None, refl, sym, ap, ap₂, subst, ◌∙◌, arith}
+use Rattle.std.proofs.Common.{◌≡◌, ℕ, Bool, true, false, eqb, List, [], ◌∷◌, Option, Some, None, refl, sym, ap, ap₂, subst, ◌∙◌, arith}
 use Rattle.std.proofs.lemmas.Bool.Decides.{nat_tests}
 use Rattle.inf_base.specs.declared.answer.Answer.{Answer}
 use Rattle.inf_base.specs.declared.call.Call.{Call}
@@ -9,12 +9,11 @@ use Rattle.inf_message.specs.declared.reply.Reply.{Reply}
 use Rattle.inf_message.specs.declared.reply.Reply.TheVariants as reply
 use Rattle.inf_message.specs.declared.step.Message.{Message}
 use Rattle.inf_message.specs.History.{Told}
-use Rattle.inf_tree.specs.Replay.{Decided}
 use Rattle.inf_core.specs.World.{World, root_of}
-use Rattle.inf_core.specs.Client.{Client, Sent, Who, has_place}
+use Rattle.inf_core.specs.Client.{Client, Sent, Who}
 use Rattle.inf_core.specs.Decisions.{decided_by_turn, decided_call, decided_for}
 use Rattle.inf_core.specs.Group.{group}
-use Rattle.inf_core.specs.Turn.{Turn, after_act, after_lookup, begins_again, ends, goes_on, next_op, recorded, served, success_of, told_entry, turn_at, turned, unless_success}
+use Rattle.inf_core.specs.Turn.{Turn, after_lookup, begins_again, ends, goes_on, next_op, recorded, served, success_of, told_entry, turn_at, turned, unless_success}
 use Rattle.inf_core.specs.declared.stage.Stage.{Stage}
 use Rattle.inf_core.specs.declared.stage.Stage.TheVariants as stage
 use Rattle.inf_core.proofs.ClientFacts.{IsAt, IsOpen, IsSound, Waits, open_at}

@@ -1,5 +1,5 @@
 -- What the root's server keeps: the files of the root, and nothing else; and how a server's state goes on.
-use Rattle.std.proofs.Common.{◌≡◌, ℕ, Bool, true, false, cond, eqb, List, [], ◌∷◌, map, Option, Some, None, refl, sym, ap, ◌∙◌}
+use Rattle.std.proofs.Common.{◌≡◌, ℕ, Bool, true, false, cond, List, [], ◌∷◌, Some, None, refl, sym, ap}
 use Rattle.std.specs.BTreeMap.{insert_entry, is_at}
 use Rattle.std.specs.Cmp.Lexicographic.{slice_cmp}
 use Rattle.std.specs.Map.{lookup}
@@ -17,7 +17,7 @@ use Rattle.inf_message.specs.declared.reply.Reply.{Reply}
 use Rattle.inf_message.specs.declared.reply.Reply.TheVariants as reply
 use Rattle.inf_server.specs.Machine.{Serves, after_reply, machine}
 use Rattle.inf_server.specs.Response.{Response}
-use Rattle.inf_server.specs.State.{Site, State, is_here, opening, root_access, root_content, root_id}
+use Rattle.inf_server.specs.State.{Site, State, is_here, opening, root_access, root_content}
 use Rattle.inf_tree.specs.Flat.{entries_of}
 use Rattle.inf_tree.specs.Tree.{Node, dir, root_meta}
 use Rattle.inf_core.specs.World.{World, root_of, site_of}
@@ -49,8 +49,11 @@ content_with world files = record (root_content (root_site world)) { slots = slo
 -- the state of the root's server
 abbrev pub state_of : World → Files → State
 state_of world files = record {
-  contents = content_with world files ∷ []; rows = []; marks = []; changes = [];
-  top = Some (record { access = root_access (root_site world); held = None })
+  contents = content_with world files ∷ [];
+  rows = [];
+  marks = [];
+  changes = [];
+  top = Some (record { access = root_access (root_site world); held = None });
 }
 
 pub root_is_here : (world : World) → is_here (root_site world) (root_of world) ≡ true

@@ -1,5 +1,5 @@
 -- What the Serve of a create of one name in the root owes.
-use Rattle.std.proofs.Common.{◌≡◌, ℕ, Bool, true, false, List, [], ◌∷◌, Option, Some, None, Ok, refl, sym, ap, ◌∙◌}
+use Rattle.std.proofs.Common.{◌≡◌, ℕ, Bool, true, false, List, [], ◌∷◌, Option, Some, None, Ok, refl, ap, ◌∙◌}
 use Rattle.std.specs.BTreeMap.{insert_entry, is_at}
 use Rattle.std.specs.Cmp.Lexicographic.{slice_cmp}
 use Rattle.std.specs.Map.{lookup}
@@ -22,15 +22,14 @@ use Rattle.inf_server.specs.Machine.{Serves, machine}
 use Rattle.inf_server.specs.Response.{Response}
 use Rattle.inf_server.specs.State.{State}
 use Rattle.inf_tree.specs.Apply.{Applied, apply}
-use Rattle.inf_tree.specs.Tree.{file, found}
-use Rattle.inf_tree.specs.Flat.{entries_of}
+use Rattle.inf_tree.specs.Tree.{file}
 use Rattle.inf_core.specs.World.{World, root_of}
 use Rattle.inf_core.specs.Client.{Client}
 use Rattle.inf_core.specs.Duty.{ask_of}
 use Rattle.inf_core.specs.declared.stage.Stage.TheVariants as stage
 use Rattle.inf_tree.proofs.FlatFiles.{entries_of-insert_entry, found-entries_of}
 use Rattle.inf_core.proofs.RootState.{Files, bytes_same, lookup-slots_of, root_number, root_site, serves_by, slot_of_file, slots_of-insert_entry, state_of, tree_of_files}
-use Rattle.inf_core.proofs.ServeOwes.{Owes, decided_now, decides, owes_nothing, owes_one, root_chain, root_lets}
+use Rattle.inf_core.proofs.ServeOwes.{Owes, owes_nothing, owes_one, root_chain, root_lets}
 use Rattle.inf_message.proofs.HistoryLaws.{itself}
 
 module _ (world : World) (files : Files) (s : Client) (ask_place place : ℕ) (key : Key) (stamp : ℕ) (path name : List ℕ) (mode : ℕ) where
@@ -64,33 +63,33 @@ module _ (world : World) (files : Files) (s : Client) (ask_place place : ℕ) (k
   no_search : path_of path ≡ Ok (name ∷ []) → root_lets s.who.caller want.Search ≡ false → Agree (refuses errno.EACCES) (is_refused errno.EACCES)
   no_search names searches = record {
     server = rw (itself (root_number world), bytes_same, searches) refl;
-    tree = rw (names, searches) refl
+    tree = rw (names, searches) refl;
   }
 
   no_write : path_of path ≡ Ok (name ∷ []) → root_lets s.who.caller want.Search ≡ true → root_lets s.who.caller want.Write ≡ false → Agree (refuses errno.EACCES) (is_refused errno.EACCES)
   no_write names searches writes = record {
     server = rw (itself (root_number world), bytes_same, searches, writes) refl;
-    tree = rw (names, searches, writes) refl
+    tree = rw (names, searches, writes) refl;
   }
 
   taken : (meta : FileMeta) → path_of path ≡ Ok (name ∷ []) → root_lets s.who.caller want.Search ≡ true → root_lets s.who.caller want.Write ≡ true → standing ≡ Some meta → Agree (refuses errno.EEXIST) (is_refused errno.EEXIST)
   taken meta names searches writes stands = record {
     server =
-      let slot = lookup-slots_of name files ∙ ap (option_map slot_of_file) stands in
-      rw (itself (root_number world), bytes_same, searches, writes, slot) refl;
+        let slot = lookup-slots_of name files ∙ ap (option_map slot_of_file) stands in
+        rw (itself (root_number world), bytes_same, searches, writes, slot) refl;
     tree =
-      let node = found-entries_of name files ∙ ap (option_map file) stands in
-      rw (names, searches, writes, node) refl
+        let node = found-entries_of name files ∙ ap (option_map file) stands in
+        rw (names, searches, writes, node) refl;
   }
 
   free : path_of path ≡ Ok (name ∷ []) → root_lets s.who.caller want.Search ≡ true → root_lets s.who.caller want.Write ≡ true → standing ≡ None → Agree (record { reply = reply.Fine; state = state_of world files_with }) (record { answer = answer.Done; tree = tree_of_files files_with })
   free names searches writes stands = record {
     server =
-      let slot = lookup-slots_of name files ∙ ap (option_map slot_of_file) stands in
-      rw (itself (root_number world), bytes_same, searches, writes, slot, slots_of-insert_entry files name new_meta, bytes_same (root_of world).bytes) refl;
+        let slot = lookup-slots_of name files ∙ ap (option_map slot_of_file) stands in
+        rw (itself (root_number world), bytes_same, searches, writes, slot, slots_of-insert_entry files name new_meta, bytes_same (root_of world).bytes) refl;
     tree =
-      let node = found-entries_of name files ∙ ap (option_map file) stands in
-      rw (names, searches, writes, node, entries_of-insert_entry files name new_meta) refl
+        let node = found-entries_of name files ∙ ap (option_map file) stands in
+        rw (names, searches, writes, node, entries_of-insert_entry files name new_meta) refl;
   }
 
   -- ---- what the reply decides

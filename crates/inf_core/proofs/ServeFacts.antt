@@ -1,10 +1,9 @@
 -- What any Serve owes, by the kind of what the client asked for.
-use Rattle.std.proofs.Common.{◌≡◌, ℕ, ◌-◌, length, List, [], ◌∷◌, Option, Some, None, Result, Ok, Err, slice_get, refl, sym, ap, ap₂, subst, ◌∙◌}
+use Rattle.std.proofs.Common.{◌≡◌, ℕ, ◌-◌, length, List, [], ◌∷◌, Some, Result, Ok, Err, slice_get, refl, sym, ap, ap₂, subst, ◌∙◌}
 use Rattle.inf_base.specs.declared.call.Call.{Call}
 use Rattle.inf_base.specs.declared.call.Call.TheVariants as call
 use Rattle.inf_base.specs.declared.entry.Entry.{Entry}
 use Rattle.inf_base.specs.declared.errno.Errno.{Errno}
-use Rattle.inf_base.specs.declared.id.Id.{Id}
 use Rattle.inf_base.specs.declared.key.Key.{Key}
 use Rattle.inf_base.specs.declared.key.LookKey.TheVariants as look
 use Rattle.inf_base.specs.Identity.{server_of}

@@ -1,5 +1,5 @@
 -- What the Serve of a lookup of the root owes: the root's entry is told, and nothing is decided.
-use Rattle.std.proofs.Common.{◌≡◌, ℕ, List, [], ◌∷◌, Option, Some, None, refl, sym, ap, ◌∙◌}
+use Rattle.std.proofs.Common.{◌≡◌, ℕ, [], ◌∷◌, Option, Some, None, refl, ap, ◌∙◌}
 use Rattle.inf_base.specs.declared.key.Key.TheVariants as key
 use Rattle.inf_base.specs.declared.key.LookKey.TheVariants as look
 use Rattle.inf_message.specs.declared.op.Op.{Op}
@@ -16,7 +16,7 @@ use Rattle.inf_core.specs.Duty.{ask_of}
 use Rattle.inf_core.specs.Turn.{after_lookup, next_op}
 use Rattle.inf_core.specs.declared.stage.Stage.TheVariants as stage
 use Rattle.inf_core.proofs.RootState.{Files, root_number, root_site, serves_by, state_of}
-use Rattle.inf_core.proofs.ServeOwes.{Owes, decides, owes_nothing}
+use Rattle.inf_core.proofs.ServeOwes.{Owes, owes_nothing}
 use Rattle.inf_message.proofs.HistoryLaws.{itself}
 
 module _ (world : World) (files : Files) (s : Client) (ask_place place : ℕ) where

@@ -1,5 +1,5 @@
 -- What a Serve owes: the state that it leaves is that of files, and the calls that it decides replay on the tree of these.
-use Rattle.std.proofs.Common.{◌≡◌, ℕ, Bool, List, [], ◌∷◌, ◌++◌, Option, Some, refl, sym, ap, subst, ◌∙◌}
+use Rattle.std.proofs.Common.{◌≡◌, ℕ, Bool, List, [], ◌∷◌, Some, sym, ap, subst, ◌∙◌}
 use Rattle.inf_base.specs.declared.answer.Answer.{Answer}
 use Rattle.inf_base.specs.declared.call.Call.{Call}
 use Rattle.inf_base.specs.declared.entry.Entry.{Entry}
@@ -46,10 +46,11 @@ pub record Owes (world : World) (files : Files) (s : Client) (place : ℕ) (give
 -- a reply that decides nothing, and leaves the state
 pub owes_nothing : (world : World) (files : Files) (s : Client) (place : ℕ) (given : Reply) (after : State) → decides s place given ≡ [] → after ≡ state_of world files → IsRootTold world given → Owes world files s place given after
 owes_nothing world files s place given after none state told = record {
-  files_after = files; state = state;
+  files_after = files;
+  state = state;
   replays = subst (λ ds. Replays (tree_of_files files) ds) (sym none) tt;
   tree = ap (λ ds. replayed (tree_of_files files) ds) none;
-  told = told
+  told = told;
 }
 
 abbrev pub decided_now : Client → Call → Answer → Decided
@@ -62,8 +63,9 @@ pub owes_one : (world : World) (files : Files) (s : Client) (place : ℕ) (given
     tree_after answer (tree_of_files files) (apply (tree_of_files files) s.who.caller call) ≡ tree_of_files files_after →
     after ≡ state_of world files_after → IsRootTold world given → Owes world files s place given after
 owes_one world files s place given after call answer files_after one passes tree state told = record {
-  files_after = files_after; state = state;
+  files_after = files_after;
+  state = state;
   replays = subst (λ ds. Replays (tree_of_files files) ds) (sym one) (passes, tt);
   tree = ap (λ ds. replayed (tree_of_files files) ds) one ∙ tree;
-  told = told
+  told = told;
 }

@@ -1,10 +1,10 @@
 -- In every legal history the calls that the Serves decide replay on the tree, in the order of these Serves.
-use Rattle.std.proofs.Common.{◌≡◌, ℕ, suc, List, [], ◌∷◌, ◌++◌, length, Option, Some, refl, sym, ap, subst, ◌∙◌}
+use Rattle.std.proofs.Common.{◌≡◌, ℕ, suc, List, [], ◌∷◌, ◌++◌, length, refl, sym, ap, subst, ◌∙◌}
 use Rattle.inf_message.specs.declared.ask.Ask.{Ask}
 use Rattle.inf_message.specs.declared.event.Event.{Event}
 use Rattle.inf_message.specs.declared.event.Event.TheVariants as event
 use Rattle.inf_message.specs.declared.reply.Reply.{Reply}
-use Rattle.inf_message.specs.History.{Posted, Served, asked_at, serves_of, told_reply}
+use Rattle.inf_message.specs.History.{asked_at, told_reply}
 use Rattle.inf_server.specs.Machine.{Serves, state_after}
 use Rattle.inf_server.specs.State.{State}
 use Rattle.inf_tree.specs.Apply.{apply}
@@ -14,7 +14,6 @@ use Rattle.inf_core.specs.World.{World}
 use Rattle.inf_core.specs.Client.{Client}
 use Rattle.inf_core.specs.Decisions.{decided_at, decided_in}
 use Rattle.inf_core.specs.Legal.{Legal, MayAsk, MayServe, client_after, server_after}
-use Rattle.inf_core.proofs.ClientFacts.{IsSound, Waits}
 use Rattle.inf_core.proofs.ClientTurns.{decides_when}
 use Rattle.inf_core.proofs.Pending.{ArePending, AreSound, pending_ask, pending_nothing, pending_serve, sound_ask, sound_nothing, sound_serve}
 use Rattle.inf_core.proofs.RootState.{Files, opening_is, root_number, root_site, state_goes_on, state_of, tree_of_files}
@@ -46,15 +45,22 @@ pub record Kept (world : World) (h : List Event) : Type 0 where
 
 kept_nothing : (world : World) → Kept world []
 kept_nothing world = record {
-  sound = sound_nothing world; pending = pending_nothing world;
-  files = []; state = opening_is world; tree = refl; replays = tt
+  sound = sound_nothing world;
+  pending = pending_nothing world;
+  files = [];
+  state = opening_is world;
+  tree = refl;
+  replays = tt;
 }
 
 kept_ask : (world : World) (h : List Event) (number : ℕ) (ask : Ask) → Kept world h → MayAsk world h number ask → Kept world (event.Ask number ask ∷ h)
 kept_ask world h number ask kept may = record {
   sound = sound_ask world h number ask kept.sound may;
   pending = pending_ask world h number ask kept.sound may kept.pending;
-  files = kept.files; state = kept.state; tree = kept.tree; replays = kept.replays
+  files = kept.files;
+  state = kept.state;
+  tree = kept.tree;
+  replays = kept.replays;
 }
 
 -- a Serve by the root's server
@@ -95,20 +101,20 @@ module _ (world : World) (h : List Event) (ask_place : ℕ) (given : Reply) (kep
         files = owes.files_after;
         state = state_now ∙ owes.state;
         tree =
-          ap (replayed opening_tree) all_decided
-          ∙ replayed-append opening_tree before later
-          ∙ ap (λ (tree : Node). replayed tree later) kept.tree
-          ∙ owes.tree;
+            ap (replayed opening_tree) all_decided
+            ∙ replayed-append opening_tree before later
+            ∙ ap (λ (tree : Node). replayed tree later) kept.tree
+            ∙ owes.tree;
         replays =
-          subst (Replays opening_tree) (sym all_decided)
-          (Replays-append opening_tree before later kept.replays (subst (λ (tree : Node). Replays tree later) (sym kept.tree) owes.replays))
+            subst (Replays opening_tree) (sym all_decided)
+            (Replays-append opening_tree before later kept.replays (subst (λ (tree : Node). Replays tree later) (sym kept.tree) owes.replays));
       }
 
 kept_serve : (world : World) (h : List Event) (number ask_place : ℕ) (given : Reply) → Kept world h → MayServe world h number ask_place given → Kept world (event.Serve number ask_place given ∷ h)
 kept_serve world h number ask_place given kept may =
     let to_root : number ≡ root_number world =
-      sym may.to ∙ waits_for_root world (client_after world may.posted.ask.from.client h) ask_place may.posted.number may.posted.ask
-      (kept.sound may.posted.ask.from.client) (kept.pending ask_place may.posted may.made may.waits) in
+    sym may.to ∙ waits_for_root world (client_after world may.posted.ask.from.client h) ask_place may.posted.number may.posted.ask
+    (kept.sound may.posted.ask.from.client) (kept.pending ask_place may.posted may.made may.waits) in
     subst (λ n. Kept world (event.Serve n ask_place given ∷ h)) (sym to_root)
     (kept_own world h ask_place given kept (subst (λ n. MayServe world h n ask_place given) to_root may))
 

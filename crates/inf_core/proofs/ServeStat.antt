@@ -1,5 +1,5 @@
 -- What the Serve of a stat of one name in the root owes.
-use Rattle.std.proofs.Common.{◌≡◌, ℕ, Bool, true, false, List, [], ◌∷◌, Option, Some, None, Ok, refl, sym, ap, ◌∙◌}
+use Rattle.std.proofs.Common.{◌≡◌, ℕ, Bool, true, false, List, [], ◌∷◌, Option, Some, None, Ok, refl, ap, ◌∙◌}
 use Rattle.std.specs.BTreeMap.{is_at}
 use Rattle.std.specs.Cmp.Lexicographic.{slice_cmp}
 use Rattle.std.specs.Map.{lookup}
@@ -53,27 +53,27 @@ module _ (world : World) (files : Files) (s : Client) (ask_place place : ℕ) (k
   no_search : path_of path ≡ Ok (name ∷ []) → root_lets s.who.caller want.Search ≡ false → Agree (reply.Refused errno.EACCES) (answer.Refused errno.EACCES)
   no_search names searches = record {
     server = rw (itself (root_number world), bytes_same, searches) refl;
-    tree = rw (names, searches) refl
+    tree = rw (names, searches) refl;
   }
 
   missing : path_of path ≡ Ok (name ∷ []) → root_lets s.who.caller want.Search ≡ true → standing ≡ None → Agree (reply.Refused errno.ENOENT) (answer.Refused errno.ENOENT)
   missing names searches stands = record {
     server =
-      let slot = lookup-slots_of name files ∙ ap (option_map slot_of_file) stands in
-      rw (itself (root_number world), bytes_same, searches, slot) refl;
+        let slot = lookup-slots_of name files ∙ ap (option_map slot_of_file) stands in
+        rw (itself (root_number world), bytes_same, searches, slot) refl;
     tree =
-      let node = found-entries_of name files ∙ ap (option_map file) stands in
-      rw (names, searches, node) refl
+        let node = found-entries_of name files ∙ ap (option_map file) stands in
+        rw (names, searches, node) refl;
   }
 
   seen : (meta : FileMeta) → path_of path ≡ Ok (name ∷ []) → root_lets s.who.caller want.Search ≡ true → standing ≡ Some meta → Agree (reply.Stat kind.File meta) (answer.Stat kind.File meta)
   seen meta names searches stands = record {
     server =
-      let slot = lookup-slots_of name files ∙ ap (option_map slot_of_file) stands in
-      rw (itself (root_number world), bytes_same, searches, slot) refl;
+        let slot = lookup-slots_of name files ∙ ap (option_map slot_of_file) stands in
+        rw (itself (root_number world), bytes_same, searches, slot) refl;
     tree =
-      let node = found-entries_of name files ∙ ap (option_map file) stands in
-      rw (names, searches, node) refl
+        let node = found-entries_of name files ∙ ap (option_map file) stands in
+        rw (names, searches, node) refl;
   }
 
   -- ---- what the reply decides
