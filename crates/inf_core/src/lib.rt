@@ -2,9 +2,9 @@
 #![tactic(auto)]
 
 mod examples;
-mod order;
+mod laws;
 mod stage;
 
 pub use examples::{next_asks, outcomes, replies, wanting};
-pub use order::outcomes_are_decided;
+pub use laws::{every_legal_history_replays, outcomes_are_decided, serves_replay};
 pub use stage::{LookKeys, Stage};
