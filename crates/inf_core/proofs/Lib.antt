@@ -1,0 +1,13 @@
+pub mod Ordered
+pub mod Placed
+pub mod ResultFacts
+pub mod ClientFacts
+pub mod ClientTurns
+pub mod Pending
+pub mod RootState
+pub mod ServeCreate
+pub mod ServeFacts
+pub mod ServeLookup
+pub mod ServeOwes
+pub mod ServeReplays
+pub mod ServeStat

@@ -1,0 +1,115 @@
+-- Changes in flight: what of a call stands at a server, and how it touches another call.
+use Rattle.std.specs.Prelude.{◌≡◌, ℕ, ◌≤◌, Bool, true, false, not, ◌&&◌, ◌||◌, List, [], ◌∷◌, Option, Some, None}
+use Rattle.std.specs.List.{list_any}
+use Rattle.inf_base.specs.declared.caller.CallRef.{CallRef}
+use Rattle.inf_base.specs.declared.directory.DirRef.{DirRef}
+use Rattle.inf_base.specs.declared.entry.Entry.{Entry}
+use Rattle.inf_base.specs.declared.key.LookKey.TheVariants as look
+use Rattle.inf_base.specs.Changes.{AdmittedChange}
+use Rattle.inf_base.specs.Content.{Content, Hold, Slot, TopAccess, reserved, file, directory}
+use Rattle.inf_base.specs.Marks.{Mark}
+use Rattle.inf_core.specs.Legal.{server_after}
+use Rattle.inf_core.specs.World.{World}
+use Rattle.inf_message.specs.declared.event.Event.{Event}
+use Rattle.inf_message.specs.declared.event.Event.TheVariants as event
+use Rattle.inf_message.specs.declared.op.Op.{Op}
+use Rattle.inf_message.specs.declared.op.Op.TheVariants as op
+use Rattle.inf_message.specs.declared.reply.Reply.TheVariants as reply
+use Rattle.inf_message.specs.declared.reply.Spot.{Spot}
+use Rattle.inf_message.specs.declared.reply.Spot.TheVariants as spot
+use Rattle.inf_message.specs.declared.request.Request.{Request}
+use Rattle.inf_message.specs.declared.request.Request.TheVariants as request
+use Rattle.inf_message.specs.History.{Posted, asked_at}
+use Rattle.inf_server.specs.Checks.{dir_of, is_same_call, last_of}
+use Rattle.inf_server.specs.Slots.{slot_of}
+use Rattle.inf_server.specs.State.{State, content_of, is_same_dir}
+
+abbrev pub holds : CallRef → Option Hold → Bool
+holds by None = false
+holds by (Some hold) = is_same_call hold.by by
+
+abbrev pub is_of : CallRef → Option CallRef → Bool
+is_of by None = false
+is_of by (Some other) = is_same_call other by
+
+-- held or reserved by the call
+abbrev pub is_taken : CallRef → Slot → Bool
+is_taken by (reserved other access) = is_same_call other by
+is_taken by (file meta held) = holds by held
+is_taken by (directory access held) = holds by held
+
+abbrev pub is_taken_at_top : CallRef → Option TopAccess → Bool
+is_taken_at_top by None = false
+is_taken_at_top by (Some top) = holds by top.held
+
+-- ---- what stands of a call
+
+abbrev pub links : DirRef → Request → Bool
+links dir (request.Link chain name linked mode) = is_same_dir dir linked
+links dir other_request = false
+
+abbrev pub links_by : DirRef → Option Posted → Bool
+links_by dir None = false
+links_by dir (Some posted) = links dir posted.ask.request
+
+-- whether the directory was linked to a name
+abbrev pub was_linked : DirRef → List Event → Bool
+was_linked dir [] = false
+was_linked dir (event.Serve number ask_place reply.Fine ∷ h) = links_by dir (asked_at ask_place h) || was_linked dir h
+was_linked dir (other_event ∷ h) = was_linked dir h
+
+-- the call made the directory, and it has no name yet
+abbrev pub is_unlinked : CallRef → List Event → Content → Bool
+is_unlinked by h content = is_same_call content.maker by && not (was_linked content.dir h)
+
+abbrev pub changes_in : CallRef → List Event → Content → Bool
+changes_in by h content = is_of by content.seal || list_any (λ e. is_taken by e.1) content.slots || is_unlinked by h content
+
+-- a hold, a reservation, a seal, an unlinked directory, a pending mark or an admitted change of the call
+abbrev pub stands : CallRef → List Event → State → Bool
+stands by h state =
+    is_taken_at_top by state.top
+    || list_any (changes_in by h) state.contents
+    || list_any (λ (m : Mark). not m.is_finished && is_same_call m.by by) state.marks
+    || list_any (λ (a : AdmittedChange). is_same_call a.by by) state.changes
+
+-- a change of the call is in flight at a server, or at the coordinator, whose number is that of the servers
+pub record InFlight (world : World) (h : List Event) (by : CallRef) : Type 0 where
+  pub server : ℕ
+  pub known : server ≤ world.setup.servers
+  pub change : stands by h (server_after world server h) ≡ true
+
+-- ---- how a change touches another call, by the spot that a Busy reply names
+
+abbrev pub is_sealed_by : CallRef → Option Content → Bool
+is_sealed_by by None = false
+is_sealed_by by (Some content) = is_of by content.seal
+
+abbrev pub slot_taken : CallRef → Option Slot → Bool
+slot_taken by None = false
+slot_taken by (Some slot) = is_taken by slot
+
+abbrev pub name_taken : CallRef → List ℕ → Option Content → Bool
+name_taken by name None = false
+name_taken by name (Some content) = slot_taken by (slot_of name content)
+
+abbrev pub asked_content : State → Option Entry → Option Content
+asked_content state None = None
+asked_content state (Some entry) = content_of (dir_of entry) state.contents
+
+-- the name that the deciding message asks for, of the kinds that are built
+abbrev pub asked_name : Op → Option (List ℕ)
+asked_name (op.Create name mode) = Some name
+asked_name (op.Stat name) = Some name
+asked_name other_op = None
+
+abbrev pub op_name_taken : CallRef → Option (List ℕ) → Option Content → Bool
+op_name_taken by None content = false
+op_name_taken by (Some name) content = name_taken by name content
+
+-- a hold or reservation on the name asked, the hold on the root's access object, or the seal of the directory asked
+abbrev pub touches : CallRef → Spot → Request → State → Bool
+touches by spot.Slot (request.Lookup look.Top) state = is_taken_at_top by state.top
+touches by spot.Slot (request.Finish chain asked) state = op_name_taken by (asked_name asked) (asked_content state (last_of chain))
+touches by spot.Sealed (request.Finish chain asked) state = is_sealed_by by (asked_content state (last_of chain))
+touches by other_spot other_request state = false

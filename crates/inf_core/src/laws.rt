@@ -1,0 +1,31 @@
+//! Laws of legal histories, each a function that only states it.
+
+ghost use Rattle.std.specs.Prelude.{◌≡◌, List};
+ghost use Rattle.inf_core.specs.Decisions.{decided_in};
+ghost use Rattle.inf_core.specs.Legal.{Legal};
+ghost use Rattle.inf_core.specs.Outcome.{Outcome, decisions};
+ghost use Rattle.inf_core.specs.World.{World};
+ghost use Rattle.inf_message.specs.declared.call_result.CallResult.{CallResult};
+ghost use Rattle.inf_message.specs.declared.event.Event.{Event};
+ghost use Rattle.inf_tree.specs.Replay.{Replays};
+ghost use Rattle.inf_tree.specs.Tree.{opening_tree};
+
+/// For every setup, every legal history of it and all results that agree with it: the calls that have a place, taken in
+/// the order of their places, are answered as one plain tree answers calls that are made one after another. Only an
+/// answer that a call was given up differs, and it changes nothing.
+pub fn every_legal_history_replays()
+    ensures { (world : World) (h : List Event) (results : List CallResult) → Legal world h → Outcome world h results
+        → Replays opening_tree (decisions world h results) }
+{}
+
+/// The calls that the Serves of a legal history decide, taken in the order of these Serves, are answered as the plain
+/// tree answers calls that are made one after another.
+pub fn serves_replay()
+    ensures { (world : World) (h : List Event) → Legal world h → Replays opening_tree (decided_in world h) }
+{}
+
+/// The results of a history, in the order of their places, are what its Serves decide, one after another.
+pub fn outcomes_are_decided()
+    ensures { (world : World) (h : List Event) (results : List CallResult) → Outcome world h results
+        → decisions world h results ≡ decided_in world h }
+{}
