@@ -1,6 +1,6 @@
 -- What the checks and replies come to at a server that keeps the root's files alone, one equation for each thing that
 -- the code read.
-use Rattle.std.proofs.Common.{◌≡◌, ℕ, ◌==◌, Bool, true, false, ◌&&◌, cond, if◌then◌else◌, List, [], ◌∷◌, Option, Some, None, is_some, Result, Ok, Err, MatchOption, IfOk, IfErr, refl, sym, ◌∙◌, ap, ap₂, subst}
+use Rattle.std.proofs.Common.{◌≡◌, ℕ, ◌==◌, Bool, true, false, ◌&&◌, cond, if◌then◌else◌, List, [], ◌∷◌, Option, Some, None, is_some, Result, Ok, Err, MatchOption, refl, ◌∙◌, ap, ap₂, subst}
 use Rattle.std.proofs.lemmas.Bool.Decides.{Decides-eqb}
 use Rattle.std.proofs.lemmas.Slice.Eq.{bytes_eq-Decides}
 use Rattle.std.specs.BTreeMap.{insert_entry, is_at}
@@ -26,8 +26,8 @@ use Rattle.inf_server.specs.Checks.{Asked, asked_of, dir_of, last_of, searched, 
 use Rattle.inf_server.specs.Files.{create, stat}
 use Rattle.inf_server.specs.Response.{done}
 use Rattle.inf_server.specs.RootFiles.{asked_entry, content_with, is_root, slots_of, state_with}
-use Rattle.inf_server.specs.Slots.{slot_of, slot_for}
-use Rattle.inf_server.specs.State.{Site, State, content_of, is_here, is_same_dir, nobody, with_content}
+use Rattle.inf_server.specs.Slots.{slot_of}
+use Rattle.inf_server.specs.State.{Site, content_of, is_here, is_same_dir, nobody}
 
 -- ---- slots
 

@@ -1,5 +1,5 @@
 -- The chains of a request.
-use Rattle.std.specs.Prelude.{ℕ, ◌+◌, ◌≤◌, List, [], ◌∷◌, length, All}
+use Rattle.std.specs.Prelude.{◌+◌, ◌≤◌, List, [], ◌∷◌, length, All}
 use Rattle.inf_base.specs.declared.entry.Entry.{Entry}
 use Rattle.inf_base.specs.declared.limits.TheConstants.{MOST_PATH_NAMES}
 use Rattle.inf_message.specs.declared.request.Request.{Request}

@@ -1,5 +1,5 @@
 -- The checks that come before anything is looked up: the directory asked, and the permissions along the chain.
-use Rattle.std.specs.Prelude.{ℕ, ◌-◌, Bool, ◌==◌, ◌&&◌, List, length, slice_get, Option, Some, None, Result, Ok, Err}
+use Rattle.std.specs.Prelude.{◌-◌, Bool, ◌==◌, ◌&&◌, List, length, slice_get, Option, Some, None, Result, Ok}
 use Rattle.std.specs.List.{list_all}
 use Rattle.std.specs.Option.{ok_or}
 use Rattle.inf_base.specs.declared.caller.CallRef.{CallRef}

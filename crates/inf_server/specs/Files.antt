@@ -1,13 +1,12 @@
 -- What the one message of a call does with a file: the checks in their order, one line each.
-use Rattle.std.specs.Prelude.{ℕ, List, Option, Some, None, is_none, Result, Ok, Err}
+use Rattle.std.specs.Prelude.{ℕ, List, None, is_none, Result, Ok}
 use Rattle.std.specs.Option.{ok_or}
 use Rattle.inf_base.specs.declared.caller.Caller.{Caller}
 use Rattle.inf_base.specs.declared.entry.Entry.{Entry}
 use Rattle.inf_base.specs.declared.errno.Errno.TheVariants as errno
-use Rattle.inf_base.specs.declared.file.FileMeta.{FileMeta}
 use Rattle.inf_base.specs.declared.item.Kind.TheVariants as kind
 use Rattle.inf_base.specs.Checks.{◌>>=◌, ◌>>◌, check}
-use Rattle.inf_base.specs.Content.{Content, Slot, reserved, file, directory}
+use Rattle.inf_base.specs.Content.{Slot, reserved, file, directory}
 use Rattle.inf_message.specs.declared.ask.Ask.{Ask}
 use Rattle.inf_message.specs.declared.reply.Reply.{Reply}
 use Rattle.inf_message.specs.declared.reply.Reply.TheVariants as reply

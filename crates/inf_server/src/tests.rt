@@ -3,6 +3,7 @@
 ghost use Rattle.std.specs.Prelude.{◌≤◌, length, IfOk};
 
 use super::*;
+use crate::refusal::Refusal::{self, Denied, Gone, Other};
 use inf_base::{
     Access, CallRef, Caller, Chain, Clients, Entry, Errno, FileMeta, Id, Key, Kind, LookKey, Name,
     NoMemory, Setup, Triple,
@@ -153,53 +154,42 @@ fn lookups(rt: HostRuntime) -> Result<(), Fail> {
 #[test]
 fn creates(rt: HostRuntime) -> Result<(), Fail> {
     let mut server = server(rt.alloc(), 0, 2)?;
-    for (id, told, name, reply) in [
-        (0, Some((ROOT, 0, 0o755)), b"a", Reply::Fine),
-        (7, Some((ROOT, 0, 0o777)), b"b", Reply::Fine),
-        (
-            0,
-            Some((ROOT, 0, 0o755)),
-            b"a",
-            Reply::Refused(Errno::EEXIST),
-        ),
-        (
-            7,
-            Some((ROOT, 0, 0o755)),
-            b"a",
-            Reply::Refused(Errno::EACCES),
-        ),
-        (
-            7,
-            Some((ROOT, 0, 0o772)),
-            b"c",
-            Reply::Refused(Errno::EACCES),
-        ),
-        (0, Some((ROOT, 5, 0o755)), b"c", Reply::Gone),
-        (0, Some((ODD, 5, 0o755)), b"c", Reply::Other),
-        (0, None, b"c", Reply::Other),
-    ] {
-        assert_eq!(rt; create(rt.alloc(), &mut server, id, told, name)?, reply);
+    // who, the directory, the name, and why it is refused
+    let rows: [(u16, Told, &[u8; 1], Option<Refusal>); 8] = [
+        (0, Some((ROOT, 0, 0o755)), b"a", None),
+        (7, Some((ROOT, 0, 0o777)), b"b", None),
+        (0, Some((ROOT, 0, 0o755)), b"a", Some(Denied(Errno::EEXIST))),
+        (7, Some((ROOT, 0, 0o755)), b"a", Some(Denied(Errno::EACCES))),
+        (7, Some((ROOT, 0, 0o772)), b"c", Some(Denied(Errno::EACCES))),
+        (0, Some((ROOT, 5, 0o755)), b"c", Some(Gone)),
+        (0, Some((ODD, 5, 0o755)), b"c", Some(Other)),
+        (0, None, b"c", Some(Other)),
+    ];
+    for (id, told, name, refusal) in rows {
+        let reply = create(rt.alloc(), &mut server, id, told, name)?;
+        assert_eq!(rt; reply, refusal.map_or(Reply::Fine, reply_to));
     }
-    for (id, told, name, reply) in [
-        (8, Some((ROOT, 0, 0o755)), b"a", file_of(0)),
-        (8, Some((ROOT, 0, 0o755)), b"b", file_of(7)),
-        (
-            8,
-            Some((ROOT, 0, 0o755)),
-            b"c",
-            Reply::Refused(Errno::ENOENT),
-        ),
-        (
-            8,
-            Some((ROOT, 0, 0o776)),
-            b"a",
-            Reply::Refused(Errno::EACCES),
-        ),
-        (8, Some((ROOT, 5, 0o755)), b"a", Reply::Gone),
-        (8, Some((ODD, 5, 0o755)), b"a", Reply::Other),
-        (8, None, b"a", Reply::Other),
-    ] {
-        assert_eq!(rt; stat(rt.alloc(), &mut server, id, told, name)?, reply);
+    // who, the directory, the name, and whose file it is or why it is refused
+    let rows: [(u16, Told, &[u8; 1], Result<u16, Refusal>); 7] = [
+        (8, Some((ROOT, 0, 0o755)), b"a", Ok(0)),
+        (8, Some((ROOT, 0, 0o755)), b"b", Ok(7)),
+        (8, Some((ROOT, 0, 0o755)), b"c", Err(Denied(Errno::ENOENT))),
+        (8, Some((ROOT, 0, 0o776)), b"a", Err(Denied(Errno::EACCES))),
+        (8, Some((ROOT, 5, 0o755)), b"a", Err(Gone)),
+        (8, Some((ODD, 5, 0o755)), b"a", Err(Other)),
+        (8, None, b"a", Err(Other)),
+    ];
+    for (id, told, name, owner) in rows {
+        let reply = stat(rt.alloc(), &mut server, id, told, name)?;
+        assert_eq!(rt; reply, owner.map_or_else(reply_to, file_of));
     }
     Ok(())
+}
+
+fn reply_to(refusal: Refusal) -> Reply {
+    match refusal {
+        Other => Reply::Other,
+        Gone => Reply::Gone,
+        Denied(error) => Reply::Refused(error),
+    }
 }
