@@ -1,7 +1,12 @@
+pub mod Chains
 pub mod Checks
+pub mod Examples
 pub mod Files
 pub mod Lookups
 pub mod Machine
+pub mod Refusal
 pub mod Response
+pub mod RootFiles
+pub mod Server
 pub mod Slots
 pub mod State
