@@ -1,0 +1,10 @@
+pub mod World
+pub mod Client
+pub mod Group
+pub mod Turn
+pub mod Duty
+pub mod Legal
+pub mod Outcome
+pub mod Flight
+pub mod Decisions
+pub mod Examples
