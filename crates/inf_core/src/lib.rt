@@ -2,7 +2,9 @@
 #![tactic(auto)]
 
 mod examples;
+mod order;
 mod stage;
 
 pub use examples::{next_asks, outcomes, replies, wanting};
+pub use order::outcomes_are_decided;
 pub use stage::{LookKeys, Stage};
