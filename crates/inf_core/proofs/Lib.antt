@@ -1,3 +1,5 @@
+pub mod CoreFacts
 pub mod Ordered
 pub mod Placed
+pub mod Posted
 pub mod ResultFacts

@@ -4,6 +4,7 @@ pub mod Group
 pub mod Turn
 pub mod Duty
 pub mod Legal
+pub mod Core
 pub mod Outcome
 pub mod Flight
 pub mod Decisions

@@ -2,9 +2,11 @@
 #![tactic(auto)]
 
 mod examples;
+mod history;
 mod order;
 mod stage;
 
 pub use examples::{next_asks, outcomes, replies, wanting};
+pub use history::Core;
 pub use order::outcomes_are_decided;
 pub use stage::{LookKeys, Stage};

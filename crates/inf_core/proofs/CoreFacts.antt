@@ -1,0 +1,217 @@
+-- What the core keeps, as events join.
+use Rattle.std.proofs.Common.{Bor, ◌≡◌, ◌≢◌, ℕ, zero, suc, ◌+◌, ◌-◌, ◌<◌, ◌≤◌, ◌||◌, Bool, true, false, cond, eqb, List, [], ◌∷◌, ◌++◌, length, map, reverse, slice_get, slice_set, get_or, is_none, Option, None, Some, IsSome, Result, Ok, Err, refl, sym, ap, subst, ◌∙◌, arith, length-append}
+use Rattle.std.proofs.lemmas.Bool.Decides.{Decides-eqb, nat_tests}
+use Rattle.std.proofs.lemmas.List.{length-reverse, length-set, reverse-append, reverse-reverse}
+use Rattle.std.proofs.lemmas.Option.{get_or_from_slice_get, slice_get_within}
+use Rattle.inf_base.specs.declared.entry.Entry.{Entry}
+use Rattle.inf_base.specs.declared.id.Id.{Id}
+use Rattle.inf_base.specs.declared.key.LookKey.TheVariants as look
+use Rattle.inf_base.specs.Checks.{◌>>=◌, ◌>>◌, check}
+use Rattle.inf_core.specs.Core.{AreFlags, AreStanding, IsKept, IsServedBy, standing}
+use Rattle.inf_core.specs.Legal.{Legal, MayAsk, MayServe, server_after}
+use Rattle.inf_core.specs.World.{World, site_of}
+use Rattle.inf_message.specs.declared.ask.Ask.{Ask}
+use Rattle.inf_message.specs.declared.event.Event.{Event}
+use Rattle.inf_message.specs.declared.event.Event.TheVariants as event
+use Rattle.inf_message.specs.declared.op.Op.{Op}
+use Rattle.inf_message.specs.declared.op.Op.TheVariants as op
+use Rattle.inf_message.specs.declared.reply.Reply.{Reply}
+use Rattle.inf_message.specs.declared.reply.Reply.TheVariants as reply
+use Rattle.inf_message.specs.declared.request.Request.{Request}
+use Rattle.inf_message.specs.declared.request.Request.TheVariants as request
+use Rattle.inf_message.specs.History.{Posted, Served, asked_at, event_at, is_served, served_ask, serves_of}
+use Rattle.inf_message.proofs.HistoryLaws.{IsPlaceOf, asked_is_event, asked_within, itself, other, serves_apart, serves_own}
+use Rattle.inf_message.proofs.OldestFirst.{event_is_indexed}
+use Rattle.inf_server.specs.Machine.{Serves, after_reply, machine, on_op, on_request, state_after}
+use Rattle.inf_server.specs.Response.{Response, response}
+use Rattle.inf_server.specs.Server.{IsSameServer, Standing}
+use Rattle.inf_server.specs.Server.{site_of as digest_site}
+use Rattle.inf_server.specs.Checks.{asked_of, searched, writable}
+use Rattle.inf_server.specs.Files.{create, stat}
+use Rattle.inf_server.specs.Lookups.{lookup_top, unheld}
+use Rattle.inf_server.specs.Slots.{slot_for}
+use Rattle.inf_server.specs.State.{Site, State, is_here, root_id}
+use Rattle.std.specs.Option.{ok_or, option_map}
+use Rattle.std.specs.Slice.{IsItemAt}
+
+-- ---- lists by index
+
+pub got_pushed : {X : Type 0} (xs : List X) (y : X) → slice_get (xs ++ y ∷ []) (length xs) ≡ Some y
+got_pushed [] y = refl
+got_pushed (x ∷ xs) y = got_pushed xs y
+
+pub got_before : {X : Type 0} (xs : List X) (y : X) (i : ℕ) → i < length xs → slice_get (xs ++ y ∷ []) i ≡ slice_get xs i
+got_before [] y i within = absurd (omega arith)
+got_before (x ∷ xs) y zero within = refl
+got_before (x ∷ xs) y (suc i) within = got_before xs y i (omega arith)
+
+pub got_set : {X : Type 0} (xs : List X) (i : ℕ) (y : X) → i < length xs → slice_get (slice_set xs i y) i ≡ Some y
+got_set [] i y within = absurd (omega arith)
+got_set (x ∷ xs) zero y within = refl
+got_set (x ∷ xs) (suc i) y within = got_set xs i y (omega arith)
+
+pub got_apart : {X : Type 0} (xs : List X) (i k : ℕ) (y : X) → k ≢ i → slice_get (slice_set xs i y) k ≡ slice_get xs k
+got_apart [] i k y apart = refl
+got_apart (x ∷ xs) zero zero y apart = absurd (apart refl)
+got_apart (x ∷ xs) zero (suc k) y apart = refl
+got_apart (x ∷ xs) (suc i) zero y apart = refl
+got_apart (x ∷ xs) (suc i) (suc k) y apart = got_apart xs i k y (λ e. apart (ap suc e))
+
+
+-- ---- events by index
+
+-- the Ask at a place is the event of the index before it
+pub record IsIndexed (events : List Event) (place : ℕ) (posted : Posted) : Type 0 where
+  pub counted : 1 ≤ place
+  pub within : place - 1 < length events
+  pub event : slice_get events (place - 1) ≡ Some (event.Ask posted.number posted.ask)
+
+pub ask_indexed : (events : List Event) (place : ℕ) (posted : Posted) → asked_at place (reverse events) ≡ Some posted → IsIndexed events place posted
+ask_indexed events place posted found =
+    let at = asked_within place posted (reverse events) found in
+    let one : suc (place - 1) ≡ place = omega (arith, at.counted) in
+    let is : slice_get events (place - 1) ≡ Some (event.Ask posted.number posted.ask) =
+        ap (λ (xs : List Event). slice_get xs (place - 1)) (sym (reverse-reverse events))
+        ∙ sym (event_is_indexed (place - 1) (reverse events))
+        ∙ ap (λ p. event_at p (reverse events)) one
+        ∙ asked_is_event place posted (reverse events) found in
+    record { counted = at.counted; within = slice_get_within events (place - 1) _ is; event = is }
+
+-- what lies at an index where something is known to lie
+pub item_is : {X : Type 0} (xs : List X) (i : ℕ) (got : Option (Bor X)) (x : X) → IsItemAt xs i got → slice_get xs i ≡ Some x → option_map (λ (b : Bor X). b.now) got ≡ Some x
+item_is xs i None x is at = absurd (let some = is.2 (slice_get_within xs i x at) in cc)
+item_is xs i (Some b) x is at = ap Some (is.1 ∙ get_or_from_slice_get xs i x b.now at)
+
+pub asked_there : (o : Option Posted) → IsSome o → (posted : Posted) × (o ≡ Some posted)
+asked_there (Some posted) is = (posted, refl)
+asked_there None is = absurd (cc)
+
+-- ---- flags
+
+-- no Serve names a place that is still to come
+none_served : (world : World) (place : ℕ) (h : List Event) → Legal world h → length h < place → is_served place h ≡ false
+none_served world place [] legal past = refl
+none_served world place (event.Ask number ask ∷ h) legal past = none_served world place h legal.0 (omega arith)
+none_served world place (event.Serve number ask_place given ∷ h) legal past =
+    let at = asked_within ask_place legal.1.posted h legal.1.made in
+    let apart : ask_place ≢ place = λ same. omega (arith, at.within) in
+    rw (other ask_place place apart) (none_served world place h legal.0 (omega arith))
+
+-- with a flag for one event more, which no Serve names yet
+got_flag : (world : World) (h : List Event) (served : List Bool) → Legal world h → AreFlags h served → (index : ℕ) → index < suc (length h) → slice_get (served ++ false ∷ []) index ≡ Some (is_served (suc index) h)
+got_flag world h served legal are index within = by (eqb index (length h)) refl
+  where
+    by : (b : Bool) → eqb index (length h) ≡ b → slice_get (served ++ false ∷ []) index ≡ Some (is_served (suc index) h)
+    by true here =
+        let newest : index ≡ length h = (Decides-eqb index (length h)).0 here in
+        ap (slice_get (served ++ false ∷ [])) (newest ∙ sym are.count)
+        ∙ got_pushed served false
+        ∙ ap Some (sym (none_served world (suc index) h legal (omega arith)))
+    by false apart =
+        let before : index < length h = grind (arith, nat_tests) in
+        got_before served false index (omega (arith, are.count)) ∙ are.each index before
+
+flag_count : (h : List Event) (served : List Bool) → AreFlags h served → length (served ++ false ∷ []) ≡ suc (length h)
+flag_count h served are = omega (arith, length-append served (false ∷ []), are.count)
+
+asked_flags : (world : World) (h : List Event) (number : ℕ) (ask : Ask) (served : List Bool) → Legal world h → AreFlags h served → AreFlags (event.Ask number ask ∷ h) (served ++ false ∷ [])
+asked_flags world h number ask served legal are =
+    record { count = flag_count h served are; each = got_flag world h served legal are }
+
+-- the flag of the Ask that is served is set
+served_flags : (world : World) (h : List Event) (number ask_place : ℕ) (given : Reply) (served : List Bool) → Legal world h → IsPlaceOf ask_place h → AreFlags h served → AreFlags (event.Serve number ask_place given ∷ h) (slice_set (served ++ false ∷ []) (ask_place - 1) true)
+served_flags world h number ask_place given served legal at are = record {
+  count = length-set (served ++ false ∷ []) (ask_place - 1) true ∙ flag_count h served are;
+  each = each
+}
+  where
+    one : suc (ask_place - 1) ≡ ask_place
+    one = omega (arith, at.counted)
+
+    each : (index : ℕ) → index < suc (length h) → slice_get (slice_set (served ++ false ∷ []) (ask_place - 1) true) index ≡ Some (is_served (suc index) (event.Serve number ask_place given ∷ h))
+    each index within = by (eqb ask_place (suc index)) refl
+      where
+        by : (b : Bool) → eqb ask_place (suc index) ≡ b → slice_get (slice_set (served ++ false ∷ []) (ask_place - 1) true) index ≡ Some (b || is_served (suc index) h)
+        by true here =
+            let same : index ≡ ask_place - 1 = omega (arith, (Decides-eqb ask_place (suc index)).0 here) in
+            ap (slice_get (slice_set (served ++ false ∷ []) (ask_place - 1) true)) same
+            ∙ got_set (served ++ false ∷ []) (ask_place - 1) true (omega (arith, flag_count h served are, at.within, at.counted))
+        by false apart =
+            let unlike : index ≢ ask_place - 1 = λ same. absurd (grind (arith, nat_tests, one)) in
+            got_apart (served ++ false ∷ []) (ask_place - 1) index true unlike ∙ got_flag world h served legal are index within
+
+-- ---- servers
+
+module _ {R : Type 0} (world : World) (rule : R) (h : List Event) where
+  pub standing_asked : (number : ℕ) (ask : Ask) (servers : List (Standing R)) → AreStanding world rule h servers → AreStanding world rule (event.Ask number ask ∷ h) servers
+  standing_asked number ask servers are = record { count = are.count; each = are.each }
+
+pub served_at : {R : Type 0} (digest_of : R → List ℕ → Id) (servers : List (Standing R)) (number ask_place : ℕ) (ask : Ask) (given : Reply) (any server after : Standing R) → slice_get servers number ≡ Some server → server.number ≡ number → Serves (digest_site digest_of (get_or servers number any)) (get_or servers number any).state ask_place ask given after.state → IsSameServer (get_or servers number any) after → IsServedBy digest_of servers (slice_set servers number after) server ask_place ask given
+served_at {R} digest_of servers number ask_place ask given any server after found same serves kept =
+    let is : get_or servers number any ≡ server = get_or_from_slice_get servers number server any found in
+    record {
+      after = after;
+      put = ap (λ n. slice_set servers n after) (sym same);
+      serves = subst (λ (s : Standing R). Serves (digest_site digest_of s) s.state ask_place ask given after.state) is serves;
+      same = subst (λ (s : Standing R). IsSameServer s after) is kept;
+    }
+
+-- ---- replies that change nothing
+
+abbrev Leaves : State → Result Response Reply → Type 0
+Leaves old done = (response old done).reply ≢ reply.Fine → (response old done).state ≡ old
+
+next_leaves : {A : Type 0} (old : State) (first : Result A Reply) (next : A → Result Response Reply) → ((x : A) → Leaves old (next x)) → Leaves old (first >>= next)
+next_leaves old (Ok x) next leaves = leaves x
+next_leaves old (Err refusal) next leaves = λ apart. refl
+
+then_leaves : {A : Type 0} (old : State) (first : Result A Reply) (next : Result Response Reply) → Leaves old next → Leaves old (first >> next)
+then_leaves old (Ok x) next leaves = leaves
+then_leaves old (Err refusal) next leaves = λ apart. refl
+
+create_leaves : (site : Site) (old : State) (ask : Ask) (chain : List Entry) (name : List ℕ) (mode : ℕ) → Leaves old (create site old ask chain name mode)
+create_leaves site old ask chain name mode =
+    next_leaves old (asked_of site old ask.from chain) _ (λ asked.
+    then_leaves old (searched ask.caller chain) _
+    (then_leaves old (writable ask.caller asked.entry) _
+    (next_leaves old (slot_for ask.from asked.content name) _ (λ slot.
+    then_leaves old (check (is_none slot) _) _ (λ apart. absurd (apart refl))))))
+
+stat_leaves : (site : Site) (old : State) (ask : Ask) (chain : List Entry) (name : List ℕ) → Leaves old (stat site old ask chain name)
+stat_leaves site old ask chain name =
+    next_leaves old (asked_of site old ask.from chain) _ (λ asked.
+    then_leaves old (searched ask.caller chain) _
+    (next_leaves old (slot_for ask.from asked.content name) _ (λ found.
+    next_leaves old (ok_or found _) _ (λ slot apart. refl))))
+
+lookup_leaves : (site : Site) (old : State) → Leaves old (lookup_top site old)
+lookup_leaves site old =
+    then_leaves old (check (is_here site (root_id site)) _) _
+    (next_leaves old (ok_or old.top _) _ (λ top.
+    then_leaves old (unheld 0 top.held) _ (λ apart. refl)))
+
+op_leaves : (site : Site) (old : State) (ask : Ask) (chain : List Entry) (asked : Op) → Leaves old (on_op site old ask chain asked)
+op_leaves site old ask chain (op.Create name mode) = create_leaves site old ask chain name mode
+op_leaves site old ask chain (op.Stat name) = stat_leaves site old ask chain name
+op_leaves site old ask chain other_op = λ apart. refl
+
+request_leaves : (site : Site) (old : State) (place : ℕ) (ask : Ask) (asked : Request) → Leaves old (on_request site old place ask asked)
+request_leaves site old place ask (request.Lookup look.Top) = lookup_leaves site old
+request_leaves site old place ask (request.Finish chain asked) = op_leaves site old ask chain asked
+request_leaves site old place ask other_request = λ apart. refl
+
+machine_leaves : (site : Site) (old new : State) (place : ℕ) (ask : Ask) (given : Reply) → record { reply = given; state = new } ≡ machine site old place ask → given ≢ reply.Fine → new ≡ old
+machine_leaves site old new place ask given same apart =
+    ap (λ (r : Response). r.state) same
+    ∙ request_leaves site old place ask ask.request (λ fine. apart (ap (λ (r : Response). r.reply) same ∙ fine))
+
+-- only a reply that says that all went well may change a server
+pub serves_leaves : (site : Site) (old new : State) (place : ℕ) (ask : Ask) (given : Reply) → Serves site old place ask given new → given ≢ reply.Fine → new ≡ old
+serves_leaves site old new place ask reply.NoMem serves apart = serves.1
+serves_leaves site old new place ask given serves apart = machine_leaves site old new place ask given serves apart
+
+-- ---- the states that follow
+
+pub serve_follows : (site : Site) (earlier : List Served) (place : ℕ) (ask : Ask) (given : Reply) (new : State) → Serves site (state_after site earlier) place ask given new → state_after site (served_ask ask place given ∷ earlier) ≡ new
+serve_follows site earlier place ask reply.NoMem new serves = sym serves.1
+serve_follows site earlier place ask given new serves = sym (ap (λ (r : Response). r.state) serves)
