@@ -41,13 +41,16 @@ pub record IsServedNext (world : World) (old new : List Event) (ask_place : ℕ)
 -- a server after these events
 abbrev pub standing : {R : Type 0} → World → R → List Event → ℕ → Standing R
 standing world rule h number = record {
-  rule = rule; number = number; servers = world.setup.servers; state = server_after world number h
+  rule = rule;
+  number = number;
+  servers = world.setup.servers;
+  state = server_after world number h;
 }
 
--- the servers by number, the coordinator last, each as these events leave it
-pub record AreStanding {R : Type 0} (world : World) (rule : R) (h : List Event) (servers : List (Standing R)) : Type 0 where
-  pub count : length servers ≡ world.setup.servers + 1
-  pub each : (number : ℕ) → number ≤ world.setup.servers → slice_get servers number ≡ Some (standing world rule h number)
+-- the first so many servers by number, each as these events leave it
+pub record AreStanding {R : Type 0} (world : World) (rule : R) (h : List Event) (many : ℕ) (servers : List (Standing R)) : Type 0 where
+  pub count : length servers ≡ many
+  pub each : (number : ℕ) → number < many → slice_get servers number ≡ Some (standing world rule h number)
 
 -- for each event, in the order of places, whether some Serve names it
 pub record AreFlags (h : List Event) (served : List Bool) : Type 0 where
@@ -58,7 +61,8 @@ pub record AreFlags (h : List Event) (served : List Bool) : Type 0 where
 pub record IsKept {R : Type 0} (world : World) (rule : R) (servers : List (Standing R)) (h : List Event) (served : List Bool) : Type 0 where
   pub some_servers : 1 ≤ world.setup.servers
   pub legal : Legal world h
-  pub standing : AreStanding world rule h servers
+  -- the coordinator is the last
+  pub standing : AreStanding world rule h (world.setup.servers + 1) servers
   pub flags : AreFlags h served
 
 -- one server has served an Ask, and the others are as they were

@@ -1,0 +1,14 @@
+use Rattle.std.proofs.Common.{◌≡◌, false, [], ◌∷◌, ◌++◌, List, Bool, reverse, ap, subst, sym, ◌∙◌}
+use Rattle.inf_core.specs.Core.{Running, world_in}
+use Rattle.inf_core.specs.Legal.{MayAsk}
+use Rattle.inf_core.proofs.CoreFacts.{ask_kept, kept_so, reversed_push}
+use Rattle.inf_core.proofs.history.Core.ask.Goals as goal
+
+pub invariant_of-self-2 : goal.invariant_of-self-2
+invariant_of-self-2 g c =
+    let old = c.self.inside in
+    let may = subst (λ (v : Running _). MayAsk (world_in g.R.IdRule.digest_of v) v.history c.args.number c.args.ask) (sym c.self.view_is) c.requires.may in
+    kept_so g.R.IdRule.digest_of old.setup old.rule old.servers.items _ _ _ _
+    (reversed_push old.events.items c.reserve.new.self.items c.join.new.events.items _ c.reserve.ensures.items c.join.ensures.events)
+    (c.join.ensures.served ∙ ap (λ (fs : List Bool). fs ++ false ∷ []) c.reserve-2.ensures.items)
+    (ask_kept g.R.IdRule.digest_of old.setup old.rule (reverse old.events.items) c.args.number c.args.ask old.servers.items old.served.items may c.self.invariant)
