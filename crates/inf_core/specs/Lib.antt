@@ -9,3 +9,4 @@ pub mod Outcome
 pub mod Flight
 pub mod Decisions
 pub mod Examples
+pub mod Steps

@@ -39,7 +39,8 @@ impl<R: IdRule> Model for Core<R> {
 
     ghost view = { λ c. record { rule = c.rule; setup = c.setup; history = reverse c.events.items } };
 
-    ghost invariant = { λ c. IsKept (world c.setup (R.digest_of c.rule)) c.rule c.servers.items (reverse c.events.items) c.served.items };
+    ghost invariant = { λ c. IsKept (world c.setup (R.digest_of c.rule)) c.rule c.servers.items
+        (reverse c.events.items) c.served.items };
 }
 
 impl<R: IdRule> Core<R> {
@@ -102,7 +103,8 @@ impl<R: IdRule> Core<R> {
         requires asked { IsSome (asked_at ask_place self.old.history) }
         requires waits { is_served ask_place self.old.history ≡ false }
         ensures place { IfOk result (λ r. r.0 ≡ suc (length self.old.history)) }
-        ensures served { IfOk result (λ r. IsServedNext (world_in R.digest_of self.old) self.old.history self.new.history ask_place r.1) }
+        ensures served { IfOk result (λ r. IsServedNext (world_in R.digest_of self.old) self.old.history self.new.history
+            ask_place r.1) }
         ensures legal { Legal (world_in R.digest_of self.new) self.new.history }
         ensures same { IsSameRun self.old self.new }
         ensures no_memory { OnErr result (self.new ≡ self.old) }
@@ -130,7 +132,8 @@ fn open_servers<R: IdRule>(
     setup: &Setup,
 ) -> Result<Vec<Server<R>>, NoMemory>
     requires { 1 ≤ setup.now.servers }
-    ensures { IfOk result (λ servers. AreStanding (world setup.now (R.digest_of rule)) rule [] (setup.now.servers + 1) servers.items) }
+    ensures { IfOk result (λ servers. AreStanding (world setup.now (R.digest_of rule)) rule []
+        (setup.now.servers + 1) servers.items) }
 {
     let mut servers = Vec::new(alloc);
     for number in 0..setup.servers {

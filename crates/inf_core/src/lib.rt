@@ -5,6 +5,8 @@ mod examples;
 mod history;
 mod order;
 mod stage;
+#[cfg(test)]
+mod tests;
 
 pub use examples::{next_asks, outcomes, replies, wanting};
 pub use history::Core;
