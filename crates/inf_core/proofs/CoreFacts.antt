@@ -293,12 +293,12 @@ module _ {R : Type 0} (digest_of : R → List ℕ → Id) (setup : Setup) (rule 
       ∙ serve_follows (site_of here number) (serves_of number h) ask_place posted.ask given by.after.state by.serves in
       same_standing by.after (standing here rule (event.Serve number ask_place given ∷ h) number) by.same.rule by.same.number by.same.servers (sym state)
 
-  pub may_serve : (h : List Event) (ask_place : ℕ) (posted : Posted) (given : Reply) (servers after : List (Standing R)) → asked_at ask_place h ≡ Some posted → is_served ask_place h ≡ false → Joined h ask_place posted given servers after → MayServe here h posted.number ask_place given
+  may_serve : (h : List Event) (ask_place : ℕ) (posted : Posted) (given : Reply) (servers after : List (Standing R)) → asked_at ask_place h ≡ Some posted → is_served ask_place h ≡ false → Joined h ask_place posted given servers after → MayServe here h posted.number ask_place given
   may_serve h ask_place posted given servers after made waits by =
       record { posted = posted; made = made; to = refl; waits = waits; after = by.after.state; reply = by.serves }
 
   -- what the server of an Ask owes at its place
-  pub served_by : (h : List Event) (ask_place : ℕ) (posted : Posted) (given : Reply) (servers after : List (Standing R)) (served : List Bool) → asked_at ask_place h ≡ Some posted → IsKept here rule servers h served → ((server : Standing R) → slice_get servers posted.number ≡ Some server → server.number ≡ posted.number → IsServedBy digest_of servers after server ask_place posted.ask given) → Joined h ask_place posted given servers after
+  served_by : (h : List Event) (ask_place : ℕ) (posted : Posted) (given : Reply) (servers after : List (Standing R)) (served : List Bool) → asked_at ask_place h ≡ Some posted → IsKept here rule servers h served → ((server : Standing R) → slice_get servers posted.number ≡ Some server → server.number ≡ posted.number → IsServedBy digest_of servers after server ask_place posted.ask given) → Joined h ask_place posted given servers after
   served_by h ask_place posted given servers after served made is serves =
       let there : posted.number < setup.servers = (posted_known here ask_place posted h is.legal made).there is.some_servers in
       serves (standing here rule h posted.number) (is.standing.each posted.number (omega arith)) refl
@@ -313,7 +313,7 @@ module _ {R : Type 0} (digest_of : R → List ℕ → Id) (setup : Setup) (rule 
     flags = asked_flags here h number ask served is.legal is.flags;
   }
 
-  pub serve_kept : (h : List Event) (ask_place : ℕ) (posted : Posted) (given : Reply) (servers after : List (Standing R)) (served : List Bool) → asked_at ask_place h ≡ Some posted → is_served ask_place h ≡ false → Joined h ask_place posted given servers after → IsKept here rule servers h served → IsKept here rule after (event.Serve posted.number ask_place given ∷ h) (slice_set (served ++ false ∷ []) (ask_place - 1) true)
+  serve_kept : (h : List Event) (ask_place : ℕ) (posted : Posted) (given : Reply) (servers after : List (Standing R)) (served : List Bool) → asked_at ask_place h ≡ Some posted → is_served ask_place h ≡ false → Joined h ask_place posted given servers after → IsKept here rule servers h served → IsKept here rule after (event.Serve posted.number ask_place given ∷ h) (slice_set (served ++ false ∷ []) (ask_place - 1) true)
   serve_kept h ask_place posted given servers after served made waits by is =
       let next : List Event = event.Serve posted.number ask_place given ∷ h in
       let there : posted.number < setup.servers = (posted_known here ask_place posted h is.legal made).there is.some_servers in
@@ -330,7 +330,7 @@ module _ {R : Type 0} (digest_of : R → List ℕ → Id) (setup : Setup) (rule 
       }
 
   -- where the reply cannot be told, nothing has changed
-  pub untold_kept : (h : List Event) (ask_place : ℕ) (posted : Posted) (given : Reply) (servers after : List (Standing R)) (served : List Bool) → asked_at ask_place h ≡ Some posted → given ≢ reply.Fine → Joined h ask_place posted given servers after → IsKept here rule servers h served → IsKept here rule after h served
+  untold_kept : (h : List Event) (ask_place : ℕ) (posted : Posted) (given : Reply) (servers after : List (Standing R)) (served : List Bool) → asked_at ask_place h ≡ Some posted → given ≢ reply.Fine → Joined h ask_place posted given servers after → IsKept here rule servers h served → IsKept here rule after h served
   untold_kept h ask_place posted given servers after served made unlike by is =
       let there : posted.number < setup.servers = (posted_known here ask_place posted h is.legal made).there is.some_servers in
       let state : by.after.state ≡ server_after here posted.number h = serves_leaves (site_of here posted.number) (server_after here posted.number h) by.after.state ask_place posted.ask given by.serves unlike in
@@ -349,3 +349,20 @@ module _ {R : Type 0} (digest_of : R → List ℕ → Id) (setup : Setup) (rule 
   kept_so servers h all served flags same same_flags is =
       subst (λ (xs : List Event). IsKept here rule servers xs flags) (sym same)
       (subst (λ (fs : List Bool). IsKept here rule servers h fs) (sym same_flags) is)
+
+  -- what is known once the server of an Ask has replied
+  pub record Serving (events : List Event) (ask_place : ℕ) (posted : Posted) (given : Reply) (servers after : List (Standing R)) (served : List Bool) : Type 0 where
+    pub untold : given ≢ reply.Fine → IsKept here rule after (reverse events) served
+    pub may : is_served ask_place (reverse events) ≡ false → MayServe here (reverse events) posted.number ask_place given
+    pub kept : is_served ask_place (reverse events) ≡ false → IsKept here rule after (event.Serve posted.number ask_place given ∷ reverse events) (slice_set (served ++ false ∷ []) (ask_place - 1) true)
+
+  pub serving : (events room lent : List Event) (ask_place : ℕ) (posted : Posted) (given : Reply) (servers after : List (Standing R)) (served : List Bool) → lent ≡ room → room ≡ events → asked_at ask_place (reverse lent) ≡ Some posted → IsKept here rule servers (reverse events) served → ((server : Standing R) → slice_get servers posted.number ≡ Some server → server.number ≡ posted.number → IsServedBy digest_of servers after server ask_place posted.ask given) → Serving events ask_place posted given servers after served
+  serving events room lent ask_place posted given servers after served same grown found is serves =
+      let h : List Event = reverse events in
+      let made : asked_at ask_place h ≡ Some posted = made_at ask_place events room lent posted same grown found in
+      let by : Joined h ask_place posted given servers after = served_by h ask_place posted given servers after served made is serves in
+      record {
+        untold = λ unlike. untold_kept h ask_place posted given servers after served made unlike by is;
+        may = λ waits. may_serve h ask_place posted given servers after made waits by;
+        kept = λ waits. serve_kept h ask_place posted given servers after served made waits by is;
+      }

@@ -1,17 +1,16 @@
-use Rattle.std.proofs.Common.{◌≡◌, ◌≤◌, ◌<◌, ◌-◌, true, false, [], ◌∷◌, ◌++◌, List, Bool, reverse, slice_set, ap, subst, sym, ◌∙◌, arith, refl, length, length-append}
+use Rattle.std.proofs.Common.{◌≡◌, ◌-◌, true, false, [], ◌∷◌, ◌++◌, List, Bool, length, reverse, slice_set, ap, subst, sym, ◌∙◌, arith, length-append}
 use Rattle.std.proofs.lemmas.List.{length-reverse}
 use Rattle.inf_core.specs.Core.{IsServedNext, Running, world, world_in}
 use Rattle.inf_core.specs.Legal.{Legal}
-use Rattle.inf_message.specs.declared.reply.Reply.{Reply}
-use Rattle.inf_core.proofs.CoreFacts.{ask_indexed, kept_so, made_at, may_serve, reversed_push, serve_kept, served_by, untold_kept}
+use Rattle.inf_core.proofs.CoreFacts.{ask_indexed, kept_so, made_at, reversed_push, serving}
 use Rattle.inf_core.proofs.Posted.{posted_known}
-use Rattle.inf_message.specs.History.{is_served, posted_ask}
+use Rattle.inf_message.specs.declared.reply.Reply.{Reply}
+use Rattle.inf_message.specs.History.{is_served}
 use Rattle.inf_core.proofs.history.Core.serve.Goals as goal
 
 pub serve_at-reply-requires-clause-there : goal.serve_at-reply-requires-clause-there
 serve_at-reply-requires-clause-there g c =
-    let old = c.self.inside in
-    let made = made_at c.args.ask_place old.events.items _ _ _ c.as_slice.ensures.value c.reserve.ensures.items c.ask_at-number.ensures in
+    let made = made_at c.args.ask_place c.self.inside.events.items _ _ _ c.as_slice.ensures.value c.reserve.ensures.items c.ask_at-number.ensures in
     let there = (posted_known _ c.args.ask_place _ _ c.self.invariant.legal made).there c.self.invariant.some_servers in
     omega (arith, there, c.self.invariant.standing.count)
 
@@ -28,12 +27,8 @@ serve_at-reply-requires-clause-short_chains g c =
 pub invariant_of-self-in_err-told : goal.invariant_of-self-in_err-told
 invariant_of-self-in_err-told g c =
     let old = c.self.inside in
-    let h = reverse old.events.items in
-    let asked = posted_ask c.ask_at-number.result.0 c.ask_at-number.result.1.now in
-    let made = made_at c.args.ask_place old.events.items _ _ _ c.as_slice.ensures.value c.reserve.ensures.items c.ask_at-number.ensures in
-    let by = served_by g.R.IdRule.digest_of old.setup old.rule h c.args.ask_place asked c.serve_at-reply.result old.servers.items c.serve_at-reply.new.servers.items old.served.items made c.self.invariant c.serve_at-reply.ensures in
-    kept_so g.R.IdRule.digest_of old.setup old.rule c.serve_at-reply.new.servers.items h _ old.served.items _ (ap reverse c.reserve.ensures.items) c.reserve-2.ensures.items
-    (untold_kept g.R.IdRule.digest_of old.setup old.rule h c.args.ask_place asked c.serve_at-reply.result old.servers.items c.serve_at-reply.new.servers.items old.served.items made c.in_err-told.ensures.err by c.self.invariant)
+    let s = serving g.R.IdRule.digest_of old.setup old.rule old.events.items _ _ c.args.ask_place _ c.serve_at-reply.result old.servers.items c.serve_at-reply.new.servers.items old.served.items c.as_slice.ensures.value c.reserve.ensures.items c.ask_at-number.ensures c.self.invariant c.serve_at-reply.ensures in
+    kept_so g.R.IdRule.digest_of old.setup old.rule c.serve_at-reply.new.servers.items _ _ old.served.items _ (ap reverse c.reserve.ensures.items) c.reserve-2.ensures.items (s.untold c.in_err-told.ensures.err)
 
 pub overflow_sub-ask_place : goal.overflow_sub-ask_place
 overflow_sub-ask_place g c =
@@ -44,48 +39,33 @@ pub index_mut-requires : goal.index_mut-requires
 index_mut-requires g c =
     let made = made_at c.args.ask_place c.self.inside.events.items _ _ _ c.as_slice.ensures.value c.reserve.ensures.items c.ask_at-number.ensures in
     let within = (ask_indexed c.self.inside.events.items c.args.ask_place _ made).within in
-    let flags = c.self.invariant.flags.count in
-    let flags_more = ap (λ (fs : List Bool). length (fs ++ false ∷ [])) c.reserve-2.ensures.items in
+    let flags = ap (λ (fs : List Bool). length (fs ++ false ∷ [])) c.reserve-2.ensures.items in
     let pushed = ap (λ (fs : List Bool). length fs) c.join-place.ensures.served in
-    omega (arith, length-append c.self.inside.served.items (false ∷ []), length-reverse c.self.inside.events.items)
+    omega (arith, c.self.invariant.flags.count, length-append c.self.inside.served.items (false ∷ []), length-reverse c.self.inside.events.items)
 
 pub invariant_of-self-2 : goal.invariant_of-self-2
 invariant_of-self-2 g c =
     let old = c.self.inside in
-    let h = reverse old.events.items in
-    let asked = posted_ask c.ask_at-number.result.0 c.ask_at-number.result.1.now in
-    let made = made_at c.args.ask_place old.events.items _ _ _ c.as_slice.ensures.value c.reserve.ensures.items c.ask_at-number.ensures in
-    let by = served_by g.R.IdRule.digest_of old.setup old.rule h c.args.ask_place asked c.serve_at-reply.result old.servers.items c.serve_at-reply.new.servers.items old.served.items made c.self.invariant c.serve_at-reply.ensures in
+    let s = serving g.R.IdRule.digest_of old.setup old.rule old.events.items _ _ c.args.ask_place _ c.serve_at-reply.result old.servers.items c.serve_at-reply.new.servers.items old.served.items c.as_slice.ensures.value c.reserve.ensures.items c.ask_at-number.ensures c.self.invariant c.serve_at-reply.ensures in
     let waits = subst (λ (v : Running _). is_served c.args.ask_place v.history ≡ false) (sym c.self.view_is) c.requires.waits in
-    kept_so g.R.IdRule.digest_of old.setup old.rule c.serve_at-reply.new.servers.items _ _ _ _
-    (reversed_push old.events.items c.reserve.new.self.items c.join-place.new.events.items _ c.reserve.ensures.items c.join-place.ensures.events)
-    (ap (λ (fs : List Bool). slice_set fs (c.args.ask_place - 1) true) (c.join-place.ensures.served ∙ ap (λ (fs : List Bool). fs ++ false ∷ []) c.reserve-2.ensures.items))
-    (serve_kept g.R.IdRule.digest_of old.setup old.rule h c.args.ask_place asked c.serve_at-reply.result old.servers.items c.serve_at-reply.new.servers.items old.served.items made waits by c.self.invariant)
+    let joins = reversed_push old.events.items c.reserve.new.self.items c.join-place.new.events.items _ c.reserve.ensures.items c.join-place.ensures.events in
+    let flags = c.join-place.ensures.served ∙ ap (λ (fs : List Bool). fs ++ false ∷ []) c.reserve-2.ensures.items in
+    kept_so g.R.IdRule.digest_of old.setup old.rule c.serve_at-reply.new.servers.items _ _ _ _ joins (ap (λ (fs : List Bool). slice_set fs (c.args.ask_place - 1) true) flags) (s.kept waits)
 
 pub returns-clause-served : goal.returns-clause-served
 returns-clause-served g c =
     let old = c.self.inside in
-    let h = reverse old.events.items in
-    let asked = posted_ask c.ask_at-number.result.0 c.ask_at-number.result.1.now in
-    let made = made_at c.args.ask_place old.events.items _ _ _ c.as_slice.ensures.value c.reserve.ensures.items c.ask_at-number.ensures in
-    let by = served_by g.R.IdRule.digest_of old.setup old.rule h c.args.ask_place asked c.serve_at-reply.result old.servers.items c.serve_at-reply.new.servers.items old.served.items made c.self.invariant c.serve_at-reply.ensures in
+    let s = serving g.R.IdRule.digest_of old.setup old.rule old.events.items _ _ c.args.ask_place _ c.serve_at-reply.result old.servers.items c.serve_at-reply.new.servers.items old.served.items c.as_slice.ensures.value c.reserve.ensures.items c.ask_at-number.ensures c.self.invariant c.serve_at-reply.ensures in
     let waits = subst (λ (v : Running _). is_served c.args.ask_place v.history ≡ false) (sym c.self.view_is) c.requires.waits in
+    let joins = reversed_push old.events.items c.reserve.new.self.items c.join-place.new.events.items _ c.reserve.ensures.items c.join-place.ensures.events in
     subst (λ (v : Running _). IsServedNext (world_in g.R.IdRule.digest_of v) v.history (reverse c.join-place.new.events.items) c.args.ask_place c.in_ok-told.told) c.self.view_is
-    (subst (λ (r : Reply). IsServedNext (world old.setup (g.R.IdRule.digest_of old.rule)) h (reverse c.join-place.new.events.items) c.args.ask_place r) (sym c.in_ok-told.ensures.ok)
-    (record {
-      number = asked.number;
-      may = may_serve g.R.IdRule.digest_of old.setup old.rule h c.args.ask_place asked c.serve_at-reply.result old.servers.items c.serve_at-reply.new.servers.items made waits by;
-      joins = reversed_push old.events.items c.reserve.new.self.items c.join-place.new.events.items _ c.reserve.ensures.items c.join-place.ensures.events;
-    }))
+    (subst (λ (r : Reply). IsServedNext (world old.setup (g.R.IdRule.digest_of old.rule)) (reverse old.events.items) (reverse c.join-place.new.events.items) c.args.ask_place r) (sym c.in_ok-told.ensures.ok)
+    (record { number = c.ask_at-number.result.0; may = s.may waits; joins = joins }))
 
 pub returns-clause-legal : goal.returns-clause-legal
 returns-clause-legal g c =
     let old = c.self.inside in
-    let h = reverse old.events.items in
-    let asked = posted_ask c.ask_at-number.result.0 c.ask_at-number.result.1.now in
-    let made = made_at c.args.ask_place old.events.items _ _ _ c.as_slice.ensures.value c.reserve.ensures.items c.ask_at-number.ensures in
-    let by = served_by g.R.IdRule.digest_of old.setup old.rule h c.args.ask_place asked c.serve_at-reply.result old.servers.items c.serve_at-reply.new.servers.items old.served.items made c.self.invariant c.serve_at-reply.ensures in
+    let s = serving g.R.IdRule.digest_of old.setup old.rule old.events.items _ _ c.args.ask_place _ c.serve_at-reply.result old.servers.items c.serve_at-reply.new.servers.items old.served.items c.as_slice.ensures.value c.reserve.ensures.items c.ask_at-number.ensures c.self.invariant c.serve_at-reply.ensures in
     let waits = subst (λ (v : Running _). is_served c.args.ask_place v.history ≡ false) (sym c.self.view_is) c.requires.waits in
-    subst (Legal (world old.setup (g.R.IdRule.digest_of old.rule)))
-    (sym (reversed_push old.events.items c.reserve.new.self.items c.join-place.new.events.items _ c.reserve.ensures.items c.join-place.ensures.events))
-    (serve_kept g.R.IdRule.digest_of old.setup old.rule h c.args.ask_place asked c.serve_at-reply.result old.servers.items c.serve_at-reply.new.servers.items old.served.items made waits by c.self.invariant).legal
+    let joins = reversed_push old.events.items c.reserve.new.self.items c.join-place.new.events.items _ c.reserve.ensures.items c.join-place.ensures.events in
+    subst (Legal (world old.setup (g.R.IdRule.digest_of old.rule))) (sym joins) (s.kept waits).legal
