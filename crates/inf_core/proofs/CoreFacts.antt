@@ -1,7 +1,7 @@
 -- What the core keeps, as events join.
-use Rattle.std.proofs.Common.{Bor, ◌≡◌, ◌≢◌, ℕ, zero, suc, ◌+◌, ◌-◌, ◌<◌, ◌≤◌, ◌||◌, Bool, true, false, cond, eqb, List, [], ◌∷◌, ◌++◌, length, map, reverse, slice_get, slice_set, get_or, is_none, Option, None, Some, IsSome, Result, Ok, Err, refl, sym, ap, ap₂, subst, ◌∙◌, arith, length-append}
+use Rattle.std.proofs.Common.{Bor, ◌≡◌, ◌≢◌, ℕ, zero, suc, ◌+◌, ◌-◌, ◌<◌, ◌≤◌, ◌||◌, Bool, true, false, eqb, List, [], ◌∷◌, ◌++◌, length, reverse, slice_get, slice_set, get_or, is_none, Option, None, Some, IsSome, Result, Ok, Err, refl, sym, ap, ap₂, subst, ◌∙◌, arith, length-append}
 use Rattle.std.proofs.lemmas.Bool.Decides.{Decides-eqb, nat_tests}
-use Rattle.std.proofs.lemmas.List.{length-reverse, length-set, reverse-append, reverse-reverse}
+use Rattle.std.proofs.lemmas.List.{length-set, reverse-append, reverse-reverse}
 use Rattle.std.proofs.lemmas.Option.{get_or_from_slice_get, slice_get_within}
 use Rattle.inf_base.specs.declared.entry.Entry.{Entry}
 use Rattle.inf_base.specs.declared.id.Id.{Id}
@@ -21,10 +21,10 @@ use Rattle.inf_message.specs.declared.reply.Reply.TheVariants as reply
 use Rattle.inf_message.specs.declared.request.Request.{Request}
 use Rattle.inf_message.specs.declared.request.Request.TheVariants as request
 use Rattle.inf_message.specs.History.{Posted, Served, asked_at, event_at, is_served, served_ask, serves_of}
-use Rattle.inf_message.proofs.HistoryLaws.{IsPlaceOf, asked_is_event, asked_within, itself, other, serves_apart, serves_own}
+use Rattle.inf_message.proofs.HistoryLaws.{IsPlaceOf, asked_is_event, asked_within, other, serves_apart, serves_own}
 use Rattle.inf_message.proofs.OldestFirst.{event_is_indexed}
 use Rattle.inf_core.proofs.Posted.{posted_known}
-use Rattle.inf_server.specs.Machine.{Serves, after_reply, machine, on_op, on_request, state_after}
+use Rattle.inf_server.specs.Machine.{Serves, machine, on_op, on_request, state_after}
 use Rattle.inf_server.specs.Response.{Response, response}
 use Rattle.inf_server.specs.Server.{IsSameServer, Standing, site}
 use Rattle.inf_server.specs.Server.{site_of as digest_site}
@@ -33,7 +33,7 @@ use Rattle.inf_server.specs.Files.{create, stat}
 use Rattle.inf_server.specs.Lookups.{lookup_top, unheld}
 use Rattle.inf_server.specs.Slots.{slot_for}
 use Rattle.inf_server.specs.State.{Site, State, is_here, opening, root_id}
-use Rattle.std.specs.Option.{ok_or, option_map}
+use Rattle.std.specs.Option.{ok_or}
 use Rattle.std.specs.Slice.{IsItemAt}
 
 -- ---- lists by index

@@ -1,17 +1,15 @@
 -- The Asks of a legal history: servers know what is asked for, and a server that there is is asked.
-use Rattle.std.proofs.Common.{◌≡◌, ℕ, zero, suc, ◌+◌, ◌%◌, ◌<◌, ◌≤◌, Bool, true, false, cond, eqb, List, [], ◌∷◌, length, map, slice_get, Option, None, Some, IfSome, Result, Ok, Err, refl, sym, ap, subst, ◌∙◌, arith, rules}
+use Rattle.std.proofs.Common.{◌≡◌, ℕ, zero, suc, ◌<◌, ◌≤◌, true, eqb, List, [], ◌∷◌, length, slice_get, Option, None, Some, IfSome, refl, sym, subst, arith, rules}
 use Rattle.inf_base.specs.declared.call.Call.{Call}
 use Rattle.inf_base.specs.declared.call.Call.TheVariants as call
 use Rattle.inf_base.specs.declared.answer.Answer.{Answer}
 use Rattle.inf_base.specs.declared.entry.Entry.{Entry}
-use Rattle.inf_base.specs.declared.errno.Errno.{Errno}
-use Rattle.inf_base.specs.declared.key.LookKey.{LookKey}
 use Rattle.inf_base.specs.declared.key.LookKey.TheVariants as look
 use Rattle.inf_base.specs.declared.setup.ClientLine.{ClientLine}
 use Rattle.inf_base.specs.Path.{path_of}
 use Rattle.inf_core.specs.World.{World}
-use Rattle.inf_core.specs.Client.{Client, Sent, Who, starting}
-use Rattle.inf_core.specs.Duty.{Next, asks, is_over, waits, ask_of, asked, begun, next_in, next_of}
+use Rattle.inf_core.specs.Client.{Client, Who, starting}
+use Rattle.inf_core.specs.Duty.{asks, ask_of, asked, begun, next_in, next_of}
 use Rattle.inf_core.specs.Group.{composed_stage, create_op, first_round, first_stage, group, only_name, op_of, stat_op}
 use Rattle.inf_core.specs.Legal.{Legal, MayAsk, client_after}
 use Rattle.inf_core.specs.Turn.{Turn, act_with, after_lookup, begins_again, ends, first_told, goes_on, next_op, recorded, served, success_of, turn_at, turned, unless_success}

@@ -1,6 +1,5 @@
 use Rattle.std.proofs.Common.{◌≡◌, ℕ, ◌-◌, Some, ap₂, ◌∙◌}
 use Rattle.inf_message.specs.declared.ask.Ask.{Ask}
-use Rattle.inf_message.specs.declared.event.Event.TheVariants as event
 use Rattle.inf_message.specs.History.{posted_ask}
 use Rattle.inf_core.proofs.CoreFacts.{ask_indexed, asked_there, item_found, item_there}
 use Rattle.inf_core.proofs.history.ask_at.Goals as goal

@@ -1,5 +1,5 @@
-use Rattle.std.proofs.Common.{◌≡◌, ℕ, arith, ◌+◌, [], ◌∷◌, ◌++◌, subst, sym}
-use Rattle.inf_core.specs.Core.{AreStanding, standing, world}
+use Rattle.std.proofs.Common.{◌≡◌, ℕ, arith, ◌+◌, [], subst, sym}
+use Rattle.inf_core.specs.Core.{AreStanding, world}
 use Rattle.inf_core.proofs.CoreFacts.{opened, standing_more}
 use Rattle.inf_core.proofs.history.open_servers.Goals as goal
 

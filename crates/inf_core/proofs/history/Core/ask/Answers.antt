@@ -1,4 +1,4 @@
-use Rattle.std.proofs.Common.{◌≡◌, false, [], ◌∷◌, ◌++◌, List, Bool, reverse, ap, subst, sym, ◌∙◌}
+use Rattle.std.proofs.Common.{false, [], ◌∷◌, ◌++◌, List, Bool, reverse, ap, subst, sym, ◌∙◌}
 use Rattle.inf_core.specs.Core.{Running, world_in}
 use Rattle.inf_core.specs.Legal.{MayAsk}
 use Rattle.inf_core.proofs.CoreFacts.{ask_kept, kept_so, reversed_push}
