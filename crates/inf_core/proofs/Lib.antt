@@ -1,9 +1,12 @@
-pub mod Ordered
-pub mod Placed
-pub mod ResultFacts
 pub mod ClientFacts
 pub mod ClientTurns
+pub mod CoreFacts
+pub mod Ordered
 pub mod Pending
+pub mod Placed
+pub mod Posted
+pub mod Replayed
+pub mod ResultFacts
 pub mod RootState
 pub mod ServeCreate
 pub mod ServeFacts

@@ -4,7 +4,9 @@ pub mod Group
 pub mod Turn
 pub mod Duty
 pub mod Legal
+pub mod Core
 pub mod Outcome
 pub mod Flight
 pub mod Decisions
 pub mod Examples
+pub mod Steps

@@ -3,7 +3,7 @@
 ghost use Rattle.std.specs.Prelude.{◌≡◌, List};
 ghost use Rattle.inf_core.specs.Decisions.{decided_in};
 ghost use Rattle.inf_core.specs.Legal.{Legal};
-ghost use Rattle.inf_core.specs.Outcome.{Outcome, decisions};
+ghost use Rattle.inf_core.specs.Outcome.{AllReplay, Outcome, decisions};
 ghost use Rattle.inf_core.specs.World.{World};
 ghost use Rattle.inf_message.specs.declared.call_result.CallResult.{CallResult};
 ghost use Rattle.inf_message.specs.declared.event.Event.{Event};
@@ -14,8 +14,7 @@ ghost use Rattle.inf_tree.specs.Tree.{opening_tree};
 /// the order of their places, are answered as one plain tree answers calls that are made one after another. Only an
 /// answer that a call was given up differs, and it changes nothing.
 pub fn every_legal_history_replays()
-    ensures { (world : World) (h : List Event) (results : List CallResult) → Legal world h → Outcome world h results
-        → Replays opening_tree (decisions world h results) }
+    ensures { (world : World) (h : List Event) → Legal world h → AllReplay world h }
 {}
 
 /// The calls that the Serves of a legal history decide, taken in the order of these Serves, are answered as the plain

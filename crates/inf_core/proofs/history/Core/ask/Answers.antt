@@ -1,0 +1,28 @@
+use Rattle.std.proofs.Common.{false, [], ◌∷◌, ◌++◌, List, Bool, reverse, ap, subst, sym, ◌∙◌}
+use Rattle.inf_core.specs.Core.{Running, world, world_in}
+use Rattle.inf_core.specs.Legal.{Legal, MayAsk}
+use Rattle.inf_core.proofs.CoreFacts.{ask_kept, kept_so, reversed_push}
+use Rattle.inf_core.proofs.Replayed.{all_replay, all_replay_in}
+use Rattle.inf_core.proofs.history.Core.ask.Goals as goal
+
+pub invariant_of-self-2 : goal.invariant_of-self-2
+invariant_of-self-2 g c =
+    let old = c.self.inside in
+    let may = subst (λ (v : Running _). MayAsk (world_in g.R.IdRule.digest_of v) v.history c.args.number c.args.ask) (sym c.self.view_is) c.requires.may in
+    kept_so g.R.IdRule.digest_of old.setup old.rule old.servers.items _ _ _ _
+    (reversed_push old.events.items c.reserve.new.self.items c.join.new.events.items _ c.reserve.ensures.items c.join.ensures.events)
+    (c.join.ensures.served ∙ ap (λ (fs : List Bool). fs ++ false ∷ []) c.reserve-2.ensures.items)
+    (ask_kept g.R.IdRule.digest_of old.setup old.rule (reverse old.events.items) c.args.number c.args.ask old.servers.items old.served.items may c.self.invariant)
+
+pub returns-in_err-reserve-clause-replays : goal.returns-in_err-reserve-clause-replays
+returns-in_err-reserve-clause-replays g c = all_replay_in _ _ _ c.reserve.ensures.items c.self.invariant.legal
+
+pub returns-in_err-reserve-2-clause-replays : goal.returns-in_err-reserve-2-clause-replays
+returns-in_err-reserve-2-clause-replays g c = all_replay_in _ _ _ c.reserve.ensures.items c.self.invariant.legal
+
+pub returns-clause-replays : goal.returns-clause-replays
+returns-clause-replays g c =
+    let old = c.self.inside in
+    let may = subst (λ (v : Running _). MayAsk (world_in g.R.IdRule.digest_of v) v.history c.args.number c.args.ask) (sym c.self.view_is) c.requires.may in
+    let joins = reversed_push old.events.items c.reserve.new.self.items c.join.new.events.items _ c.reserve.ensures.items c.join.ensures.events in
+    all_replay _ _ (subst (Legal (world old.setup (g.R.IdRule.digest_of old.rule))) (sym joins) (c.self.invariant.legal, may))
