@@ -1,6 +1,6 @@
 //! The history as it grows, with the servers as it leaves them.
 
-ghost use Rattle.std.specs.Prelude.{◌≡◌, ◌≢◌, ℕ, suc, ◌+◌, ◌<◌, ◌≤◌, true, false, [], ◌∷◌, ◌++◌, length, reverse, slice_get, Some, IsSome, IfOk, OnOk, OnErr, vec_len, vec_capacity};
+ghost use Rattle.std.specs.Prelude.{◌≡◌, ◌≢◌, suc, ◌+◌, ◌<◌, ◌≤◌, true, false, [], ◌∷◌, ◌++◌, length, reverse, slice_get, Some, IsSome, IfOk, OnOk, OnErr, vec_len, vec_capacity};
 ghost use Rattle.inf_core.specs.Core.{AreStanding, IsSameRun, IsServedBy, IsServedNext, world, world_in};
 ghost use Rattle.inf_core.specs.Legal.{Legal, MayAsk};
 ghost use Rattle.inf_core.specs.Outcome.{AllReplay};

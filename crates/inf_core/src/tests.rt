@@ -1,6 +1,6 @@
 //! The small run by hand: each step is one that the contracts of the core let happen, with the outcome of the rules.
 
-ghost use Rattle.std.specs.Prelude.{◌≡◌, ◌≢◌, ℕ, ◌<◌, [], ◌∷◌, length, IfOk, OnOk};
+ghost use Rattle.std.specs.Prelude.{◌≡◌, ◌≢◌, ◌<◌, [], ◌∷◌, length, IfOk, OnOk};
 ghost use Rattle.inf_core.specs.Examples as example;
 ghost use Rattle.inf_core.specs.Steps.{IsAfter};
 ghost use Rattle.inf_core.specs.World.{site_of};
