@@ -1,3 +1,6 @@
 pub mod Ordered
 pub mod Placed
 pub mod ResultFacts
+pub mod MessageFacts
+pub mod PathFacts
+pub mod SendingFacts

@@ -8,3 +8,8 @@ pub mod Outcome
 pub mod Flight
 pub mod Decisions
 pub mod Examples
+pub mod Paths
+pub mod Messages
+pub mod Sending
+pub mod Tally
+pub mod Course
