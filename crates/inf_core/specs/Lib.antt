@@ -13,3 +13,4 @@ pub mod Messages
 pub mod Sending
 pub mod Tally
 pub mod Course
+pub mod Kept

@@ -2,6 +2,7 @@
 #![tactic(auto)]
 
 mod call_op;
+mod client;
 mod course;
 mod draft;
 mod examples;

@@ -1,0 +1,120 @@
+//! A client: the call under way, what it asked for it and was told, and the results so far.
+
+ghost use Rattle.std.specs.Prelude.{◌≡◌, ◌+◌, ◌-◌, ◌<◌, ◌≤◌, ◌^◌, ◌↔◌, [], false, length, slice_get, Some, None, IfOk, OnOk, OnErr, IsTrue};
+ghost use Rattle.std.specs.Option.{option_copied};
+ghost use Rattle.inf_base.specs.declared.answer.Answer.TheVariants as answer;
+ghost use Rattle.inf_base.specs.declared.limits.TheConstants.{MOST_CALLS};
+ghost use Rattle.inf_base.specs.Setup.{call_count};
+ghost use Rattle.inf_core.specs.Client.{ended, has_place, is_round, placed, start};
+ghost use Rattle.inf_core.specs.Course.{turn_of};
+ghost use Rattle.inf_core.specs.Duty.{Duty, asked, at_call, begun};
+ghost use Rattle.inf_core.specs.Group.{composed};
+ghost use Rattle.inf_core.specs.Kept.{ended_result, ended_times, settled_at};
+ghost use Rattle.inf_core.specs.Messages.{is_compose, message};
+ghost use Rattle.inf_core.specs.Turn.{after_record, begins_again, goes_on, is_complete, next_op, recorded, served, turned};
+ghost use Rattle.inf_message.specs.History.{told_reply};
+
+use crate::call_op::has_op;
+use crate::course::{Course, after_act, after_lookup};
+use crate::draft::{Draft, Opening};
+use crate::group::{group_size, is_compose, is_message_at, is_round};
+use crate::party::Party;
+use crate::sending::{Sending, are_told, has_place, record_answer, take_first_told};
+use crate::stage::Stage;
+use crate::tally::Tally;
+use crate::telling::Telling;
+use inf_base::{Answer, Call, CallRef, NoMemory, Place};
+use inf_message::{Ask, CallResult, Reply};
+use std::alloc::Global;
+use std::collections::VecDeque;
+use std::marker::Model;
+
+/// A client of a script, which asks for one call after another. Its answers take no memory: what they need was made
+/// ready before the Asks.
+#[derive(Drop)]
+pub struct ClientMachine {
+    party: Party,
+    number: u32,
+    left: VecDeque<Call>,
+    stage: Stage,
+    /// What follows a round.
+    draft: Option<Draft>,
+    sent: Vec<Sending>,
+    counts: Tally,
+    results: Vec<CallResult>,
+}
+
+impl Model for ClientMachine {
+    ghost use Rattle.std.specs.Prelude.{vec_len, vec_capacity};
+    ghost use Rattle.inf_core.specs.Client.{Client};
+    ghost use Rattle.inf_core.specs.Kept.{IsKept};
+
+    ghost Value = { Client };
+
+    ghost view = { λ c. record {
+        who = c.party;
+        number = c.number;
+        left = c.left.items;
+        stage = c.stage;
+        sent = c.sent.items;
+        counts = c.counts;
+        results = c.results.items;
+    } };
+
+    ghost invariant = { λ c. IsKept c.number c.left.items c.stage c.draft c.sent.items (vec_capacity c.sent)
+        (vec_len c.results) (vec_capacity c.results) };
+}
+
+impl ClientMachine {
+    /// The result of the call under way, were it to end so.
+    fn result_of(&self, answer: Answer, place: Option<Place>) -> CallResult
+        ensures { result ≡ ended_result answer place self.now }
+    {
+        CallResult {
+            call: CallRef {
+                client: self.party.client(),
+                number: self.number,
+            },
+            answer,
+            place,
+            first: self.counts.first(),
+            last: self.counts.last(),
+            attempts: self.counts.attempts(),
+            rounds: self.counts.rounds(),
+            messages: self.counts.messages(),
+        }
+    }
+
+    /// The call under way ends with this answer, and the next one is under way.
+    fn end(&mut self, answer: Answer, place: Option<Place>)
+        requires { 0 < length self.old.left }
+        ensures { self.new ≡ ended answer place self.old }
+    {
+        let result = self.result_of(answer, place);
+        self.results.push_reserved(result);
+        let _ = self.left.pop_front();
+        self.number += 1;
+        self.stage = Stage::Compose;
+        self.sent.clear();
+        self.counts = Tally::new();
+    }
+
+    /// The next attempt at the call.
+    fn begin_again(&mut self)
+        ensures { self.new ≡ turned begins_again self.old }
+    {
+        self.stage = Stage::Compose;
+        self.sent.clear();
+        self.counts.begin_again();
+    }
+
+    /// The next group of the attempt.
+    fn go_on(&mut self, next: Stage)
+        requires call { 0 < length self.old.left }
+        requires no_round { is_round next ≡ false }
+        ensures { self.new ≡ turned (goes_on next) self.old }
+    {
+        self.stage = next;
+        self.sent.clear();
+    }
+}
