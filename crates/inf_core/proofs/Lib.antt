@@ -4,3 +4,4 @@ pub mod ResultFacts
 pub mod MessageFacts
 pub mod PathFacts
 pub mod SendingFacts
+pub mod TurnFacts

@@ -1,17 +1,18 @@
 //! A client: the call under way, what it asked for it and was told, and the results so far.
 
-ghost use Rattle.std.specs.Prelude.{◌≡◌, ◌+◌, ◌-◌, ◌<◌, ◌≤◌, ◌^◌, ◌↔◌, [], false, length, slice_get, Some, None, IfOk, OnOk, OnErr, IsTrue};
+ghost use Rattle.std.specs.Prelude.{◌≡◌, ◌+◌, ◌-◌, ◌<◌, ◌≤◌, ◌^◌, ◌↔◌, [], true, false, length, slice_get, Some, None, IfOk, OnOk, OnErr, IsTrue};
 ghost use Rattle.std.specs.Option.{option_copied};
 ghost use Rattle.inf_base.specs.declared.answer.Answer.TheVariants as answer;
 ghost use Rattle.inf_base.specs.declared.limits.TheConstants.{MOST_CALLS};
 ghost use Rattle.inf_base.specs.Setup.{call_count};
 ghost use Rattle.inf_core.specs.Client.{ended, has_place, is_round, placed, start};
-ghost use Rattle.inf_core.specs.Course.{turn_of};
+ghost use Rattle.inf_core.specs.Course.{IsPossible, turn_of};
 ghost use Rattle.inf_core.specs.Duty.{Duty, asked, at_call, begun};
 ghost use Rattle.inf_core.specs.Group.{composed};
 ghost use Rattle.inf_core.specs.Kept.{ended_result, ended_times, settled_at};
 ghost use Rattle.inf_core.specs.Messages.{is_compose, message};
-ghost use Rattle.inf_core.specs.Turn.{after_record, begins_again, goes_on, is_complete, next_op, recorded, served, turned};
+ghost use Rattle.inf_core.specs.Turn.{begins_again, first_told, goes_on, is_complete, next_op, recorded, served, settled, turn_at, turned};
+ghost use Rattle.inf_core.specs.declared.stage.Stage.TheVariants as stage;
 ghost use Rattle.inf_message.specs.History.{told_reply};
 
 use crate::call_op::has_op;
@@ -28,6 +29,7 @@ use inf_message::{Ask, CallResult, Reply};
 use std::alloc::Global;
 use std::collections::VecDeque;
 use std::marker::Model;
+use std::mem;
 
 /// A client of a script, which asks for one call after another. Its answers take no memory: what they need was made
 /// ready before the Asks.
@@ -116,5 +118,83 @@ impl ClientMachine {
     {
         self.stage = next;
         self.sent.clear();
+    }
+
+    /// What comes of the answer to the group, which is over.
+    fn take_course(&mut self, place: Place, reply: Reply) -> Course
+        ensures course { turn_of result
+            ≡ turn_at self.old.left self.old.stage (Some (told_reply place reply)) }
+        ensures possible { IsPossible self.old.left result }
+        ensures after { self.new ≡ record self.old { stage = stage.Compose } }
+    {
+        match mem::replace(&mut self.stage, Stage::Compose) {
+            Stage::Compose => Course::BeginsAgain,
+            Stage::Round(_) => match self.draft.take() {
+                Some(draft) => after_lookup(draft, place, reply),
+                None => unreachable!(),
+            },
+            Stage::Act { chain: _, op } => after_act(&op, place, reply),
+        }
+    }
+
+    fn follow(&mut self, course: Course)
+        requires { IsPossible self.old.left course }
+        ensures { self.new ≡ turned (turn_of course) self.old }
+    {
+        match course {
+            Course::GoesOn(next) => self.go_on(next),
+            Course::Ends(answer, place) => self.end(answer, place),
+            Course::BeginsAgain => self.begin_again(),
+        }
+    }
+
+    /// The answers to the group, of which none is left to come, and none is kept.
+    fn take_told(&mut self) -> Option<Telling>
+        ensures told { result ≡ first_told self.old.sent }
+        ensures after { self.new ≡ record self.old { sent = [] } }
+    {
+        take_first_told(&mut self.sent)
+    }
+
+    /// The group is over.
+    #[tactic(auto, using(crate::proofs::TurnFacts::turned_afresh, crate::proofs::TurnFacts::turned_emptied))]
+    fn turn(&mut self)
+        ensures { self.new ≡ settled true self.old }
+    {
+        match self.take_told() {
+            None => self.begin_again(),
+            Some(told) => {
+                let (place, reply) = told.into_parts();
+                let course = self.take_course(place, reply);
+                self.follow(course);
+            }
+        }
+    }
+
+    fn is_complete(&self) -> bool
+        ensures { result ≡ is_complete self.now }
+    {
+        self.sent.len() == group_size(&self.stage) && are_told(self.sent.as_slice())
+    }
+
+    #[tactic(auto, using(crate::proofs::SendingFacts::apart_told))]
+    fn record(&mut self, ask_place: Place, told: Telling)
+        ensures { self.new ≡ recorded ask_place told self.old }
+    {
+        self.counts.count_serve(told.serve_place());
+        record_answer(&mut self.sent, ask_place, told);
+    }
+
+    /// The Ask at a place was served. Only an Ask of the present group is waited for.
+    pub fn told(&mut self, ask_place: Place, serve_place: Place, reply: Reply)
+        ensures { self.new ≡ served ask_place (told_reply serve_place reply) self.old }
+    {
+        if !has_place(self.sent.as_slice(), ask_place) {
+            return;
+        }
+        self.record(ask_place, Telling::new(serve_place, reply));
+        if self.is_complete() {
+            self.turn();
+        }
     }
 }

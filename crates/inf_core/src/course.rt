@@ -1,7 +1,7 @@
 //! What comes of the answer to a group.
 
 ghost use Rattle.std.specs.Prelude.{◌≡◌, Some};
-ghost use Rattle.inf_core.specs.Course.{turn_of};
+ghost use Rattle.inf_core.specs.Course.{HasNoRound, turn_of};
 ghost use Rattle.inf_core.specs.Turn.{after_act, after_lookup, success_of, unless_success};
 
 use crate::draft::Draft;
@@ -21,7 +21,8 @@ pub enum Course {
 
 /// What comes of the answer to the lookup of the root, where the deciding message is drafted.
 pub fn after_lookup(draft: Draft, place: Place, reply: Reply) -> Course
-    ensures { turn_of result ≡ after_lookup (Some draft) place reply }
+    ensures turn { turn_of result ≡ after_lookup (Some draft) place reply }
+    ensures no_round { HasNoRound result }
 {
     match reply {
         Reply::Found { key, access } => Course::GoesOn(draft.with_entry(key, access, place)),
@@ -51,7 +52,8 @@ fn success_of(op: &Op, reply: &Reply) -> Option<Answer>
 }
 
 fn unless_success(success: Option<Answer>, place: Place, reply: Reply) -> Course
-    ensures { turn_of result ≡ unless_success success place reply }
+    ensures turn { turn_of result ≡ unless_success success place reply }
+    ensures no_round { HasNoRound result }
 {
     match success {
         Some(answer) => Course::Ends(answer, Some(place)),
@@ -66,7 +68,8 @@ fn unless_success(success: Option<Answer>, place: Place, reply: Reply) -> Course
 
 /// What comes of the answer to the deciding message.
 pub fn after_act(op: &Op, place: Place, reply: Reply) -> Course
-    ensures { turn_of result ≡ after_act op.now place reply }
+    ensures turn { turn_of result ≡ after_act op.now place reply }
+    ensures no_round { HasNoRound result }
 {
     unless_success(success_of(op, &reply), place, reply)
 }

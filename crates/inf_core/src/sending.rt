@@ -84,7 +84,8 @@ fn index_of(sent: &[Sending], place: Place) -> Option<usize>
 /// Keeps the answer of the Ask at this place.
 pub fn record_answer(sent: &mut Vec<Sending>, place: Place, told: Telling)
     requires { AreApart sent.old.items }
-    ensures { sent.new.items ≡ map (told_at place told) sent.old.items }
+    ensures told { sent.new.items ≡ map (told_at place told) sent.old.items }
+    ensures capacity { vec_capacity sent.new ≡ vec_capacity sent.old }
 {
     if let Some(index) = index_of(sent.as_slice(), place) {
         let sending = &mut sent[index];

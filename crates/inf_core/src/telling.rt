@@ -28,6 +28,12 @@ impl Telling {
         Telling { serve_place, reply }
     }
 
+    pub fn serve_place(&self) -> Place
+        ensures { result ≡ self.now.serve_place }
+    {
+        self.serve_place
+    }
+
     pub fn into_parts(self) -> (Place, Reply)
         ensures place { result.0 ≡ self.serve_place }
         ensures reply { result.1 ≡ self.reply }
