@@ -5,3 +5,4 @@ pub mod MessageFacts
 pub mod PathFacts
 pub mod SendingFacts
 pub mod TurnFacts
+pub mod BegunFacts

@@ -1,9 +1,10 @@
 //! A client: the call under way, what it asked for it and was told, and the results so far.
 
-ghost use Rattle.std.specs.Prelude.{◌≡◌, ◌+◌, ◌-◌, ◌<◌, ◌≤◌, ◌^◌, ◌↔◌, [], true, false, length, slice_get, Some, None, IfOk, OnOk, OnErr, IsTrue};
+ghost use Rattle.std.specs.Prelude.{◌≡◌, ◌+◌, ◌-◌, ◌<◌, ◌≤◌, ◌^◌, ◌≢◌, ◌↔◌, ◌∷◌, [], true, false, length, drop, slice_get, Some, None, IfOk, OnOk, OnErr, IsTrue};
 ghost use Rattle.std.specs.Option.{option_copied};
 ghost use Rattle.inf_base.specs.declared.answer.Answer.TheVariants as answer;
 ghost use Rattle.inf_base.specs.declared.limits.TheConstants.{MOST_CALLS};
+ghost use Rattle.inf_base.specs.declared.key.LookKey.TheVariants as look;
 ghost use Rattle.inf_base.specs.Setup.{call_count};
 ghost use Rattle.inf_core.specs.Client.{ended, has_place, is_round, placed, start};
 ghost use Rattle.inf_core.specs.Course.{IsPossible, turn_of};
@@ -197,4 +198,99 @@ impl ClientMachine {
             self.turn();
         }
     }
+
+    fn number(&self) -> u32
+        ensures number { result ≡ self.now.number }
+        ensures numbered { self.now.number + length self.now.left ≤ MOST_CALLS + 1 }
+    {
+        let _ = &self.sent;
+        self.number
+    }
+
+    fn call_at(&self, index: usize) -> Option<&Call>
+        ensures { option_copied result ≡ slice_get self.now.left index }
+    {
+        self.left.get(index)
+    }
+
+    /// The call of this number, where the calls before it are given up.
+    fn reached(&self, number: u32) -> Reached
+        ensures place { at_call number self.now.left self.now
+            ≡ settled_at result.is_found (ended_times result.given_up self.now) }
+        ensures within { result.given_up ≤ length self.now.left }
+        ensures found { result.is_found ≡ true → result.given_up < length self.now.left }
+        ensures number { result.is_found ≡ true → number ≡ self.now.number + result.given_up }
+        ensures missed { result.is_found ≡ false → result.given_up ≡ 0 → 0 < length self.now.left
+            → number ≢ self.now.number }
+    {
+        let first = self.number();
+        let mut given_up = 0;
+        let mut skipped = 0;
+        while let Some(call) = self.call_at(given_up + skipped) {
+            if number == first + given_up as u32 {
+                return Reached {
+                    given_up,
+                    is_found: true,
+                };
+            }
+            if has_op(call) {
+                given_up += 1;
+            } else {
+                skipped += 1;
+            }
+        }
+        Reached {
+            given_up,
+            is_found: false,
+        }
+    }
+
+    /// Gives up so many calls.
+    fn give_up(&mut self, count: usize)
+        requires { count ≤ length self.old.left }
+        ensures after { self.new ≡ ended_times count self.old }
+        ensures between { self.old.sent ≡ [] → self.new.sent ≡ [] }
+    {
+        for _ in 0..count {
+            self.end(Answer::NoMemory, None);
+        }
+    }
+
+    /// What an attempt at a call that is left begins with.
+    fn opening_at(&self, alloc: Global, index: usize) -> Result<Option<Opening>, NoMemory>
+        ensures { IfOk result (λ opening. opening ≡ next_op (drop index self.now.left)) }
+    {
+        match self.call_at(index) {
+            Some(call) => Opening::of(alloc, call),
+            None => Ok(None),
+        }
+    }
+
+    fn open(&mut self, opening: Opening)
+        requires call { next_op self.old.left ≡ Some opening }
+        requires left { 0 < length self.old.left }
+        ensures { self.new ≡ record self.old { stage = stage.Round (look.Top ∷ []) } }
+    {
+        let (stage, draft) = opening.into_parts();
+        self.stage = stage;
+        self.draft = Some(draft);
+    }
+
+    /// The attempt begins with what was made ready for it.
+    #[tactic(auto, using(crate::proofs::BegunFacts::opens, crate::proofs::BegunFacts::opens_nothing, crate::proofs::BegunFacts::some_call))]
+    fn compose(&mut self, opening: Option<Opening>)
+        requires stage { is_compose self.old.stage ≡ true }
+        requires opening { opening ≡ next_op self.old.left }
+        ensures { self.new ≡ composed self.old }
+    {
+        if let Some(opening) = opening {
+            self.open(opening);
+        }
+    }
+}
+
+/// How many calls are given up before the one that is looked for, and whether that one is left.
+struct Reached {
+    given_up: usize,
+    is_found: bool,
 }
