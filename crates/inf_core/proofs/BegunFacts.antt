@@ -13,6 +13,7 @@ use Rattle.inf_core.specs.Messages.{is_compose}
 use Rattle.inf_core.specs.Turn.{next_op}
 use Rattle.inf_core.specs.declared.stage.Stage.{Stage}
 use Rattle.inf_core.specs.declared.stage.Stage.TheVariants as stage
+use Rattle.inf_message.specs.declared.ask.Ask.{Ask}
 use Rattle.inf_message.specs.declared.op.Op.{Op}
 
 pub first_stage_is : (left : List Call) (s : Stage) → is_compose s ≡ true → composed_stage left s ≡ first_round (next_op left)
@@ -140,3 +141,51 @@ passes_over number given_up skipped s call at way unlike other =
       same = rw more (sym (on_call number given_up skipped s call at way ∙ rw (elsewhere, other) refl));
       passed = λ some none same. unlike (omega arith);
     }
+
+-- ---- the end of the walk
+
+past_all : {X : Type 0} (xs : List X) (i : ℕ) → slice_get xs i ≡ None → length xs ≤ i
+past_all [] i none = omega arith
+past_all (x ∷ xs) zero none = absurd (cc)
+past_all (x ∷ xs) (suc i) none = let past = past_all xs i none in omega arith
+
+pub passed_all : (number given_up skipped : ℕ) (s : Client) → slice_get s.left (given_up + skipped) ≡ None → IsOnTheWay number s given_up skipped → given_up ≡ 0 → 0 < length s.left → number ≢ s.number
+passed_all number given_up skipped s at way none some =
+    let past = past_all s.left _ at in way.passed (omega arith) none
+
+-- ---- where an ask finds the client
+
+settled_stage : (left : List Call) (x : Stage) → is_compose x ≡ false → x ≡ composed_stage left x
+settled_stage left stage.Compose settled = absurd (cc)
+settled_stage left (stage.Round keys) settled = refl
+settled_stage left (stage.Act chain op) settled = refl
+
+pub stays_composed : (s : Client) → is_compose s.stage ≡ false → s ≡ composed s
+stays_composed s settled = same_stage s (composed_stage s.left s.stage) (settled_stage s.left s.stage settled)
+
+pub times_compose : (k : ℕ) (s : Client) → (k ≡ 0 → is_compose s.stage ≡ true) → is_compose (ended_times k s).stage ≡ true
+times_compose zero s open_still = open_still refl
+times_compose (suc k) s open_still = refl
+
+pub begun_between : (ask : Ask) (s : Client) → s.sent ≡ [] → at_call ask.from.number s.left s ≡ begun ask s.sent s
+begun_between ask s none = subst (λ xs. at_call ask.from.number s.left s ≡ begun ask xs s) (sym none) refl
+
+begun_with : (ask : Ask) (xs : List Sent) (s : Client) → (xs ≡ [] → ⊥) → s ≡ begun ask xs s
+begun_with ask [] s some = absurd (some refl)
+begun_with ask (x ∷ xs) s some = refl
+
+pub begun_inside : (ask : Ask) (s : Client) → (s.sent ≡ [] → ⊥) → s ≡ begun ask s.sent s
+begun_inside ask s some = begun_with ask s.sent s some
+
+either : {A : Type 0} (P : A → Type 0) (b : Bool) (x y : A) → P x → P y → P (cond b x y)
+either P true x y here there = here
+either P false x y here there = there
+
+-- a call that is taken up has sent no more than before
+pub at_call_messages : (number : ℕ) (calls : List Call) (s : Client) → (at_call number calls s).counts.messages ≤ s.counts.messages
+at_call_messages number [] s = omega arith
+at_call_messages number (next ∷ calls) s =
+    let P : Client → Type 0 = λ t. t.counts.messages ≤ s.counts.messages in
+    let wanting : P (wants s (Some next)) = either P (is_some (op_of next)) (ended answer.NoMemory None s) s (omega arith) (omega arith) in
+    let later = at_call_messages number calls (wants s (Some next)) in
+    either P (eqb number s.number) (composed s) (at_call number calls (wants s (Some next))) (omega arith) (omega arith)

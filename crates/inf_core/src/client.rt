@@ -1,6 +1,6 @@
 //! A client: the call under way, what it asked for it and was told, and the results so far.
 
-ghost use Rattle.std.specs.Prelude.{◌≡◌, ◌+◌, ◌-◌, ◌<◌, ◌≤◌, ◌^◌, ◌≢◌, ◌↔◌, ◌∷◌, [], true, false, length, drop, slice_get, Some, None, IfOk, OnOk, OnErr, IsTrue};
+ghost use Rattle.std.specs.Prelude.{◌≡◌, ◌+◌, ◌-◌, ◌<◌, ◌≤◌, ◌^◌, ◌≢◌, ◌↔◌, ◌∷◌, [], true, false, length, drop, slice_get, Some, None, IfOk, OnOk, OnErr, IsOk, IsTrue};
 ghost use Rattle.std.specs.Option.{option_copied};
 ghost use Rattle.inf_base.specs.declared.answer.Answer.TheVariants as answer;
 ghost use Rattle.inf_base.specs.declared.limits.TheConstants.{MOST_CALLS};
@@ -287,9 +287,67 @@ impl ClientMachine {
             self.open(opening);
         }
     }
+
+    /// The ask finds the client between two groups.
+    #[tactic(auto, using(crate::proofs::BegunFacts::stays_composed, crate::proofs::BegunFacts::times_compose, crate::proofs::BegunFacts::times_left))]
+    fn begin(&mut self, alloc: Global, number: u32) -> Result<(), NoMemory>
+        requires { self.old.sent ≡ [] }
+        ensures ok { OnOk result (self.new ≡ at_call number self.old.left self.old) }
+        ensures err { OnErr result (self.new ≡ self.old) }
+        ensures between { OnOk result (self.new.sent ≡ []) }
+    {
+        let reached = self.reached(number);
+        if !reached.is_found {
+            self.give_up(reached.given_up);
+            return Ok(());
+        }
+        if reached.given_up == 0 && !is_compose(&self.stage) {
+            return Ok(());
+        }
+        let opening = self.opening_at(alloc, reached.given_up)?;
+        self.give_up(reached.given_up);
+        self.compose(opening);
+        Ok(())
+    }
+
+    /// An Ask more. It may take memory only where it is not the first of its group.
+    #[tactic(auto, using(crate::proofs::SendingFacts::apart_more))]
+    fn place(&mut self, place: Place) -> Result<(), NoMemory>
+        requires fresh { has_place place self.old.sent ≡ false }
+        requires room { self.old.counts.messages + 1 < 2 ^ 64 }
+        ensures ok { OnOk result (self.new ≡ placed place self.old) }
+        ensures err { OnErr result (self.new ≡ self.old) }
+        ensures first { self.old.sent ≡ [] → IsOk result }
+    {
+        let begins_round = is_round(&self.stage) && self.sent.is_empty();
+        self.sent.push(Sending::new(place))?;
+        self.counts.count_ask(place, begins_round);
+        Ok(())
+    }
+
+    fn is_between(&self) -> bool
+        ensures { IsTrue result ↔ (self.now.sent ≡ []) }
+    {
+        self.sent.is_empty()
+    }
+
+    /// The client has made an Ask at this place. Places tell Asks apart.
+    #[tactic(auto, using(crate::proofs::BegunFacts::begun_between, crate::proofs::BegunFacts::begun_inside, crate::proofs::BegunFacts::at_call_messages))]
+    pub fn asked(&mut self, alloc: Global, place: Place, ask: &Ask) -> Result<(), NoMemory>
+        requires fresh { has_place place self.old.sent ≡ false }
+        requires room { self.old.counts.messages + 1 < 2 ^ 64 }
+        ensures ok { OnOk result (self.new ≡ asked place ask.now self.old) }
+        ensures err { OnErr result (self.new ≡ self.old) }
+    {
+        if self.is_between() {
+            self.begin(alloc, ask.from.number)?;
+        }
+        self.place(place)
+    }
 }
 
 /// How many calls are given up before the one that is looked for, and whether that one is left.
+#[derive(Clone, Copy)]
 struct Reached {
     given_up: usize,
     is_found: bool,
