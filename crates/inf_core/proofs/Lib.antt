@@ -6,3 +6,4 @@ pub mod PathFacts
 pub mod SendingFacts
 pub mod TurnFacts
 pub mod BegunFacts
+pub mod NextFacts

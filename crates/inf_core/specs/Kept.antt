@@ -4,7 +4,10 @@ use Rattle.inf_base.specs.declared.answer.Answer.{Answer}
 use Rattle.inf_base.specs.declared.answer.Answer.TheVariants as answer
 use Rattle.inf_base.specs.declared.call.Call.{Call}
 use Rattle.inf_base.specs.declared.limits.TheConstants.{MOST_CALLS}
-use Rattle.inf_core.specs.Client.{Client, Sent, ended, result_of}
+use Rattle.inf_base.specs.declared.id.Id.{Id}
+use Rattle.inf_base.specs.declared.setup.Setup.{Setup}
+use Rattle.inf_core.specs.World.{World}
+use Rattle.inf_core.specs.Client.{Client, Sent, Who, ended, no_counts, result_of}
 use Rattle.inf_core.specs.Group.{composed}
 use Rattle.inf_core.specs.Sending.{AreApart}
 use Rattle.inf_core.specs.Turn.{next_op}
@@ -43,3 +46,11 @@ ended_times (suc count) s = ended answer.NoMemory None (ended_times count s)
 abbrev pub settled_at : Bool → Client → Client
 settled_at true s = composed s
 settled_at false s = s
+
+-- a client before its first Ask
+abbrev pub idle_as : Who → List Call → Client
+idle_as who calls = record { who = who; number = 1; left = calls; stage = stage.Compose; sent = []; counts = no_counts; results = [] }
+
+-- what a run rests on, where identifiers are made so
+abbrev pub world_by : (List ℕ → Id) → Setup → World
+world_by digest setup = record { setup = setup; digest = digest }

@@ -8,9 +8,9 @@ ghost use Rattle.inf_base.specs.declared.key.LookKey.TheVariants as look;
 ghost use Rattle.inf_base.specs.Setup.{call_count};
 ghost use Rattle.inf_core.specs.Client.{ended, has_place, is_round, placed, start};
 ghost use Rattle.inf_core.specs.Course.{IsPossible, turn_of};
-ghost use Rattle.inf_core.specs.Duty.{Duty, asked, at_call, begun};
+ghost use Rattle.inf_core.specs.Duty.{Duty, asked, asks, at_call, begun, next_step};
 ghost use Rattle.inf_core.specs.Group.{composed};
-ghost use Rattle.inf_core.specs.Kept.{ended_result, ended_times, settled_at};
+ghost use Rattle.inf_core.specs.Kept.{ended_result, ended_times, idle_as, settled_at, world_by};
 ghost use Rattle.inf_core.specs.Messages.{is_compose, message};
 ghost use Rattle.inf_core.specs.Turn.{begins_again, first_told, goes_on, is_complete, next_op, recorded, served, settled, turn_at, turned};
 ghost use Rattle.inf_core.specs.declared.stage.Stage.TheVariants as stage;
@@ -25,7 +25,10 @@ use crate::sending::{Sending, are_told, has_place, record_answer, take_first_tol
 use crate::stage::Stage;
 use crate::tally::Tally;
 use crate::telling::Telling;
-use inf_base::{Answer, Call, CallRef, NoMemory, Place};
+use inf_base::{
+    Answer, Call, CallRef, Caller, ClientLine, LookKey, NoMemory, Place, Setup, Triple, TryClone,
+};
+use inf_birth::{IdRule, identify};
 use inf_message::{Ask, CallResult, Reply};
 use std::alloc::Global;
 use std::collections::VecDeque;
@@ -69,6 +72,51 @@ impl Model for ClientMachine {
 }
 
 impl ClientMachine {
+    /// The client of this number before its first Ask. A client that the setup does not have calls nothing.
+    pub fn start<R: IdRule>(
+        alloc: Global,
+        rule: &R,
+        setup: &Setup,
+        client: u32,
+    ) -> Result<Self, NoMemory>
+        requires some_servers { 1 ≤ setup.now.servers }
+        requires few_calls { call_count setup.now.clients ≤ MOST_CALLS }
+        ensures { IfOk result (λ made. made ≡ start (world_by (R.digest_of rule.now) setup.now) client) }
+    {
+        let root = identify(alloc, rule, &Triple::Root)?;
+        match line_of(setup, client) {
+            Some(line) => ClientMachine::idle(
+                alloc,
+                Party::new(client, line.caller, setup.servers, root),
+                line.calls.as_slice(),
+            ),
+            None => ClientMachine::idle(
+                alloc,
+                Party::new(client, NOBODY, setup.servers, root),
+                &[],
+            ),
+        }
+    }
+
+    fn idle(alloc: Global, party: Party, calls: &[Call]) -> Result<Self, NoMemory>
+        requires { length calls.now ≤ MOST_CALLS }
+        ensures { IfOk result (λ made. made ≡ idle_as party calls.now) }
+    {
+        let left = copied(alloc, calls)?;
+        let sent = Vec::with_capacity(alloc, 1)?;
+        let results = Vec::with_capacity(alloc, calls.len())?;
+        Ok(ClientMachine {
+            party,
+            number: 1,
+            left,
+            stage: Stage::Compose,
+            draft: None,
+            sent,
+            counts: Tally::new(),
+            results,
+        })
+    }
+
     /// The result of the call under way, were it to end so.
     fn result_of(&self, answer: Answer, place: Option<Place>) -> CallResult
         ensures { result ≡ ended_result answer place self.now }
@@ -344,6 +392,99 @@ impl ClientMachine {
         }
         self.place(place)
     }
+
+    /// Whether the ask names this client, and its caller.
+    fn is_own(&self, ask: &Ask) -> bool
+        ensures { IsTrue result
+            ↔ ((ask.now.from.client ≡ self.now.who.client) × (ask.now.caller ≡ self.now.who.caller)) }
+    {
+        ask.from.client == self.party.client() && ask.caller == self.party.caller()
+    }
+
+    /// Whether the ask is the next one of the group.
+    fn allows_next(&self, number: u32, ask: &Ask) -> bool
+        requires client { ask.now.from.client ≡ self.now.who.client }
+        requires caller { ask.now.caller ≡ self.now.who.caller }
+        ensures { IsTrue result ↔ (next_step self.now ≡ asks number ask.now) }
+    {
+        if ask.from.number != self.number {
+            return false;
+        }
+        if self.left.is_empty() {
+            return false;
+        }
+        is_message_at(&self.party, &self.stage, self.sent.len(), number, &ask.request)
+    }
+
+    /// Whether the ask is the first of an attempt at the call that is reached.
+    fn allows_opening(&self, given_up: usize, number: u32, ask: &Ask) -> bool
+        requires client { ask.now.from.client ≡ self.now.who.client }
+        requires caller { ask.now.caller ≡ self.now.who.caller }
+        requires number { ask.now.from.number ≡ self.now.number + given_up }
+        requires between { self.now.sent ≡ [] }
+        requires open { given_up ≡ 0 → is_compose self.now.stage ≡ true }
+        requires left { given_up < length self.now.left }
+        ensures { IsTrue result
+            ↔ (next_step (composed (ended_times given_up self.now)) ≡ asks number ask.now) }
+    {
+        let Some(call) = self.call_at(given_up) else {
+            unreachable!();
+        };
+        if !has_op(call) {
+            return false;
+        }
+        self.party.is_lookup(&LookKey::Top, number, &ask.request)
+    }
+
+    /// Whether the ask is one that the client may send between two groups.
+    fn allows_first(&self, number: u32, ask: &Ask) -> bool
+        requires client { ask.now.from.client ≡ self.now.who.client }
+        requires caller { ask.now.caller ≡ self.now.who.caller }
+        requires between { self.now.sent ≡ [] }
+        ensures { IsTrue result
+            ↔ (next_step (at_call ask.now.from.number self.now.left self.now) ≡ asks number ask.now) }
+    {
+        let reached = self.reached(ask.from.number);
+        if !reached.is_found {
+            return false;
+        }
+        if reached.given_up == 0 && !is_compose(&self.stage) {
+            return self.allows_next(number, ask);
+        }
+        self.allows_opening(reached.given_up, number, ask)
+    }
+
+    /// Whether the client may send this ask to the server of this number.
+    pub fn allows(&self, number: u32, ask: &Ask) -> bool
+        ensures { IsTrue result ↔ Duty self.now number ask.now }
+    {
+        if !self.is_own(ask) {
+            return false;
+        }
+        if self.is_between() {
+            return self.allows_first(number, ask);
+        }
+        self.allows_next(number, ask)
+    }
+}
+
+/// Whom a client calls for that the setup does not have.
+const NOBODY: Caller = Caller { uid: 0, gid: 0 };
+
+fn line_of(setup: &Setup, client: u32) -> Option<&ClientLine>
+    ensures { option_copied result ≡ slice_get setup.now.clients client }
+{
+    setup.clients.as_slice().get(client as usize)
+}
+
+fn copied(alloc: Global, calls: &[Call]) -> Result<VecDeque<Call>, NoMemory>
+    ensures { IfOk result (λ left. left.items ≡ calls.now) }
+{
+    let mut left = VecDeque::new(alloc);
+    for call in calls {
+        left.push_back(call.try_clone(alloc)?)?;
+    }
+    Ok(left)
 }
 
 /// How many calls are given up before the one that is looked for, and whether that one is left.
