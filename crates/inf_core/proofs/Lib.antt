@@ -7,3 +7,4 @@ pub mod SendingFacts
 pub mod TurnFacts
 pub mod BegunFacts
 pub mod NextFacts
+pub mod StartFacts
