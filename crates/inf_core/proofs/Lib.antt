@@ -8,3 +8,4 @@ pub mod TurnFacts
 pub mod BegunFacts
 pub mod NextFacts
 pub mod StartFacts
+pub mod OwnFacts

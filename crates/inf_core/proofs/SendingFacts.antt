@@ -61,7 +61,7 @@ or_second : (b rest : Bool) → b || rest ≡ false → rest ≡ false
 or_second true rest none = absurd (cc)
 or_second false rest none = none
 
-none_in_more : (place p : ℕ) (xs : List Sent) → has_place p xs ≡ false → eqb place p ≡ false → has_place p (xs ++ new_sent place ∷ []) ≡ false
+pub none_in_more : (place p : ℕ) (xs : List Sent) → has_place p xs ≡ false → eqb place p ≡ false → has_place p (xs ++ new_sent place ∷ []) ≡ false
 none_in_more place p xs none unlike = list_any-append (at p) xs (new_sent place ∷ []) ∙ rw (none, unlike) refl
 
 -- an Ask more, at a place of its own

@@ -14,3 +14,4 @@ pub mod Sending
 pub mod Tally
 pub mod Course
 pub mod Kept
+pub mod Own

@@ -1,6 +1,7 @@
 //! The one place where events join the history: asks under the client's duty, serves by the server's machine.
 #![tactic(auto)]
 
+mod allow;
 mod call_op;
 mod client;
 mod course;
@@ -8,6 +9,7 @@ mod draft;
 mod examples;
 mod group;
 mod order;
+mod own;
 mod party;
 mod path;
 mod sending;
@@ -15,6 +17,9 @@ mod stage;
 mod tally;
 mod telling;
 
+pub use allow::{allowed, are_in_order};
+pub use client::ClientMachine;
 pub use examples::{next_asks, outcomes, replies, wanting};
 pub use order::outcomes_are_decided;
+pub use own::OwnAsk;
 pub use stage::{LookKeys, Stage};
