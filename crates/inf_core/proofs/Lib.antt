@@ -14,3 +14,11 @@ pub mod ServeLookup
 pub mod ServeOwes
 pub mod ServeReplays
 pub mod ServeStat
+pub mod MessageFacts
+pub mod PathFacts
+pub mod SendingFacts
+pub mod TurnFacts
+pub mod BegunFacts
+pub mod NextFacts
+pub mod StartFacts
+pub mod OwnFacts

@@ -10,3 +10,10 @@ pub mod Flight
 pub mod Decisions
 pub mod Examples
 pub mod Steps
+pub mod Paths
+pub mod Messages
+pub mod Sending
+pub mod Tally
+pub mod Course
+pub mod Kept
+pub mod Own

@@ -1,14 +1,29 @@
 //! The one place where events join the history: asks under the client's duty, serves by the server's machine.
 #![tactic(auto)]
 
+mod allow;
+mod call_op;
+mod client;
+mod course;
+mod draft;
 mod examples;
+mod group;
 mod history;
 mod laws;
+mod own;
+mod party;
+mod path;
+mod sending;
 mod stage;
+mod tally;
+mod telling;
 #[cfg(test)]
 mod tests;
 
+pub use allow::{allowed, are_in_order};
+pub use client::ClientMachine;
 pub use examples::{next_asks, outcomes, replies, wanting};
 pub use history::Core;
 pub use laws::{every_legal_history_replays, outcomes_are_decided, serves_replay};
+pub use own::OwnAsk;
 pub use stage::{LookKeys, Stage};

@@ -1,0 +1,56 @@
+-- What is kept true of a client in code, and words for what its parts do.
+use Rattle.std.specs.Prelude.{◌≡◌, ℕ, zero, suc, ◌+◌, ◌<◌, ◌≤◌, Bool, true, false, List, [], ◌∷◌, length, vec_len, vec_capacity, Option, Some, None}
+use Rattle.inf_base.specs.declared.answer.Answer.{Answer}
+use Rattle.inf_base.specs.declared.answer.Answer.TheVariants as answer
+use Rattle.inf_base.specs.declared.call.Call.{Call}
+use Rattle.inf_base.specs.declared.limits.TheConstants.{MOST_CALLS}
+use Rattle.inf_base.specs.declared.id.Id.{Id}
+use Rattle.inf_base.specs.declared.setup.Setup.{Setup}
+use Rattle.inf_core.specs.World.{World}
+use Rattle.inf_core.specs.Client.{Client, Sent, Who, ended, no_counts, result_of}
+use Rattle.inf_core.specs.Group.{composed}
+use Rattle.inf_core.specs.Sending.{AreApart}
+use Rattle.inf_core.specs.Turn.{next_op}
+use Rattle.inf_core.specs.declared.stage.Stage.{Stage}
+use Rattle.inf_core.specs.declared.stage.Stage.TheVariants as stage
+use Rattle.inf_message.specs.declared.call_result.CallResult.{CallResult}
+use Rattle.inf_message.specs.declared.op.Op.{Op}
+
+-- what is to follow a round was made ready; a group belongs to a call
+abbrev pub IsReady : List Call → Stage → Option Op → Type 0
+IsReady left stage.Compose draft = Unit {0}
+IsReady left (stage.Round keys) None = ⊥
+IsReady left (stage.Round keys) (Some op) = (next_op left ≡ Some op) × (0 < length left)
+IsReady left (stage.Act chain op) draft = 0 < length left
+
+pub record IsKept (number : ℕ) (left : List Call) (stage : Stage) (draft : Option Op) (sent : List Sent) (room : ℕ) (results capacity : ℕ) : Type 0 where
+  -- the numbers of the calls that are left fit
+  pub numbered : number + length left ≤ MOST_CALLS + 1
+  pub ready : IsReady left stage draft
+  -- the first Ask of a group takes no memory
+  pub first_fits : 0 < room
+  -- neither does a result
+  pub results_fit : results + length left ≤ capacity
+  pub apart : AreApart sent
+
+-- the result of the call under way, were it to end so
+abbrev pub ended_result : Answer → Option ℕ → Client → CallResult
+ended_result given place s = result_of given place s.counts.last s
+
+-- a client that gives up so many calls
+abbrev pub ended_times : ℕ → Client → Client
+ended_times zero s = s
+ended_times (suc count) s = ended answer.NoMemory None (ended_times count s)
+
+-- it takes up the call that it has come to, if that is the one looked for
+abbrev pub settled_at : Bool → Client → Client
+settled_at true s = composed s
+settled_at false s = s
+
+-- a client before its first Ask
+abbrev pub idle_as : Who → List Call → Client
+idle_as who calls = record { who = who; number = 1; left = calls; stage = stage.Compose; sent = []; counts = no_counts; results = [] }
+
+-- what a run rests on, where identifiers are made so
+abbrev pub world_by : (List ℕ → Id) → Setup → World
+world_by digest setup = record { setup = setup; digest = digest }

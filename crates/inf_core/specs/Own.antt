@@ -1,0 +1,30 @@
+-- A client by its own Asks, in the order of asking, each with its answer if it was served.
+use Rattle.std.specs.Prelude.{◌≡◌, ℕ, Bool, true, ◌&&◌, nat_lt, List, [], ◌∷◌, fold, Option, Some, None}
+use Rattle.inf_core.specs.Client.{Client, start}
+use Rattle.inf_core.specs.Duty.{asked}
+use Rattle.inf_core.specs.Turn.{served}
+use Rattle.inf_core.specs.World.{World}
+use Rattle.inf_core.specs.declared.own.OwnAsk.{OwnAsk}
+use Rattle.inf_message.specs.declared.reply.Reply.{Reply}
+use Rattle.inf_message.specs.History.{told_reply}
+
+-- the client once an Ask was answered, if it was
+abbrev pub after_answer : ℕ → Option (ℕ × Reply) → Client → Client
+after_answer ask_place None s = s
+after_answer ask_place (Some told) s = served ask_place (told_reply told.0 told.1) s
+
+-- the client once it has made an Ask, and knows the answer
+abbrev pub after_own : Client → OwnAsk → Client
+after_own s own = after_answer own.ask_place own.told (asked own.ask_place own.ask s)
+
+-- the state of a client by its own Asks
+abbrev pub client_of : World → ℕ → List OwnAsk → Client
+client_of world client own = fold after_own (start world client) own
+
+abbrev pub rises_from : ℕ → List OwnAsk → Bool
+rises_from last [] = true
+rises_from last (own ∷ later) = nat_lt last own.ask_place && rises_from own.ask_place later
+
+-- the Asks stand in the order of asking; places count from 1
+abbrev pub AreInOrder : List OwnAsk → Type 0
+AreInOrder own = rises_from 0 own ≡ true
