@@ -21,5 +21,5 @@ pub use allow::{allowed, are_in_order};
 pub use client::ClientMachine;
 pub use examples::{next_asks, outcomes, replies, wanting};
 pub use order::outcomes_are_decided;
-pub use own::OwnAsk;
+pub use own::{OwnAsk, own_asks_show_the_client};
 pub use stage::{LookKeys, Stage};
