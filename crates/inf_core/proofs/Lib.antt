@@ -22,3 +22,4 @@ pub mod BegunFacts
 pub mod NextFacts
 pub mod StartFacts
 pub mod OwnFacts
+pub mod OwnHistory

@@ -47,13 +47,13 @@ of_decides s number ask same None own decided = Decides-like same (λ e. absurd 
 of_decides s number ask same (Some m) own decided =
     Decides-like same
     (λ e.
-      let is : m ≡ message number ask.request = cc in
-      ap₂ asks (ap (λ (x : Message). x.number) is)
-      (same_ask s.who.client ask.from.client s.number ask.from.number s.who.caller ask.caller m.request ask.request
-        (sym own.client_is) (sym own.number_is) (sym own.caller_is) (ap (λ (x : Message). x.request) is)))
+    let is : m ≡ message number ask.request = cc in
+    ap₂ asks (ap (λ (x : Message). x.number) is)
+    (same_ask s.who.client ask.from.client s.number ask.from.number s.who.caller ask.caller m.request ask.request
+    (sym own.client_is) (sym own.number_is) (sym own.caller_is) (ap (λ (x : Message). x.request) is)))
     (λ e.
-      ap Some (same_message m.number number m.request ask.request (number_in _ _ _ _ e)
-        (ap (λ (x : Ask). x.request) (ask_in m.number number (ask_of s m.request) ask e))))
+    ap Some (same_message m.number number m.request ask.request (number_in _ _ _ _ e)
+    (ap (λ (x : Ask). x.request) (ask_in m.number number (ask_of s m.request) ask e))))
     decided
 
 next_in_some : (s : Client) (left : List Call) → 0 < length left → next_in s left ≡ next_of s (slice_get (group s.who s.stage) (length s.sent))

@@ -131,9 +131,9 @@ follows_more before now next own count made ordered followed within is after =
       same = ap (λ s. after_own s made) followed.same ∙ ap (after_own (fold after_own before (take count own))) is ∙ sym (fold_more after_own before own count made within);
       took = answer_took (count + 1) made.ask_place made.told (asked made.ask_place made.ask now) (asked_took count made.ask_place made.ask now followed.took);
       to_come = λ i d past inside.
-        own_new (get_or own i d).ask_place made now
-        (subst (λ (x : OwnAsk). x.ask_place ≢ (get_or own i d).ask_place) (sym (is ∙ get_or_default own count made d within)) (rises_apart 0 own count i d ordered (omega arith) inside))
-        (followed.to_come i d (omega arith) inside);
+          own_new (get_or own i d).ask_place made now
+          (subst (λ (x : OwnAsk). x.ask_place ≢ (get_or own i d).ask_place) (sym (is ∙ get_or_default own count made d within)) (rises_apart 0 own count i d ordered (omega arith) inside))
+          (followed.to_come i d (omega arith) inside);
     })
 
 -- the next Ask stands at a place of its own

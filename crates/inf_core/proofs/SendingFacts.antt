@@ -67,9 +67,10 @@ none_in_more place p xs none unlike = list_any-append (at p) xs (new_sent place 
 -- an Ask more, at a place of its own
 pub apart_more : (place : ℕ) (xs : List Sent) → has_place place xs ≡ false → AreApart xs → AreApart (xs ++ new_sent place ∷ [])
 apart_more place [] none apart = (refl, tt)
-apart_more place (x ∷ xs) none apart =
-    (none_in_more place x.place xs apart.0 (apart_step x.place place (eqb x.place place) _ refl none),
-      apart_more place xs (or_second (eqb x.place place) _ none) apart.1)
+apart_more place (x ∷ xs) none apart = (
+  none_in_more place x.place xs apart.0 (apart_step x.place place (eqb x.place place) _ refl none),
+  apart_more place xs (or_second (eqb x.place place) _ none) apart.1,
+)
 
 same_places_step : (place : ℕ) (told : Told) (p : ℕ) (y : Sent) (b : Bool) → (cond b (told_more told y) y).place ≡ y.place
 same_places_step place told p y true = refl
@@ -83,7 +84,8 @@ same_places place told p (y ∷ ys) =
 -- answers leave the places
 pub apart_told : (place : ℕ) (told : Told) (xs : List Sent) → AreApart xs → AreApart (map (told_at place told) xs)
 apart_told place told [] apart = tt
-apart_told place told (y ∷ ys) apart =
-    (ap (λ q. has_place q (map (told_at place told) ys)) (same_places_step place told 0 y (eqb y.place place))
+apart_told place told (y ∷ ys) apart = (
+  ap (λ q. has_place q (map (told_at place told) ys)) (same_places_step place told 0 y (eqb y.place place))
       ∙ same_places place told y.place ys ∙ apart.0,
-      apart_told place told ys apart.1)
+  apart_told place told ys apart.1,
+)

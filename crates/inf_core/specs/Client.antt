@@ -60,7 +60,12 @@ nobody = record { uid = 0; gid = 0 }
 abbrev pub idle : World → ℕ → Caller → List Call → Client
 idle world client caller calls = record {
   who = record { client = client; caller = caller; servers = world.setup.servers; root = root_of world };
-  number = 1; left = calls; stage = stage.Compose; sent = []; counts = no_counts; results = []
+  number = 1;
+  left = calls;
+  stage = stage.Compose;
+  sent = [];
+  counts = no_counts;
+  results = [];
 }
 
 abbrev pub starting : World → ℕ → Option ClientLine → Client
@@ -76,8 +81,14 @@ call_ref s = record { client = s.who.client; number = s.number }
 -- the result of the call under way, were it to end so
 abbrev pub result_of : Answer → Option ℕ → Option ℕ → Client → CallResult
 result_of given place last s = record {
-  call = call_ref s; answer = given; place = place; first = s.counts.first; last = last;
-  attempts = s.counts.attempts; rounds = s.counts.rounds; messages = s.counts.messages
+  call = call_ref s;
+  answer = given;
+  place = place;
+  first = s.counts.first;
+  last = last;
+  attempts = s.counts.attempts;
+  rounds = s.counts.rounds;
+  messages = s.counts.messages;
 }
 
 abbrev pub rest_of : List Call → List Call
@@ -87,8 +98,12 @@ rest_of (call ∷ calls) = calls
 -- the call under way has ended, and the next one is under way
 abbrev pub ended : Answer → Option ℕ → Client → Client
 ended given place s = record s {
-  number = s.number + 1; left = rest_of s.left; stage = stage.Compose; sent = []; counts = no_counts;
-  results = s.results ++ result_of given place s.counts.last s ∷ []
+  number = s.number + 1;
+  left = rest_of s.left;
+  stage = stage.Compose;
+  sent = [];
+  counts = no_counts;
+  results = s.results ++ result_of given place s.counts.last s ∷ [];
 }
 
 -- ---- the Asks of the present group
@@ -123,10 +138,12 @@ is_first (x ∷ xs) = false
 -- an Ask more: the first of an attempt counts the attempt, the first of a round the round
 abbrev pub counted : ℕ → Client → Counts
 counted place s = record {
-  first = first_place s.counts.first place; last = s.counts.last;
+  first = first_place s.counts.first place;
+  last = s.counts.last;
   attempts = s.counts.attempts + one_if (not s.counts.is_begun);
   rounds = s.counts.rounds + one_if (is_round s.stage && is_first s.sent);
-  messages = s.counts.messages + 1; is_begun = true
+  messages = s.counts.messages + 1;
+  is_begun = true;
 }
 
 abbrev pub placed : ℕ → Client → Client

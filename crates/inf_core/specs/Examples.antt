@@ -42,10 +42,12 @@ line name calls = record { name = name; caller = root_caller; calls = calls }
 abbrev pub world : World
 world = record {
   setup = record {
-    servers = 2; digest_bytes = 32; cache = 256;
-    clients = line (codes "a") (call.Create (codes "/f") 0o644 ∷ []) ∷ line (codes "b") (call.Stat (codes "/f") ∷ []) ∷ []
+    servers = 2;
+    digest_bytes = 32;
+    cache = 256;
+    clients = line (codes "a") (call.Create (codes "/f") 0o644 ∷ []) ∷ line (codes "b") (call.Stat (codes "/f") ∷ []) ∷ [];
   };
-  digest = λ message. zero_id
+  digest = λ message. zero_id;
 }
 
 abbrev pub ask : ℕ → Request → Ask
@@ -89,8 +91,14 @@ first_events count = drop (8 - count) history
 
 abbrev pub result : ℕ → Answer → ℕ → ℕ → CallResult
 result client given place first = record {
-  call = record { client = client; number = 1 }; answer = given; place = Some place; first = Some first; last = Some place;
-  attempts = 1; rounds = 1; messages = 2
+  call = record { client = client; number = 1 };
+  answer = given;
+  place = Some place;
+  first = Some first;
+  last = Some place;
+  attempts = 1;
+  rounds = 1;
+  messages = 2;
 }
 
 abbrev pub results : List CallResult
@@ -99,8 +107,14 @@ results = result 0 answer.Done 8 1 ∷ result 1 (answer.Refused errno.ENOENT) 7 
 -- the stat of `b` before it is answered
 abbrev pub unanswered_stat : CallResult
 unanswered_stat = record {
-  call = record { client = 1; number = 1 }; answer = answer.Unanswered; place = None; first = Some 2; last = None;
-  attempts = 1; rounds = 1; messages = 2
+  call = record { client = 1; number = 1 };
+  answer = answer.Unanswered;
+  place = None;
+  first = Some 2;
+  last = None;
+  attempts = 1;
+  rounds = 1;
+  messages = 2;
 }
 
 abbrev pub decided : Call → Answer → Decided
@@ -118,6 +132,12 @@ second_ask request = record { from = record { client = 0; number = 2 }; caller =
 
 abbrev pub no_memory : CallResult
 no_memory = record {
-  call = record { client = 0; number = 1 }; answer = answer.NoMemory; place = None; first = None; last = None;
-  attempts = 0; rounds = 0; messages = 0
+  call = record { client = 0; number = 1 };
+  answer = answer.NoMemory;
+  place = None;
+  first = None;
+  last = None;
+  attempts = 0;
+  rounds = 0;
+  messages = 0;
 }

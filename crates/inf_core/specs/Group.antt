@@ -73,7 +73,8 @@ last_id who None = who.root
 
 abbrev pub finish_of : Who → List Entry → Op → Message
 finish_of who chain asked = record {
-  number = server_of (last_id who (slice_get chain (length chain - 1))) who.servers; request = request.Finish chain asked
+  number = server_of (last_id who (slice_get chain (length chain - 1))) who.servers;
+  request = request.Finish chain asked;
 }
 
 -- one round, or one message

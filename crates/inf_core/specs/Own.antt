@@ -1,12 +1,13 @@
 -- A client by its own Asks, in the order of asking, each with its answer if it was served.
-use Rattle.std.specs.Prelude.{◌≡◌, ℕ, Bool, true, ◌&&◌, nat_lt, List, [], ◌∷◌, fold, Option, Some, None}
+use Rattle.std.specs.Prelude.{◌≡◌, ℕ, Bool, true, ◌&&◌, nat_lt, List, [], ◌∷◌, fold, map, reverse, Option, Some, None}
 use Rattle.inf_core.specs.Client.{Client, start}
 use Rattle.inf_core.specs.Duty.{asked}
 use Rattle.inf_core.specs.Turn.{served}
 use Rattle.inf_core.specs.World.{World}
 use Rattle.inf_core.specs.declared.own.OwnAsk.{OwnAsk}
 use Rattle.inf_message.specs.declared.reply.Reply.{Reply}
-use Rattle.inf_message.specs.History.{told_reply}
+use Rattle.inf_message.specs.declared.event.Event.{Event}
+use Rattle.inf_message.specs.History.{Own, Told, asks_of, told_reply}
 
 -- the client once an Ask was answered, if it was
 abbrev pub after_answer : ℕ → Option (ℕ × Reply) → Client → Client
@@ -28,3 +29,14 @@ rises_from last (own ∷ later) = nat_lt last own.ask_place && rises_from own.as
 -- the Asks stand in the order of asking; places count from 1
 abbrev pub AreInOrder : List OwnAsk → Type 0
 AreInOrder own = rises_from 0 own ≡ true
+
+abbrev pub told_pair : Option Told → Option (ℕ × Reply)
+told_pair None = None
+told_pair (Some told) = Some (told.serve_place, told.reply)
+
+abbrev pub own_of : Own → OwnAsk
+own_of own = record { number = own.made.number; ask = own.made.ask; ask_place = own.made.ask_place; told = told_pair own.told }
+
+-- the Asks of a client in a history, the oldest first
+abbrev pub own_asks : ℕ → List Event → List OwnAsk
+own_asks client h = map own_of (reverse (asks_of client h))

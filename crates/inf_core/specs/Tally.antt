@@ -5,10 +5,12 @@ use Rattle.inf_core.specs.Client.{Counts, first_place, one_if}
 -- an Ask more
 abbrev pub with_ask : ℕ → Bool → Counts → Counts
 with_ask place begins_round c = record {
-  first = first_place c.first place; last = c.last;
+  first = first_place c.first place;
+  last = c.last;
   attempts = c.attempts + one_if (not c.is_begun);
   rounds = c.rounds + one_if begins_round;
-  messages = c.messages + 1; is_begun = true
+  messages = c.messages + 1;
+  is_begun = true;
 }
 
 -- a Serve more

@@ -58,13 +58,13 @@ impl Model for ClientMachine {
     ghost Value = { Client };
 
     ghost view = { λ c. record {
-        who = c.party;
-        number = c.number;
-        left = c.left.items;
-        stage = c.stage;
-        sent = c.sent.items;
-        counts = c.counts;
-        results = c.results.items;
+      who = c.party;
+      number = c.number;
+      left = c.left.items;
+      stage = c.stage;
+      sent = c.sent.items;
+      counts = c.counts;
+      results = c.results.items;
     } };
 
     ghost invariant = { λ c. IsKept c.number c.left.items c.stage c.draft c.sent.items (vec_capacity c.sent)
@@ -413,7 +413,13 @@ impl ClientMachine {
         if self.left.is_empty() {
             return false;
         }
-        is_message_at(&self.party, &self.stage, self.sent.len(), number, &ask.request)
+        is_message_at(
+            &self.party,
+            &self.stage,
+            self.sent.len(),
+            number,
+            &ask.request,
+        )
     }
 
     /// Whether the ask is the first of an attempt at the call that is reached.

@@ -28,8 +28,7 @@ pub fn next_asks()
     ensures stat { next_step (begun (example.ask 1 example.stat_f) (client_after example.world 1 (example.first_events 5)).sent
         (client_after example.world 1 (example.first_events 5))) ≡ asks 0 (example.ask 1 example.stat_f) }
     ensures over { next_step (client_after example.world 0 example.history) ≡ is_over }
-{
-}
+{}
 
 /// The replies of the server at the places of the run.
 pub fn replies()
@@ -41,8 +40,7 @@ pub fn replies()
         (example.ask 0 example.create_f)).reply ≡ reply.Fine }
     ensures present { (machine (site_of example.world 0) (server_after example.world 0 example.history) 9
         (example.ask 1 example.create_f)).reply ≡ reply.Refused errno.EEXIST }
-{
-}
+{}
 
 /// What the calls of the run came to, and the order in which they replay.
 pub fn outcomes()
@@ -52,8 +50,7 @@ pub fn outcomes()
     ensures order { decisions example.world example.history example.results ≡ example.decided_calls }
     ensures by_serves { decided_in example.world example.history ≡ example.decided_calls }
     ensures replays { Replays opening_tree example.decided_calls }
-{
-}
+{}
 
 /// A client that wants memory before its lookup gives its call up, and goes on to the next.
 pub fn wanting()
@@ -61,5 +58,4 @@ pub fn wanting()
         ≡ asks 0 (example.second_ask example.look_up_top) }
     ensures given_up { (begun (example.second_ask example.look_up_top) [] example.two_calls).results
         ≡ example.no_memory ∷ [] }
-{
-}
+{}

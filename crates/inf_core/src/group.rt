@@ -54,7 +54,13 @@ fn is_lookup_at(party: &Party, keys: &[LookKey], at: usize, number: u32, request
 }
 
 /// Whether the message of this position in the group is this request to this server.
-pub fn is_message_at(party: &Party, stage: &Stage, at: usize, number: u32, request: &Request) -> bool
+pub fn is_message_at(
+    party: &Party,
+    stage: &Stage,
+    at: usize,
+    number: u32,
+    request: &Request,
+) -> bool
     ensures { IsTrue result
         ↔ (slice_get (group party.now stage.now) at ≡ Some (message number request.now)) }
 {

@@ -2,6 +2,8 @@
 #![tactic(auto)]
 
 mod allow;
+#[cfg(test)]
+mod allow_tests;
 mod call_op;
 mod client;
 mod course;
@@ -9,6 +11,8 @@ mod draft;
 mod examples;
 mod group;
 mod history;
+#[cfg(test)]
+mod history_tests;
 mod laws;
 mod own;
 mod party;
@@ -17,13 +21,11 @@ mod sending;
 mod stage;
 mod tally;
 mod telling;
-#[cfg(test)]
-mod tests;
 
 pub use allow::{allowed, are_in_order};
 pub use client::ClientMachine;
 pub use examples::{next_asks, outcomes, replies, wanting};
 pub use history::Core;
 pub use laws::{every_legal_history_replays, outcomes_are_decided, serves_replay};
-pub use own::OwnAsk;
+pub use own::{OwnAsk, own_asks_show_the_client};
 pub use stage::{LookKeys, Stage};

@@ -25,12 +25,12 @@ impl Model for Tally {
     ghost Value = { Counts };
 
     ghost view = { λ t. record {
-        first = t.first;
-        last = t.last;
-        attempts = t.attempts;
-        rounds = t.rounds;
-        messages = t.messages;
-        is_begun = t.is_begun;
+      first = t.first;
+      last = t.last;
+      attempts = t.attempts;
+      rounds = t.rounds;
+      messages = t.messages;
+      is_begun = t.is_begun;
     } };
 
     // An attempt and a round are counted with a message each.
