@@ -101,8 +101,14 @@ result client given place first = record {
   messages = 2;
 }
 
+abbrev pub done : Answer
+done = answer.Done
+
+abbrev pub missing : Answer
+missing = answer.Refused errno.ENOENT
+
 abbrev pub results : List CallResult
-results = result 0 answer.Done 8 1 ∷ result 1 (answer.Refused errno.ENOENT) 7 2 ∷ []
+results = result 0 done 8 1 ∷ result 1 missing 7 2 ∷ []
 
 -- the stat of `b` before it is answered
 abbrev pub unanswered_stat : CallResult

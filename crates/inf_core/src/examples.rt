@@ -5,9 +5,10 @@ ghost use Rattle.inf_base.specs.declared.errno.Errno.TheVariants as errno;
 ghost use Rattle.inf_core.specs.Decisions.{decided_in};
 ghost use Rattle.inf_core.specs.Duty.{asks, begun, is_over, next_step, waits};
 ghost use Rattle.inf_core.specs.Examples as example;
-ghost use Rattle.inf_core.specs.Legal.{client_after, server_after};
-ghost use Rattle.inf_core.specs.Outcome.{decisions, results_of};
+ghost use Rattle.inf_core.specs.Legal.{Legal, client_after, server_after};
+ghost use Rattle.inf_core.specs.Outcome.{Outcome, decisions, results_of};
 ghost use Rattle.inf_core.specs.World.{site_of};
+ghost use Rattle.inf_message.specs.declared.event.Event.TheVariants as event;
 ghost use Rattle.inf_message.specs.declared.reply.Reply.TheVariants as reply;
 ghost use Rattle.inf_server.specs.Machine.{machine};
 ghost use Rattle.inf_tree.specs.Replay.{Replays};
@@ -58,4 +59,23 @@ pub fn wanting()
         ≡ asks 0 (example.second_ask example.look_up_top) }
     ensures given_up { (begun (example.second_ask example.look_up_top) [] example.two_calls).results
         ≡ example.no_memory ∷ [] }
+{}
+
+/// The run is legal, and the results agree with it.
+pub fn accepted()
+    ensures legal { Legal example.world example.history }
+    ensures outcome { Outcome example.world example.history example.results }
+{}
+
+/// Histories that are not legal, and results that do not agree with the run.
+pub fn refusals()
+    // What decides is sent before the lookup was answered.
+    ensures early_ask { ¬ Legal example.world (example.asks 0 example.create_f ∷ example.first_events 2) }
+
+    // A lookup is told that all is well, and one is served twice.
+    ensures other_reply { ¬ Legal example.world (event.Serve 0 1 reply.Fine ∷ example.first_events 2) }
+    ensures served_twice { ¬ Legal example.world (event.Serve 0 1 example.found_top ∷ example.first_events 3) }
+
+    // A result is left out.
+    ensures left_out { ¬ Outcome example.world example.history [] }
 {}

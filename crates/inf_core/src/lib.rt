@@ -24,7 +24,7 @@ mod telling;
 
 pub use allow::{allowed, are_in_order};
 pub use client::ClientMachine;
-pub use examples::{next_asks, outcomes, replies, wanting};
+pub use examples::{accepted, next_asks, outcomes, refusals, replies, wanting};
 pub use history::Core;
 pub use laws::{every_legal_history_replays, outcomes_are_decided, serves_replay};
 pub use own::{OwnAsk, own_asks_show_the_client};
