@@ -1,0 +1,4 @@
+pub mod Scene
+pub mod Waiting
+pub mod Moves
+pub mod Order

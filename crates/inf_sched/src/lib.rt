@@ -1,0 +1,7 @@
+//! Runs the calls of a script under an order of moves: clients ask, servers serve, and a history comes of it.
+#![tactic(auto)]
+
+mod limits;
+
+pub use inf_order::{MOST_MOVES, Move, Moves};
+pub use limits::MOST_EVENTS;
