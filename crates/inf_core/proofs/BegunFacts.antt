@@ -1,14 +1,13 @@
 -- Where an ask finds a client that has sent nothing: calls that it gave up, and the call that it takes up.
-use Rattle.std.proofs.Common.{◌≡◌, ◌≢◌, ℕ, zero, suc, ◌+◌, ◌-◌, ◌<◌, ◌≤◌, Bool, true, false, cond, eqb, List, [], ◌∷◌, length, drop, slice_get, Option, Some, None, is_some, refl, sym, ap, ◌∙◌, subst, arith, length-drop}
+use Rattle.std.proofs.Common.{◌≡◌, ◌≢◌, ℕ, zero, suc, ◌+◌, ◌<◌, ◌≤◌, Bool, true, false, cond, eqb, List, [], ◌∷◌, length, drop, slice_get, Some, None, is_some, refl, sym, ap, ◌∙◌, subst, arith, length-drop}
 use Rattle.std.proofs.lemmas.Bool.Decides.{nat_tests}
 use Rattle.std.proofs.lemmas.Option.{slice_get_within}
-use Rattle.inf_base.specs.declared.answer.Answer.TheVariants as answer
 use Rattle.inf_base.specs.declared.call.Call.{Call}
 use Rattle.inf_base.specs.declared.key.LookKey.TheVariants as look
-use Rattle.inf_core.specs.Client.{Client, Sent, Who, ended, rest_of}
-use Rattle.inf_core.specs.Duty.{at_call, begun, wants}
-use Rattle.inf_core.specs.Group.{composed, composed_stage, first_round, first_stage, op_of}
-use Rattle.inf_core.specs.Kept.{ended_times, settled_at}
+use Rattle.inf_core.specs.Client.{Client, Sent, rest_of}
+use Rattle.inf_core.specs.Duty.{at_call, begun, given_up}
+use Rattle.inf_core.specs.Group.{composed, composed_stage, first_round, op_of}
+use Rattle.inf_core.specs.Kept.{ended_times}
 use Rattle.inf_core.specs.Messages.{is_compose}
 use Rattle.inf_core.specs.Turn.{next_op}
 use Rattle.inf_core.specs.declared.stage.Stage.{Stage}
@@ -99,48 +98,41 @@ drop_past (suc index) (next ∷ calls) at = drop_past index calls at
 
 -- ---- the walk to a call
 
--- so far: calls that were given up, and calls that were passed over
-pub record IsOnTheWay (number : ℕ) (s : Client) (given_up skipped : ℕ) : Type 0 where
-  pub within : given_up + skipped ≤ length s.left
-  pub same : at_call number (drop (given_up + skipped) s.left) (ended_times given_up s) ≡ at_call number s.left s
-  pub passed : 0 < given_up + skipped → given_up ≡ 0 → number ≢ s.number
+-- so many calls were given up so far
+pub record IsOnTheWay (number : ℕ) (s : Client) (count : ℕ) : Type 0 where
+  pub within : count ≤ length s.left
+  pub same : at_call number (drop count s.left) (ended_times count s) ≡ at_call number s.left s
 
-on_call : (number given_up skipped : ℕ) (s : Client) (call : Call) → slice_get s.left (given_up + skipped) ≡ Some call → IsOnTheWay number s given_up skipped → at_call number s.left s ≡ at_call number (call ∷ drop (suc (given_up + skipped)) s.left) (ended_times given_up s)
-on_call number given_up skipped s call at way =
-    sym way.same ∙ ap (λ calls. at_call number calls (ended_times given_up s)) (drop_at _ s.left call at)
+on_call : (number count : ℕ) (s : Client) (call : Call) → slice_get s.left count ≡ Some call → IsOnTheWay number s count → at_call number s.left s ≡ at_call number (call ∷ drop (suc count) s.left) (ended_times count s)
+on_call number count s call at way =
+    sym way.same ∙ ap (λ calls. at_call number calls (ended_times count s)) (drop_at _ s.left call at)
 
-pub at_the_call : (number given_up skipped : ℕ) (s : Client) (call : Call) → slice_get s.left (given_up + skipped) ≡ Some call → IsOnTheWay number s given_up skipped → number ≡ s.number + given_up → at_call number s.left s ≡ composed (ended_times given_up s)
-at_the_call number given_up skipped s call at way is =
-    let here : eqb number (ended_times given_up s).number ≡ true = grind (arith, nat_tests, times_number given_up s) in
-    on_call number given_up skipped s call at way ∙ rw here refl
+pub at_the_call : (number count : ℕ) (s : Client) (call : Call) → slice_get s.left count ≡ Some call → IsOnTheWay number s count → number ≡ s.number + count → at_call number s.left s ≡ composed (ended_times count s)
+at_the_call number count s call at way is =
+    let here : eqb number (ended_times count s).number ≡ true = grind (arith, nat_tests, times_number count s) in
+    on_call number count s call at way ∙ rw here refl
 
-pub at_no_call : (number given_up skipped : ℕ) (s : Client) → slice_get s.left (given_up + skipped) ≡ None → IsOnTheWay number s given_up skipped → at_call number s.left s ≡ ended_times given_up s
-at_no_call number given_up skipped s at way =
-    sym way.same ∙ ap (λ calls. at_call number calls (ended_times given_up s)) (drop_past _ s.left at)
+pub at_no_call : (number count : ℕ) (s : Client) → slice_get s.left count ≡ None → IsOnTheWay number s count → at_call number s.left s ≡ ended_times count s
+at_no_call number count s at way =
+    sym way.same ∙ ap (λ calls. at_call number calls (ended_times count s)) (drop_past _ s.left at)
 
-pub sets_out : (number : ℕ) (s : Client) → IsOnTheWay number s 0 0
-sets_out number s = record { within = omega arith; same = refl; passed = λ some none. absurd (omega arith) }
+pub sets_out : (number : ℕ) (s : Client) → IsOnTheWay number s 0
+sets_out number s = record { within = omega arith; same = refl }
 
-pub gives_up : (number given_up skipped : ℕ) (s : Client) (call : Call) → slice_get s.left (given_up + skipped) ≡ Some call → IsOnTheWay number s given_up skipped → number ≢ s.number + given_up → is_some (op_of call) ≡ true → IsOnTheWay number s (given_up + 1) skipped
-gives_up number given_up skipped s call at way unlike built =
-    let elsewhere : eqb number (ended_times given_up s).number ≡ false = grind (arith, nat_tests, times_number given_up s) in
-    let more : given_up + 1 + skipped ≡ suc (given_up + skipped) = omega arith in
-    let one : given_up + 1 ≡ suc given_up = omega arith in
+pub gives_up : (number count : ℕ) (s : Client) (call : Call) → slice_get s.left count ≡ Some call → IsOnTheWay number s count → number ≢ s.number + count → is_some (op_of call) ≡ true → IsOnTheWay number s (count + 1)
+gives_up number count s call at way unlike built =
+    let elsewhere : eqb number (ended_times count s).number ≡ false = grind (arith, nat_tests, times_number count s) in
+    let one : count + 1 ≡ suc count = omega arith in
     record {
       within = omega (arith, slice_get_within s.left _ call at);
-      same = rw (more, one) (sym (on_call number given_up skipped s call at way ∙ rw (elsewhere, built) refl));
-      passed = λ some none. absurd (omega arith);
+      same = rw one (sym (on_call number count s call at way ∙ rw (elsewhere, built) refl));
     }
 
-pub passes_over : (number given_up skipped : ℕ) (s : Client) (call : Call) → slice_get s.left (given_up + skipped) ≡ Some call → IsOnTheWay number s given_up skipped → number ≢ s.number + given_up → is_some (op_of call) ≡ false → IsOnTheWay number s given_up (skipped + 1)
-passes_over number given_up skipped s call at way unlike other =
-    let elsewhere : eqb number (ended_times given_up s).number ≡ false = grind (arith, nat_tests, times_number given_up s) in
-    let more : given_up + (skipped + 1) ≡ suc (given_up + skipped) = omega arith in
-    record {
-      within = omega (arith, slice_get_within s.left _ call at);
-      same = rw more (sym (on_call number given_up skipped s call at way ∙ rw (elsewhere, other) refl));
-      passed = λ some none same. unlike (omega arith);
-    }
+-- a call that asks for nothing is where the client stays
+pub stays_at : (number count : ℕ) (s : Client) (call : Call) → slice_get s.left count ≡ Some call → IsOnTheWay number s count → number ≢ s.number + count → is_some (op_of call) ≡ false → at_call number s.left s ≡ ended_times count s
+stays_at number count s call at way unlike other =
+    let elsewhere : eqb number (ended_times count s).number ≡ false = grind (arith, nat_tests, times_number count s) in
+    on_call number count s call at way ∙ rw (elsewhere, other) refl
 
 -- ---- the end of the walk
 
@@ -149,9 +141,8 @@ past_all [] i none = omega arith
 past_all (x ∷ xs) zero none = absurd (cc)
 past_all (x ∷ xs) (suc i) none = let past = past_all xs i none in omega arith
 
-pub passed_all : (number given_up skipped : ℕ) (s : Client) → slice_get s.left (given_up + skipped) ≡ None → IsOnTheWay number s given_up skipped → given_up ≡ 0 → 0 < length s.left → number ≢ s.number
-passed_all number given_up skipped s at way none some =
-    let past = past_all s.left _ at in way.passed (omega arith) none
+pub passed_all : (count : ℕ) (s : Client) → slice_get s.left count ≡ None → count ≡ 0 → 0 < length s.left → ⊥
+passed_all count s at none some = let past = past_all s.left _ at in omega arith
 
 -- ---- where an ask finds the client
 
@@ -186,6 +177,6 @@ pub at_call_messages : (number : ℕ) (calls : List Call) (s : Client) → (at_c
 at_call_messages number [] s = omega arith
 at_call_messages number (next ∷ calls) s =
     let P : Client → Type 0 = λ t. t.counts.messages ≤ s.counts.messages in
-    let wanting : P (wants s (Some next)) = either P (is_some (op_of next)) (ended answer.NoMemory None s) s (omega arith) (omega arith) in
-    let later = at_call_messages number calls (wants s (Some next)) in
-    either P (eqb number s.number) (composed s) (at_call number calls (wants s (Some next))) (omega arith) (omega arith)
+    let later = at_call_messages number calls (given_up s) in
+    either P (eqb number s.number) (composed s) _ (omega arith)
+    (either P (is_some (op_of next)) (at_call number calls (given_up s)) s (omega arith) (omega arith))

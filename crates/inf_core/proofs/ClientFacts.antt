@@ -2,7 +2,6 @@
 use Rattle.std.proofs.Common.{◌≡◌, ℕ, Bool, true, false, cond, eqb, List, [], ◌∷◌, ◌++◌, length, Option, Some, None, is_some, slice_get, refl, sym, ap, subst}
 use Rattle.inf_base.specs.declared.call.Call.{Call}
 use Rattle.inf_base.specs.declared.entry.Entry.{Entry}
-use Rattle.inf_base.specs.declared.answer.Answer.TheVariants as answer
 use Rattle.inf_base.specs.declared.key.Key.{Key}
 use Rattle.inf_base.specs.declared.key.LookKey.{LookKey}
 use Rattle.inf_base.specs.declared.key.LookKey.TheVariants as look
@@ -11,8 +10,8 @@ use Rattle.inf_message.specs.declared.ask.Ask.{Ask}
 use Rattle.inf_message.specs.declared.op.Op.{Op}
 use Rattle.inf_message.specs.declared.step.Message.{Message}
 use Rattle.inf_core.specs.World.{World, root_of}
-use Rattle.inf_core.specs.Client.{Client, Sent, Who, ended, placed, starting}
-use Rattle.inf_core.specs.Duty.{Next, Duty, asks, is_over, waits, ask_of, asked, at_call, begun, next_in, next_of, next_step, wants}
+use Rattle.inf_core.specs.Client.{Client, Sent, Who, placed, starting}
+use Rattle.inf_core.specs.Duty.{Next, Duty, asks, is_over, waits, ask_of, asked, at_call, begun, next_in, next_of, next_step, given_up}
 use Rattle.inf_core.specs.Group.{composed, composed_stage, first_round, first_stage, group, op_of}
 use Rattle.inf_core.specs.Turn.{next_op}
 use Rattle.inf_core.specs.declared.stage.Stage.{Stage}
@@ -83,21 +82,19 @@ composed_ready world s ready =
       none = ready.none;
     }
 
-wants_ready : (world : World) (s : Client) (call : Call) → IsReady world s → IsReady world (wants s (Some call))
-wants_ready world s call ready = by (is_some (op_of call))
-  where
-    by : (b : Bool) → IsReady world (cond b (ended answer.NoMemory None s) s)
-    by true = record { sound = record { root = ready.sound.root; servers = ready.sound.servers; at = refl }; none = refl }
-    by false = ready
+given_up_ready : (world : World) (s : Client) → IsReady world s → IsReady world (given_up s)
+given_up_ready world s ready =
+    record { sound = record { root = ready.sound.root; servers = ready.sound.servers; at = refl }; none = refl }
 
 at_call_ready : (world : World) (number : ℕ) (calls : List Call) (s : Client) → IsReady world s → IsReady world (at_call number calls s)
 at_call_ready world number [] s ready = ready
 at_call_ready world number (call ∷ calls) s ready =
-    by (eqb number s.number) (at_call_ready world number calls (wants s (Some call)) (wants_ready world s call ready))
+    by (eqb number s.number) (is_some (op_of call)) (at_call_ready world number calls (given_up s) (given_up_ready world s ready))
   where
-    by : (b : Bool) → IsReady world (at_call number calls (wants s (Some call))) → IsReady world (cond b (composed s) (at_call number calls (wants s (Some call))))
-    by true later = composed_ready world s ready
-    by false later = later
+    by : (b c : Bool) → IsReady world (at_call number calls (given_up s)) → IsReady world (cond b (composed s) (cond c (at_call number calls (given_up s)) s))
+    by true c later = composed_ready world s ready
+    by false true later = later
+    by false false later = ready
 
 -- ---- an Ask
 

@@ -1,19 +1,16 @@
 -- Whether an ask is the next one of a client.
-use Rattle.std.proofs.Common.{◌≡◌, ◌≢◌, ℕ, zero, suc, ◌+◌, ◌<◌, Bool, true, false, List, [], ◌∷◌, length, drop, slice_get, Option, Some, None, is_some, Decides, refl, sym, ap, ap₂, ◌∙◌, subst, arith}
+use Rattle.std.proofs.Common.{◌≡◌, ◌≢◌, ℕ, zero, suc, ◌+◌, ◌<◌, Bool, true, false, List, [], ◌∷◌, length, slice_get, Option, Some, None, is_some, Decides, refl, sym, ap, ap₂, ◌∙◌, arith}
 use Rattle.std.proofs.lemmas.Bool.Decides.{Decides-like}
 use Rattle.std.proofs.lemmas.Option.{slice_get_within}
 use Rattle.inf_base.specs.declared.call.Call.{Call}
 use Rattle.inf_base.specs.declared.caller.Caller.{Caller}
-use Rattle.inf_base.specs.declared.caller.CallRef.{CallRef}
 use Rattle.inf_base.specs.declared.key.LookKey.TheVariants as look
-use Rattle.inf_core.specs.Client.{Client, Sent, Who, call_ref}
-use Rattle.inf_core.specs.Duty.{Duty, Next, ask_of, asks, at_call, begun, is_over, next_in, next_of, next_step, waits}
-use Rattle.inf_core.specs.Group.{composed, composed_stage, first_round, group, lookup_of, op_of}
+use Rattle.inf_core.specs.Client.{Client, Who}
+use Rattle.inf_core.specs.Duty.{Duty, ask_of, asks, begun, next_in, next_of, next_step}
+use Rattle.inf_core.specs.Group.{composed, first_round, group, lookup_of, op_of}
 use Rattle.inf_core.specs.Kept.{ended_times}
 use Rattle.inf_core.specs.Messages.{is_compose, message}
 use Rattle.inf_core.specs.Turn.{next_op}
-use Rattle.inf_core.specs.declared.stage.Stage.{Stage}
-use Rattle.inf_core.specs.declared.stage.Stage.TheVariants as stage
 use Rattle.inf_core.proofs.BegunFacts.{first_stage_is, next_op_at, times_compose, times_left, times_number, times_sent, times_some, times_who}
 use Rattle.inf_core.proofs.ResultFacts.{begun_keeps}
 use Rattle.inf_message.specs.declared.ask.Ask.{Ask}

@@ -14,7 +14,7 @@ use Rattle.inf_core.specs.Client.{Client, ended, has_place}
 use Rattle.inf_core.specs.Decisions.{decided_at, decided_by_turn, decided_for, decided_in, decided_when}
 use Rattle.inf_core.specs.Decisions.{decided_call as decides}
 use Rattle.inf_core.specs.Legal.{client_after}
-use Rattle.inf_core.specs.Outcome.{Agrees, Outcome, OutcomeFrom, decided_of, decisions, given_up, in_order, results_of, stands_at, unanswered}
+use Rattle.inf_core.specs.Outcome.{Agrees, Outcome, OutcomeFrom, all_given_up, decided_of, decisions, in_order, results_of, stands_at, unanswered}
 use Rattle.inf_core.specs.Turn.{Turn, begins_again, ends, goes_on, recorded}
 use Rattle.inf_message.specs.declared.ask.Ask.{Ask}
 use Rattle.inf_message.specs.declared.call_result.CallResult.{CallResult}
@@ -24,7 +24,7 @@ use Rattle.inf_message.specs.declared.reply.Reply.{Reply}
 use Rattle.inf_message.specs.History.{Posted, Told, asked_at, told_reply}
 use Rattle.inf_tree.specs.Replay.{Decided}
 use Rattle.inf_core.proofs.Placed.{IsAskedBy, counted_same, none_later, reads, ready, served_before, served_newly, waits_for_own}
-use Rattle.inf_core.proofs.ResultFacts.{Shows, asked_shows, by_serve, calls_of, given_up_keeps, if_both, shows_kept}
+use Rattle.inf_core.proofs.ResultFacts.{Shows, all_given_up_keeps, asked_shows, by_serve, calls_of, if_both, shows_kept}
 
 -- ---- calls that have no place
 
@@ -38,15 +38,15 @@ results_at place s =
     ∙ ap (λ more. filter (stands_at place) s.results ++ more) (unanswered_have_none place s.left s)
     ∙ append-nil _
 
-given_up_at : (place : ℕ) (s : Client) → filter (stands_at place) (given_up s.left s).results ≡ filter (stands_at place) s.results
-given_up_at place s = given_up_keeps (Shows place (filter (stands_at place) s.results)) (shows_kept place _) s.left s refl
+given_up_at : (place : ℕ) (s : Client) → filter (stands_at place) (all_given_up s.left s).results ≡ filter (stands_at place) s.results
+given_up_at place s = all_given_up_keeps (Shows place (filter (stands_at place) s.results)) (shows_kept place _) s.left s refl
 
 agrees_at : (place : ℕ) (s : Client) (mine : List CallResult) → Agrees s mine → filter (stands_at place) mine ≡ filter (stands_at place) s.results
 agrees_at place s mine agrees =
     ⊎_elim
     (λ same. ap (filter (stands_at place)) same ∙ results_at place s)
-    (λ (gave : (s.sent ≡ []) × (mine ≡ results_of (given_up s.left s))).
-    ap (filter (stands_at place)) gave.1 ∙ results_at place (given_up s.left s) ∙ given_up_at place s)
+    (λ (gave : (s.sent ≡ []) × (mine ≡ results_of (all_given_up s.left s))).
+    ap (filter (stands_at place)) gave.1 ∙ results_at place (all_given_up s.left s) ∙ given_up_at place s)
     agrees
 
 -- ---- the results of all clients

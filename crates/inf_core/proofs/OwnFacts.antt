@@ -1,14 +1,12 @@
 -- What a client keeps while it follows its own Asks: that its counts fit, and that the Asks to come are new to it.
-use Rattle.std.proofs.Common.{◌≡◌, ◌≢◌, ℕ, zero, suc, ◌+◌, ◌<◌, ◌≤◌, Bool, true, false, cond, eqb, nat_lt, ◌||◌, ◌&&◌, List, [], ◌∷◌, ◌++◌, length, get_or, take, fold, Option, Some, None, refl, sym, ap, ◌∙◌, subst, arith}
+use Rattle.std.proofs.Common.{◌≡◌, ◌≢◌, ℕ, zero, suc, ◌+◌, ◌<◌, ◌≤◌, Bool, true, false, cond, eqb, nat_lt, ◌&&◌, List, [], ◌∷◌, length, get_or, take, fold, Option, Some, None, refl, sym, ap, ◌∙◌, subst, arith}
 use Rattle.std.proofs.lemmas.Bool.{ltb-true}
 use Rattle.std.proofs.lemmas.Bool.Decides.{nat_tests}
 use Rattle.std.proofs.lemmas.List.{get_or_default}
 use Rattle.std.proofs.lemmas.List.Sums.{fold_more}
-use Rattle.inf_base.specs.declared.answer.Answer.TheVariants as answer
-use Rattle.inf_core.specs.Client.{Client, Sent, has_place, placed}
+use Rattle.inf_core.specs.Client.{Client, has_place}
 use Rattle.inf_core.specs.Duty.{asked, begun}
 use Rattle.inf_core.specs.Own.{AreInOrder, after_answer, after_own, rises_from}
-use Rattle.inf_core.specs.Sending.{new_sent}
 use Rattle.inf_core.specs.Turn.{Turn, after_record, begins_again, ends, first_told, goes_on, is_complete, recorded, served, settled, turn_at, turned}
 use Rattle.inf_core.specs.declared.own.OwnAsk.{OwnAsk}
 use Rattle.inf_core.proofs.ResultFacts.{begun_keeps}

@@ -1,9 +1,8 @@
 -- In a legal history a client asks nothing before its last Ask was answered, so its own Asks with their answers show
 -- its state.
-use Rattle.std.proofs.Common.{◌≡◌, ◌≢◌, ℕ, suc, ◌+◌, ◌<◌, ◌≤◌, Bool, true, false, cond, eqb, ◌||◌, List, [], ◌∷◌, ◌++◌, length, map, fold, reverse, slice_get, Option, Some, None, All, refl, sym, ap, ◌∙◌, subst, arith}
-use Rattle.std.proofs.lemmas.Bool.Decides.{Decides-eqb, nat_tests}
+use Rattle.std.proofs.Common.{◌≡◌, ◌≢◌, ℕ, suc, ◌<◌, ◌≤◌, Bool, true, false, eqb, ◌||◌, List, [], ◌∷◌, ◌++◌, length, map, fold, reverse, slice_get, Option, Some, None, All, refl, sym, ap, ◌∙◌, subst, arith}
+use Rattle.std.proofs.lemmas.Bool.Decides.{Decides-eqb}
 use Rattle.std.proofs.lemmas.List.Elements.{All-head, All-tail}
-use Rattle.std.proofs.lemmas.List.Folds.{list_any-append}
 use Rattle.std.proofs.lemmas.List.Sums.{fold-append}
 use Rattle.std.proofs.lemmas.List.{map-append}
 use mathlib.Core.List.{reverse-cons}
@@ -12,19 +11,18 @@ use Rattle.inf_core.specs.Client.{Client, Sent, has_place, start}
 use Rattle.inf_core.specs.Duty.{Duty, asked, asks, begun, next_step}
 use Rattle.inf_core.specs.Group.{group}
 use Rattle.inf_core.specs.Legal.{Legal, MayAsk, MayServe, client_after}
-use Rattle.inf_core.specs.Own.{after_answer, after_own, client_of, own_asks, own_of, told_pair}
+use Rattle.inf_core.specs.Own.{after_own, client_of, own_asks, own_of}
 use Rattle.inf_core.specs.Sending.{new_sent}
-use Rattle.inf_core.specs.Turn.{after_record, recorded, served}
+use Rattle.inf_core.specs.Turn.{served}
 use Rattle.inf_core.specs.World.{World}
-use Rattle.inf_core.specs.declared.own.OwnAsk.{OwnAsk}
 use Rattle.inf_core.proofs.NextFacts.{quiet}
-use Rattle.inf_core.proofs.Placed.{IsAskedBy, IsReady, ready, waits_for_own}
+use Rattle.inf_core.proofs.Placed.{IsReady, ready, waits_for_own}
 use Rattle.inf_message.specs.declared.ask.Ask.{Ask}
 use Rattle.inf_message.specs.declared.event.Event.{Event}
 use Rattle.inf_message.specs.declared.event.Event.TheVariants as event
 use Rattle.inf_message.specs.declared.reply.Reply.{Reply}
-use Rattle.inf_message.specs.History.{Made, Own, Posted, Told, asked_at, asks_of, is_served, made_ask, or_told, own_ask, posted_ask, served_at, told_reply}
-use Rattle.inf_message.specs.Shown.{IsMade, IsOwn}
+use Rattle.inf_message.specs.History.{Own, Posted, Told, asked_at, asks_of, is_served, or_told, own_ask, served_at, told_reply}
+use Rattle.inf_message.specs.Shown.{IsOwn}
 use Rattle.inf_message.proofs.ClientLaws.{asks_are_own, serve_apart}
 use Rattle.inf_message.proofs.HistoryLaws.{asked_within, by_test, itself, other}
 

@@ -12,9 +12,9 @@ use Rattle.inf_core.specs.World.{World}
 use Rattle.inf_core.specs.Client.{Client, Sent, Who, ended, has_place, rest_of, result_of, starting}
 use Rattle.inf_core.specs.Decisions.{decided_by_turn, decided_for, decided_if, decided_when}
 use Rattle.inf_core.specs.Decisions.{decided_call as decides}
-use Rattle.inf_core.specs.Duty.{asked, at_call, begun, wants}
+use Rattle.inf_core.specs.Duty.{asked, at_call, begun, given_up}
 use Rattle.inf_core.specs.Group.{composed, group, op_of}
-use Rattle.inf_core.specs.Outcome.{decided_by, decided_call, decided_of, given_up, stands_at}
+use Rattle.inf_core.specs.Outcome.{all_given_up, decided_by, decided_call, decided_of, stands_at}
 use Rattle.inf_core.specs.Turn.{Turn, act_with, after_lookup, after_record, begins_again, ends, first_told, goes_on, is_complete, next_op, recorded, served, settled, success_of, turn_at, turned, unless_success}
 use Rattle.inf_core.specs.declared.stage.Stage.{Stage}
 use Rattle.inf_core.specs.declared.stage.Stage.TheVariants as stage
@@ -39,23 +39,24 @@ pub if_both : {A : Type 0} (P : A → Type 0) (b : Bool) (x y : A) → P x → P
 if_both P true x y here there = here
 if_both P false x y here there = there
 
-wants_keeps : (P : Client → Type 0) → IsKept P → (s : Client) (next : Call) → P s → P (wants s (Some next))
-wants_keeps P keeps s next now =
-    if_both P (is_some (op_of next)) (ended answer.NoMemory None s) s (keeps.giving_up s now) now
-
 at_call_keeps : (P : Client → Type 0) → IsKept P → (number : ℕ) (calls : List Call) (s : Client) → P s → P (at_call number calls s)
 at_call_keeps P keeps number [] s now = now
 at_call_keeps P keeps number (next ∷ calls) s now =
-    if_both P (eqb number s.number) (composed s) (at_call number calls (wants s (Some next))) (keeps.composing s now)
-    (at_call_keeps P keeps number calls (wants s (Some next)) (wants_keeps P keeps s next now))
+    if_both P (eqb number s.number) (composed s) _ (keeps.composing s now)
+    (if_both P (is_some (op_of next)) (at_call number calls (given_up s)) s
+    (at_call_keeps P keeps number calls (given_up s) (keeps.giving_up s now))
+    now)
 
 pub begun_keeps : (P : Client → Type 0) → IsKept P → (ask : Ask) (sent : List Sent) (s : Client) → P s → P (begun ask sent s)
 begun_keeps P keeps ask [] s now = at_call_keeps P keeps ask.from.number s.left s now
 begun_keeps P keeps ask (x ∷ sent) s now = now
 
-pub given_up_keeps : (P : Client → Type 0) → IsKept P → (calls : List Call) (s : Client) → P s → P (given_up calls s)
-given_up_keeps P keeps [] s now = now
-given_up_keeps P keeps (next ∷ calls) s now = given_up_keeps P keeps calls (wants s (Some next)) (wants_keeps P keeps s next now)
+pub all_given_up_keeps : (P : Client → Type 0) → IsKept P → (calls : List Call) (s : Client) → P s → P (all_given_up calls s)
+all_given_up_keeps P keeps [] s now = now
+all_given_up_keeps P keeps (next ∷ calls) s now =
+    if_both P (is_some (op_of next)) (all_given_up calls (given_up s)) s
+    (all_given_up_keeps P keeps calls (given_up s) (keeps.giving_up s now))
+    now
 
 -- the results at a place are these
 abbrev pub Shows : ℕ → List CallResult → Client → Type 0

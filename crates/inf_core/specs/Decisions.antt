@@ -8,7 +8,6 @@ use Rattle.inf_core.specs.Turn.{Turn, goes_on, ends, begins_again, first_told, i
 use Rattle.inf_core.specs.World.{World}
 use Rattle.inf_message.specs.declared.event.Event.{Event}
 use Rattle.inf_message.specs.declared.event.Event.TheVariants as event
-use Rattle.inf_message.specs.declared.reply.Reply.{Reply}
 use Rattle.inf_message.specs.History.{Posted, Told, asked_at, told_reply}
 use Rattle.inf_tree.specs.Replay.{Decided}
 

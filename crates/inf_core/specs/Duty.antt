@@ -1,5 +1,5 @@
 -- What a client may send next.
-use Rattle.std.specs.Prelude.{◌≡◌, ℕ, ◌==◌, Bool, true, false, if◌then◌else◌, List, [], ◌∷◌, length, slice_get, Option, Some, None, is_some}
+use Rattle.std.specs.Prelude.{◌≡◌, ℕ, ◌==◌, if◌then◌else◌, List, [], ◌∷◌, length, slice_get, Option, Some, None, is_some}
 use Rattle.inf_base.specs.declared.answer.Answer.TheVariants as answer
 use Rattle.inf_base.specs.declared.call.Call.{Call}
 use Rattle.inf_core.specs.Client.{Client, Sent, call_ref, ended, placed}
@@ -32,15 +32,15 @@ abbrev pub next_step : Client → Next
 next_step s = next_in s s.left
 
 -- a client that wants memory between two groups gives its call up; there is nothing to clean up behind a call of the
--- kinds that are built, and one of another kind never comes to ask for anything
-abbrev pub wants : Client → Option Call → Client
-wants s (Some call) = if is_some (op_of call) then ended answer.NoMemory None s else s
-wants s None = s
+-- kinds that are built
+abbrev pub given_up : Client → Client
+given_up s = ended answer.NoMemory None s
 
--- the client at the call of this number, where it gives up those before it
+-- the client at the call of this number, where it gives up those before it; a call of another kind asks for nothing,
+-- so it wants no memory, and the client stays there
 abbrev pub at_call : ℕ → List Call → Client → Client
 at_call number [] s = s
-at_call number (call ∷ calls) s = if number == s.number then composed s else at_call number calls (wants s (Some call))
+at_call number (call ∷ calls) s = if number == s.number then composed s else (if is_some (op_of call) then at_call number calls (given_up s) else s)
 
 -- whom the client's ask finds: within a group the next message; between groups it may have given up calls
 abbrev pub begun : Ask → List Sent → Client → Client

@@ -1,11 +1,9 @@
 -- A small run by hand: two servers, and two clients that look up the root, create a file and ask for it.
 use Rattle.std.specs.Prelude.{ℕ, List, [], ◌∷◌, ◌-◌, replicate, codes, Some, None, drop}
-use Rattle.inf_base.specs.declared.access.Access.{Access}
 use Rattle.inf_base.specs.declared.answer.Answer.{Answer}
 use Rattle.inf_base.specs.declared.answer.Answer.TheVariants as answer
 use Rattle.inf_base.specs.declared.call.Call.{Call}
 use Rattle.inf_base.specs.declared.call.Call.TheVariants as call
-use Rattle.inf_base.specs.declared.caller.CallRef.{CallRef}
 use Rattle.inf_base.specs.declared.caller.Caller.{Caller}
 use Rattle.inf_base.specs.declared.entry.Entry.{Entry}
 use Rattle.inf_base.specs.declared.errno.Errno.TheVariants as errno
@@ -13,7 +11,6 @@ use Rattle.inf_base.specs.declared.id.Id.{Id}
 use Rattle.inf_base.specs.declared.key.Key.TheVariants as key
 use Rattle.inf_base.specs.declared.key.LookKey.TheVariants as look
 use Rattle.inf_base.specs.declared.setup.ClientLine.{ClientLine}
-use Rattle.inf_base.specs.declared.setup.Setup.{Setup}
 use Rattle.inf_core.specs.Client.{Client, idle}
 use Rattle.inf_core.specs.World.{World}
 use Rattle.inf_message.specs.declared.ask.Ask.{Ask}
@@ -132,6 +129,10 @@ decided_calls = decided (call.Stat (codes "/f")) (answer.Refused errno.ENOENT) �
 -- a client with two calls that has asked for nothing yet
 abbrev pub two_calls : Client
 two_calls = idle world 0 root_caller (call.Stat (codes "/f") ∷ call.Stat (codes "/g") ∷ [])
+
+-- a client whose first call is of a kind that is not built
+abbrev pub mkdir_first : Client
+mkdir_first = idle world 0 root_caller (call.Mkdir (codes "/d") 0o755 ∷ call.Stat (codes "/f") ∷ [])
 
 abbrev pub second_ask : Request → Ask
 second_ask request = record { from = record { client = 0; number = 2 }; caller = root_caller; request = request }

@@ -1,5 +1,5 @@
 -- What is kept true of a client in code, and words for what its parts do.
-use Rattle.std.specs.Prelude.{◌≡◌, ℕ, zero, suc, ◌+◌, ◌<◌, ◌≤◌, Bool, true, false, List, [], ◌∷◌, length, vec_len, vec_capacity, Option, Some, None}
+use Rattle.std.specs.Prelude.{◌≡◌, ℕ, zero, suc, ◌+◌, ◌<◌, ◌≤◌, Bool, true, false, List, [], length, Option, Some, None}
 use Rattle.inf_base.specs.declared.answer.Answer.{Answer}
 use Rattle.inf_base.specs.declared.answer.Answer.TheVariants as answer
 use Rattle.inf_base.specs.declared.call.Call.{Call}

@@ -9,7 +9,7 @@ use Rattle.inf_base.specs.declared.entry.Entry.{Entry}
 use Rattle.inf_base.specs.declared.key.Key.{Key}
 use Rattle.inf_core.specs.declared.stage.Stage.{Stage}
 use Rattle.inf_core.specs.declared.stage.Stage.TheVariants as stage
-use Rattle.inf_core.specs.Client.{Client, Counts, Sent, ended, has_place, is_told, told_at}
+use Rattle.inf_core.specs.Client.{Client, Sent, ended, has_place, is_told, told_at}
 use Rattle.inf_core.specs.Group.{group, op_of}
 use Rattle.inf_message.specs.declared.op.Op.{Op}
 use Rattle.inf_message.specs.declared.op.Op.TheVariants as op

@@ -273,19 +273,20 @@ impl ClientMachine {
     {
         let first = self.number();
         let mut given_up = 0;
-        let mut skipped = 0;
-        while let Some(call) = self.call_at(given_up + skipped) {
+        while let Some(call) = self.call_at(given_up) {
             if number == first + given_up as u32 {
                 return Reached {
                     given_up,
                     is_found: true,
                 };
             }
-            if has_op(call) {
-                given_up += 1;
-            } else {
-                skipped += 1;
+            if !has_op(call) {
+                return Reached {
+                    given_up,
+                    is_found: false,
+                };
             }
+            given_up += 1;
         }
         Reached {
             given_up,

@@ -59,6 +59,10 @@ pub fn wanting()
         ≡ asks 0 (example.second_ask example.look_up_top) }
     ensures given_up { (begun (example.second_ask example.look_up_top) [] example.two_calls).results
         ≡ example.no_memory ∷ [] }
+
+    // A call that is not built asks for nothing, so it wants no memory either, and its client stays there.
+    ensures not_built { begun (example.second_ask example.look_up_top) [] example.mkdir_first ≡ example.mkdir_first }
+    ensures waits { next_step (begun (example.second_ask example.look_up_top) [] example.mkdir_first) ≡ waits }
 {}
 
 /// The run is legal, and the results agree with it.

@@ -1,10 +1,8 @@
-use Rattle.std.proofs.Common.{ℕ, [], ◌∷◌, refl, inl, lit<}
+use Rattle.std.proofs.Common.{[], ◌∷◌, refl, inl, lit<}
 use Rattle.inf_base.specs.declared.errno.Errno.TheVariants as errno
 use Rattle.inf_core.specs.Examples as example
 use Rattle.inf_core.specs.Legal.{MayAsk, MayServe, server_after}
 use Rattle.inf_core.specs.World.{site_of}
-use Rattle.inf_message.specs.declared.ask.Ask.{Ask}
-use Rattle.inf_message.specs.declared.reply.Reply.{Reply}
 use Rattle.inf_message.specs.declared.reply.Reply.TheVariants as reply
 use Rattle.inf_message.specs.History.{posted_ask}
 use Rattle.inf_server.specs.Machine.{machine}

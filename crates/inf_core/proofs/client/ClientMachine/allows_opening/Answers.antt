@@ -4,7 +4,7 @@ use Rattle.inf_base.specs.declared.key.LookKey.TheVariants as look
 use Rattle.inf_core.specs.Client.{Client, Who}
 use Rattle.inf_core.specs.Group.{lookup_of}
 use Rattle.inf_core.specs.Messages.{message}
-use Rattle.inf_core.proofs.NextFacts.{HasReached, IsOf, opening_decides, opening_refuses}
+use Rattle.inf_core.proofs.NextFacts.{HasReached, opening_decides, opening_refuses}
 use Rattle.inf_core.proofs.client.ClientMachine.allows_opening.Goals as goal
 
 pub returns-then-not-has_op : goal.returns-then-not-has_op

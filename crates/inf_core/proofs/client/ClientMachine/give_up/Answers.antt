@@ -1,5 +1,5 @@
 use Rattle.std.proofs.Common.{arith}
-use Rattle.inf_core.proofs.BegunFacts.{times_sent, times_some}
+use Rattle.inf_core.proofs.BegunFacts.{times_some}
 use Rattle.inf_core.proofs.client.ClientMachine.give_up.Goals as goal
 
 pub end-requires : goal.end-requires
