@@ -1,49 +1,29 @@
--- What a client that is driven does next, and what its results are in the end.
-use Rattle.std.proofs.Common.{◌≡◌, ℕ, zero, suc, ◌<◌, ◌≤◌, false, List, [], ◌∷◌, ◌++◌, length, slice_get, Option, None, refl, sym, ap, ◌∙◌, arith}
+-- What a client that is driven has still to send, and what its results are in the end.
+use Rattle.std.proofs.Common.{◌≡◌, ℕ, zero, suc, ◌<◌, ◌≤◌, false, List, [], ◌∷◌, ◌++◌, length, slice_get, None, refl, sym, ap, ◌∙◌, arith}
 use Rattle.std.proofs.lemmas.List.{append_assoc, append-nil}
 use Rattle.inf_base.specs.declared.answer.Answer.TheVariants as answer
 use Rattle.inf_base.specs.declared.call.Call.{Call}
 use Rattle.inf_core.specs.Client.{Client, Sent, Who, ended, is_round, rest_of, result_of}
-use Rattle.inf_core.specs.Duty.{next_in, next_of, next_step, is_over, waits}
+use Rattle.inf_core.specs.Duty.{asks, next_step}
 use Rattle.inf_core.specs.Group.{group}
 use Rattle.inf_core.specs.Kept.{unserved}
 use Rattle.inf_core.specs.Outcome.{results_of, unanswered}
 use Rattle.inf_core.specs.declared.stage.Stage.{Stage}
 use Rattle.inf_core.specs.declared.stage.Stage.TheVariants as stage
+use Rattle.inf_core.proofs.NextFacts.{quiet}
+use Rattle.inf_message.specs.declared.ask.Ask.{Ask}
 use Rattle.inf_message.specs.declared.call_result.CallResult.{CallResult}
-use Rattle.inf_message.specs.declared.step.Message.{Message}
 
--- ---- the next step
+-- ---- the messages of a group
 
-over_in : (s : Client) (left : List Call) → left ≡ [] → next_in s left ≡ is_over
-over_in s [] over = refl
-over_in s (next ∷ calls) over = absurd (cc)
+within : {X : Type 0} (xs : List X) (at : ℕ) → (slice_get xs at ≡ None → ⊥) → at < length xs
+within [] at some = absurd (some refl)
+within (x ∷ xs) zero some = omega arith
+within (x ∷ xs) (suc at) some = let rest = within xs at some in omega arith
 
-pub is_over_now : (s : Client) → s.left ≡ [] → next_step s ≡ is_over
-is_over_now s over = over_in s s.left over
-
-next_in_left : (s : Client) (left : List Call) → (left ≡ [] → ⊥) → next_in s left ≡ next_of s (slice_get (group s.who s.stage) (length s.sent))
-next_in_left s [] some = absurd (some refl)
-next_in_left s (next ∷ calls) some = refl
-
-none_past : {X : Type 0} (xs : List X) (at : ℕ) → length xs ≤ at → slice_get xs at ≡ None
-none_past [] at past = refl
-none_past (x ∷ xs) zero past = absurd (omega arith)
-none_past (x ∷ xs) (suc at) past = none_past xs at (omega arith)
-
-some_sent : (sent : List Sent) → (sent ≡ [] → ⊥) → 1 ≤ length sent
-some_sent [] some = absurd (some refl)
-some_sent (x ∷ xs) some = omega arith
-
--- within a group of one message there is no further one
-pub waits_inside : (s : Client) → length (group s.who s.stage) ≤ 1 → (s.left ≡ [] → ⊥) → (s.sent ≡ [] → ⊥) → next_step s ≡ waits
-waits_inside s one left inside =
-    let some = some_sent s.sent inside in
-    next_in_left s s.left left ∙ ap (next_of s) (none_past (group s.who s.stage) (length s.sent) (omega arith))
-
-pub first_is_next : (s : Client) (first : Option Message) → (s.left ≡ [] → ⊥) → s.sent ≡ [] → first ≡ slice_get (group s.who s.stage) 0 → next_step s ≡ next_of s first
-first_is_next s first left none is =
-    next_in_left s s.left left ∙ ap (λ (xs : List Sent). next_of s (slice_get (group s.who s.stage) (length xs))) none ∙ ap (next_of s) (sym is)
+-- where an ask is next, a message of the group is still to come
+pub message_left : (s : Client) (number : ℕ) (ask : Ask) → next_step s ≡ asks number ask → length s.sent < length (group s.who s.stage)
+message_left s number ask is = within (group s.who s.stage) (length s.sent) (λ none. quiet s number ask none is)
 
 -- a group of one message of which one is to come has sent nothing
 pub none_sent : (sent : List Sent) (size : ℕ) → length sent < size → size ≤ 1 → sent ≡ []
@@ -85,5 +65,6 @@ unanswered_one s some none =
     ∙ append_assoc s.results (result_of answer.Unanswered None None s ∷ []) (unanswered (rest_of s.left) (ended answer.Unanswered None s))
     ∙ ap (λ more. s.results ++ more) (sym (first_unanswered s.left s some))
 
+-- where no call is left they are all there
 pub all_results : (s : Client) → s.left ≡ [] → results_of s ≡ s.results
 all_results s over = ap (λ calls. s.results ++ unanswered calls s) over ∙ append-nil s.results
