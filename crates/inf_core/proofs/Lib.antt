@@ -23,3 +23,5 @@ pub mod NextFacts
 pub mod StartFacts
 pub mod OwnFacts
 pub mod OwnHistory
+pub mod StepFacts
+pub mod Driven

@@ -8,8 +8,9 @@ use Rattle.inf_base.specs.declared.id.Id.{Id}
 use Rattle.inf_base.specs.declared.setup.Setup.{Setup}
 use Rattle.inf_core.specs.World.{World}
 use Rattle.inf_core.specs.Client.{Client, Sent, Who, ended, no_counts, result_of}
-use Rattle.inf_core.specs.Group.{composed}
+use Rattle.inf_core.specs.Group.{composed, group}
 use Rattle.inf_core.specs.Sending.{AreApart}
+use Rattle.inf_core.specs.Tally.{without_serves}
 use Rattle.inf_core.specs.Turn.{next_op}
 use Rattle.inf_core.specs.declared.stage.Stage.{Stage}
 use Rattle.inf_core.specs.declared.stage.Stage.TheVariants as stage
@@ -32,6 +33,8 @@ pub record IsKept (number : ℕ) (left : List Call) (stage : Stage) (draft : Opt
   -- neither does a result
   pub results_fit : results + length left ≤ capacity
   pub apart : AreApart sent
+  -- a group has one message at most
+  pub one_message : (who : Who) → length (group who stage) ≤ 1
 
 -- the result of the call under way, were it to end so
 abbrev pub ended_result : Answer → Option ℕ → Client → CallResult
@@ -46,6 +49,10 @@ ended_times (suc count) s = ended answer.NoMemory None (ended_times count s)
 abbrev pub settled_at : Bool → Client → Client
 settled_at true s = composed s
 settled_at false s = s
+
+-- a client that remembers no Serve of the call under way
+abbrev pub unserved : Client → Client
+unserved s = record s { counts = without_serves s.counts }
 
 -- a client before its first Ask
 abbrev pub idle_as : Who → List Call → Client

@@ -15,5 +15,6 @@ pub mod Messages
 pub mod Sending
 pub mod Tally
 pub mod Course
+pub mod ClientStep
 pub mod Kept
 pub mod Own

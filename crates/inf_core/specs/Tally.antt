@@ -1,5 +1,5 @@
 -- How the counts of a call change.
-use Rattle.std.specs.Prelude.{ℕ, ◌+◌, Bool, true, false, not, Some}
+use Rattle.std.specs.Prelude.{ℕ, ◌+◌, Bool, true, false, not, Some, None}
 use Rattle.inf_core.specs.Client.{Counts, first_place, one_if}
 
 -- an Ask more
@@ -16,6 +16,10 @@ with_ask place begins_round c = record {
 -- a Serve more
 abbrev pub with_serve : ℕ → Counts → Counts
 with_serve place c = record c { last = Some place }
+
+-- no Serve is known any more
+abbrev pub without_serves : Counts → Counts
+without_serves c = record c { last = None }
 
 -- the attempt is over
 abbrev pub at_new_attempt : Counts → Counts

@@ -16,6 +16,8 @@ ghost use Rattle.inf_core.specs.Turn.{begins_again, first_told, goes_on, is_comp
 ghost use Rattle.inf_core.specs.declared.stage.Stage.TheVariants as stage;
 ghost use Rattle.inf_message.specs.History.{told_reply};
 
+mod step;
+
 use crate::call_op::has_op;
 use crate::course::{Course, after_act, after_lookup};
 use crate::draft::{Draft, Opening};
@@ -160,6 +162,7 @@ impl ClientMachine {
     }
 
     /// The next group of the attempt.
+    #[tactic(auto, using(crate::proofs::StepFacts::one_message_at))]
     fn go_on(&mut self, next: Stage)
         requires call { 0 < length self.old.left }
         requires no_round { is_round next ≡ false }
@@ -247,7 +250,8 @@ impl ClientMachine {
         }
     }
 
-    fn number(&self) -> u32
+    /// The number of the call under way, from 1.
+    pub fn number(&self) -> u32
         ensures number { result ≡ self.now.number }
         ensures numbered { self.now.number + length self.now.left ≤ MOST_CALLS + 1 }
     {
@@ -374,7 +378,8 @@ impl ClientMachine {
         Ok(())
     }
 
-    fn is_between(&self) -> bool
+    /// Whether it has asked for nothing of its group.
+    pub fn is_between(&self) -> bool
         ensures { IsTrue result ↔ (self.now.sent ≡ []) }
     {
         self.sent.is_empty()

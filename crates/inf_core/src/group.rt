@@ -1,14 +1,15 @@
 //! The messages of a group.
 
-ghost use Rattle.std.specs.Prelude.{◌≡◌, ℕ, ◌↔◌, Some, length, map, slice_get, IsTrue};
+ghost use Rattle.std.specs.Prelude.{◌≡◌, ℕ, ◌↔◌, Some, length, map, slice_get, IfOk, IsTrue};
 ghost use Rattle.inf_core.specs.Client.{Who, is_round};
 ghost use Rattle.inf_core.specs.Group.{group, lookup_of};
 ghost use Rattle.inf_core.specs.Messages.{is_compose, message};
 
 use crate::party::Party;
 use crate::stage::Stage;
-use inf_base::LookKey;
-use inf_message::Request;
+use inf_base::{LookKey, NoMemory};
+use inf_message::{Message, Request};
+use std::alloc::Global;
 
 /// Whether nothing is settled yet.
 pub fn is_compose(stage: &Stage) -> bool
@@ -50,6 +51,30 @@ fn is_lookup_at(party: &Party, keys: &[LookKey], at: usize, number: u32, request
     match keys.get(at) {
         None => false,
         Some(key) => party.is_lookup(key, number, request),
+    }
+}
+
+fn first_lookup(alloc: Global, party: &Party, keys: &[LookKey]) -> Result<Option<Message>, NoMemory>
+    ensures { IfOk result (λ first. first ≡ slice_get (map (lookup_of party.now) keys.now) 0) }
+{
+    match keys.get(0) {
+        None => Ok(None),
+        Some(key) => Ok(Some(party.lookup(alloc, key)?)),
+    }
+}
+
+/// The first message of the group, if it has one.
+pub fn first_message(
+    alloc: Global,
+    party: &Party,
+    stage: &Stage,
+) -> Result<Option<Message>, NoMemory>
+    ensures { IfOk result (λ first. first ≡ slice_get (group party.now stage.now) 0) }
+{
+    match stage {
+        Stage::Compose => Ok(None),
+        Stage::Round(keys) => first_lookup(alloc, party, keys.as_slice()),
+        Stage::Act { chain, op } => Ok(Some(party.finish(alloc, chain, op)?)),
     }
 }
 

@@ -1,12 +1,16 @@
 //! Laws of legal histories, each a function that only states it.
 
-ghost use Rattle.std.specs.Prelude.{◌≡◌, List};
+ghost use Rattle.std.specs.Prelude.{◌≡◌, ◌≢◌, ◌≤◌, ℕ, suc, false, List, [], ◌∷◌, length, Some};
+ghost use Rattle.inf_core.specs.Client.{has_place};
 ghost use Rattle.inf_core.specs.Decisions.{decided_in};
-ghost use Rattle.inf_core.specs.Legal.{Legal};
+ghost use Rattle.inf_core.specs.Legal.{Legal, client_after};
 ghost use Rattle.inf_core.specs.Outcome.{AllReplay, Outcome, decisions};
 ghost use Rattle.inf_core.specs.World.{World};
 ghost use Rattle.inf_message.specs.declared.call_result.CallResult.{CallResult};
 ghost use Rattle.inf_message.specs.declared.event.Event.{Event};
+ghost use Rattle.inf_message.specs.declared.event.Event.TheVariants as event;
+ghost use Rattle.inf_message.specs.declared.reply.Reply.{Reply};
+ghost use Rattle.inf_message.specs.History.{Posted, asked_at};
 ghost use Rattle.inf_tree.specs.Replay.{Replays};
 ghost use Rattle.inf_tree.specs.Tree.{opening_tree};
 
@@ -27,4 +31,30 @@ pub fn serves_replay()
 pub fn outcomes_are_decided()
     ensures { (world : World) (h : List Event) (results : List CallResult) → Outcome world h results
         → decisions world h results ≡ decided_in world h }
+{}
+
+/// A Serve changes no client but the one that asked.
+pub fn others_stay()
+    ensures { (world : World) (h : List Event) → Legal world h → (client number ask_place : ℕ) (given : Reply)
+        (posted : Posted) → asked_at ask_place h ≡ Some posted → posted.ask.from.client ≢ client
+        → client_after world client (event.Serve number ask_place given ∷ h) ≡ client_after world client h }
+{}
+
+/// A Serve changes no client that has asked for nothing of its group.
+pub fn idle_clients_stay()
+    ensures { (world : World) (h : List Event) (client number ask_place : ℕ) (given : Reply)
+        → (client_after world client h).sent ≡ []
+        → client_after world client (event.Serve number ask_place given ∷ h) ≡ client_after world client h }
+{}
+
+/// No client waits for an Ask at the place that comes next.
+pub fn new_places_are_fresh()
+    ensures { (world : World) (h : List Event) → Legal world h → (client : ℕ)
+        → has_place (suc (length h)) (client_after world client h).sent ≡ false }
+{}
+
+/// A call has made no more Asks than there are events.
+pub fn messages_are_within_the_history()
+    ensures { (world : World) (h : List Event) → Legal world h → (client : ℕ)
+        → (client_after world client h).counts.messages ≤ length h }
 {}

@@ -6,6 +6,7 @@ mod allow;
 mod allow_tests;
 mod call_op;
 mod client;
+mod client_step;
 mod course;
 mod draft;
 mod examples;
@@ -14,6 +15,7 @@ mod history;
 #[cfg(test)]
 mod history_tests;
 mod laws;
+mod outcome;
 mod own;
 mod party;
 mod path;
@@ -24,8 +26,13 @@ mod telling;
 
 pub use allow::{allowed, are_in_order};
 pub use client::ClientMachine;
+pub use client_step::ClientStep;
 pub use examples::{accepted, next_asks, outcomes, refusals, replies, wanting};
 pub use history::Core;
-pub use laws::{every_legal_history_replays, outcomes_are_decided, serves_replay};
+pub use laws::{
+    every_legal_history_replays, idle_clients_stay, messages_are_within_the_history,
+    new_places_are_fresh, others_stay, outcomes_are_decided, serves_replay,
+};
+pub use outcome::{Outcome, Results};
 pub use own::{OwnAsk, own_asks_show_the_client};
 pub use stage::{LookKeys, Stage};

@@ -1,14 +1,15 @@
 //! Which client it is, and where its messages go.
 
-ghost use Rattle.std.specs.Prelude.{◌≡◌, ◌-◌, ◌≤◌, ◌↔◌, length, slice_get, IsTrue};
+ghost use Rattle.std.specs.Prelude.{◌≡◌, ◌-◌, ◌≤◌, ◌↔◌, length, slice_get, IfOk, IsTrue};
 ghost use Rattle.std.specs.Option.{option_copied};
 ghost use Rattle.inf_base.specs.Identity.{server_of as the_server};
 ghost use Rattle.inf_core.specs.Group.{asked_id, finish_of, last_id, lookup_of};
 ghost use Rattle.inf_core.specs.Messages.{message};
 
-use inf_base::{Caller, Chain, Entry, Id, LookKey};
+use inf_base::{Caller, Chain, Entry, Id, LookKey, NoMemory, TryClone};
 use inf_birth::server_of;
-use inf_message::{Op, Request};
+use inf_message::{Message, Op, Request};
+use std::alloc::Global;
 use std::marker::Model;
 
 /// Which client it is, whom it calls for, and what it knows of the servers.
@@ -78,6 +79,29 @@ impl Party {
             Some(entry) => entry.access.id,
             None => self.root,
         }
+    }
+
+    /// The message that looks this key up.
+    pub fn lookup(&self, alloc: Global, key: &LookKey) -> Result<Message, NoMemory>
+        ensures { IfOk result (λ made. made ≡ lookup_of self.now key.now) }
+    {
+        Ok(Message {
+            number: self.server(&self.asked_id(key)),
+            request: Request::Lookup(key.try_clone(alloc)?),
+        })
+    }
+
+    /// The deciding message with this chain.
+    pub fn finish(&self, alloc: Global, chain: &Chain, op: &Op) -> Result<Message, NoMemory>
+        ensures { IfOk result (λ made. made ≡ finish_of self.now chain.now op.now) }
+    {
+        Ok(Message {
+            number: self.server(&self.last_id(chain.as_slice())),
+            request: Request::Finish {
+                chain: chain.try_clone(alloc)?,
+                op: op.try_clone(alloc)?,
+            },
+        })
     }
 
     /// Whether the lookup of this key is this request to this server.

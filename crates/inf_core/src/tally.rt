@@ -2,7 +2,7 @@
 
 ghost use Rattle.std.specs.Prelude.{◌≡◌, ◌+◌, ◌<◌, ◌≤◌, ◌^◌};
 ghost use Rattle.inf_core.specs.Client.{no_counts};
-ghost use Rattle.inf_core.specs.Tally.{at_new_attempt, with_ask, with_serve};
+ghost use Rattle.inf_core.specs.Tally.{at_new_attempt, with_ask, with_serve, without_serves};
 
 use inf_base::Place;
 use std::marker::Model;
@@ -103,6 +103,13 @@ impl Tally {
         ensures { self.new ≡ with_serve place self.old }
     {
         self.last = Some(place);
+    }
+
+    /// Only a call that has ended has a last Serve.
+    pub fn forget_serves(&mut self)
+        ensures { self.new ≡ without_serves self.old }
+    {
+        self.last = None;
     }
 
     /// The attempt ended without an answer.

@@ -1,0 +1,9 @@
+-- What a client is to do next, as the code has it.
+use Rattle.inf_core.specs.Duty.{Next, asks, is_over, waits}
+use Rattle.inf_core.specs.declared.client_step.ClientStep.{ClientStep}
+use Rattle.inf_core.specs.declared.client_step.ClientStep.TheVariants as step
+
+abbrev pub next_as : ClientStep → Next
+next_as (step.Ask number ask) = asks number ask
+next_as step.Waiting = waits
+next_as step.Finished = is_over
