@@ -42,6 +42,13 @@ pub some_call : (left : List Call) (op : Op) → next_op left ≡ Some op → 0 
 some_call [] op is = absurd (cc)
 some_call (next ∷ calls) op is = omega arith
 
+pub some_built : (left : List Call) (op : Op) → next_op left ≡ Some op → is_some (next_op left) ≡ true
+some_built left op is = rw is refl
+
+pub built_left : (left : List Call) → is_some (next_op left) ≡ true → 0 < length left
+built_left [] is = absurd (cc)
+built_left (next ∷ calls) is = omega arith
+
 drop_rest : (k : ℕ) (calls : List Call) → rest_of (drop k calls) ≡ drop (suc k) calls
 drop_rest zero [] = refl
 drop_rest zero (next ∷ calls) = refl

@@ -53,7 +53,7 @@ of_decides s number ask same (Some m) own decided =
     (ap (λ (x : Ask). x.request) (ask_in m.number number (ask_of s m.request) ask e))))
     decided
 
-next_in_some : (s : Client) (left : List Call) → 0 < length left → next_in s left ≡ next_of s (slice_get (group s.who s.stage) (length s.sent))
+pub next_in_some : (s : Client) (left : List Call) → 0 < length left → next_in s left ≡ next_of s (slice_get (group s.who s.stage) (length s.sent))
 next_in_some s [] some = absurd (omega arith)
 next_in_some s (next ∷ calls) some = refl
 

@@ -1,16 +1,22 @@
 -- What a client that is driven has still to send, and what its results are in the end.
-use Rattle.std.proofs.Common.{◌≡◌, ℕ, zero, suc, ◌<◌, ◌≤◌, false, List, [], ◌∷◌, ◌++◌, length, slice_get, None, refl, sym, ap, ◌∙◌, arith}
+use Rattle.std.proofs.Common.{◌≡◌, ◌≢◌, ℕ, zero, suc, ◌<◌, ◌≤◌, Bool, true, false, List, [], ◌∷◌, ◌++◌, length, map, slice_get, Option, Some, None, is_some, refl, sym, ap, ◌∙◌, arith}
 use Rattle.std.proofs.lemmas.List.{append_assoc, append-nil}
 use Rattle.inf_base.specs.declared.answer.Answer.TheVariants as answer
 use Rattle.inf_base.specs.declared.call.Call.{Call}
 use Rattle.inf_core.specs.Client.{Client, Sent, Who, ended, is_round, rest_of, result_of}
-use Rattle.inf_core.specs.Duty.{asks, next_step}
-use Rattle.inf_core.specs.Group.{group}
-use Rattle.inf_core.specs.Kept.{unserved}
+use Rattle.inf_core.specs.Duty.{asks, is_over, next_in, next_of, next_step, waits}
+use Rattle.inf_core.specs.Group.{composed, composed_stage, first_round, group, lookup_of, op_of}
+use Rattle.inf_core.specs.Kept.{IsReady, unserved}
+use Rattle.inf_core.specs.Messages.{is_compose}
+use Rattle.inf_core.specs.Turn.{next_op}
+use Rattle.inf_base.specs.declared.key.LookKey.{LookKey}
+use Rattle.inf_message.specs.declared.op.Op.{Op}
+use Rattle.inf_message.specs.declared.step.Message.{Message}
 use Rattle.inf_core.specs.Outcome.{results_of, unanswered}
 use Rattle.inf_core.specs.declared.stage.Stage.{Stage}
 use Rattle.inf_core.specs.declared.stage.Stage.TheVariants as stage
-use Rattle.inf_core.proofs.NextFacts.{quiet}
+use Rattle.inf_core.proofs.BegunFacts.{built_left, some_call}
+use Rattle.inf_core.proofs.NextFacts.{next_in_some, quiet}
 use Rattle.inf_message.specs.declared.ask.Ask.{Ask}
 use Rattle.inf_message.specs.declared.call_result.CallResult.{CallResult}
 
@@ -35,6 +41,75 @@ pub one_message_at : (next : Stage) → (who : Who) → is_round next ≡ false 
 one_message_at stage.Compose who no_round = omega arith
 one_message_at (stage.Round keys) who no_round = absurd (cc)
 one_message_at (stage.Act chain asked) who no_round = omega arith
+
+-- what is settled for a call that is built has a message
+pub composed_settled : (left : List Call) (next : Stage) → is_some (next_op left) ≡ true → is_compose (composed_stage left next) ≡ false
+composed_settled left (stage.Round keys) built = refl
+composed_settled left (stage.Act chain asked) built = refl
+composed_settled [] stage.Compose built = absurd (cc)
+composed_settled (next ∷ calls) stage.Compose built = by (op_of next) built
+  where
+    by : (asked : Option Op) → is_some asked ≡ true → is_compose (first_round asked) ≡ false
+    by None some = absurd (cc)
+    by (Some asked) some = refl
+
+first_key : (who : Who) (keys : List LookKey) → length keys ≡ 1 → slice_get (map (lookup_of who) keys) 0 ≡ None → ⊥
+first_key who [] one none = absurd (omega arith)
+first_key who (key ∷ keys) one none = absurd (cc)
+
+pub first_there : (who : Who) (next : Stage) (left : List Call) (draft : Option Op) → is_compose next ≡ false → IsReady left next draft → slice_get (group who next) 0 ≡ None → ⊥
+first_there who stage.Compose left draft settled ready none = absurd (cc)
+first_there who (stage.Round keys) left None settled ready none = ready
+first_there who (stage.Round keys) left (Some asked) settled ready none = first_key who keys ready.1 none
+first_there who (stage.Act chain asked) left draft settled ready none = absurd (cc)
+
+pub ready_left : (next : Stage) (left : List Call) (draft : Option Op) → is_compose next ≡ false → IsReady left next draft → 0 < length left
+ready_left stage.Compose left draft settled ready = absurd (cc)
+ready_left (stage.Round keys) left None settled ready = absurd ready
+ready_left (stage.Round keys) left (Some asked) settled ready = some_call left asked ready.0
+ready_left (stage.Act chain asked) left draft settled ready = built_left left ready
+
+pub first_next : (s : Client) (message : Message) (number : ℕ) (ask : Ask) → 0 < length s.left → s.sent ≡ []
+    → slice_get (group s.who s.stage) 0 ≡ Some message → next_of s (Some message) ≡ asks number ask → next_step s ≡ asks number ask
+first_next s message number ask some none first is =
+    next_in_some s s.left some
+    ∙ ap (λ (sent : List Sent). next_of s (slice_get (group s.who s.stage) (length sent))) none
+    ∙ ap (next_of s) first ∙ is
+
+pub over_next : (s : Client) → s.left ≡ [] → next_step s ≡ is_over
+over_next s over = ap (next_in s) over
+
+not_there : {X : Type 0} (xs : List X) (at : ℕ) → length xs ≤ at → slice_get xs at ≡ None
+not_there [] at behind = refl
+not_there (x ∷ xs) zero behind = absurd (omega arith)
+not_there (x ∷ xs) (suc at) behind = not_there xs at (omega arith)
+
+some_sent : (sent : List Sent) → sent ≢ [] → 1 ≤ length sent
+some_sent [] some = absurd (some refl)
+some_sent (x ∷ sent) some = omega arith
+
+-- a client that has asked for all of its group waits
+pub waits_inside : (s : Client) → length (group s.who s.stage) ≤ 1 → s.sent ≢ [] → 0 < length s.left → next_step s ≡ waits
+waits_inside s one some left =
+    let sent : 1 ≤ length s.sent = some_sent s.sent some in
+    next_in_some s s.left left ∙ ap (next_of s) (not_there (group s.who s.stage) (length s.sent) (omega arith))
+
+not_built : (asked : Option Op) → is_some asked ≡ false → asked ≡ None
+not_built None none = refl
+not_built (Some asked) none = absurd (cc)
+
+unbuilt_stage : (left : List Call) (next : Stage) (draft : Option Op) → IsReady left next draft → is_some (next_op left) ≡ false → composed_stage left next ≡ stage.Compose
+unbuilt_stage [] stage.Compose draft ready none = refl
+unbuilt_stage (next ∷ calls) stage.Compose draft ready none = ap first_round (not_built (op_of next) none)
+unbuilt_stage left (stage.Round keys) None ready none = absurd ready
+unbuilt_stage left (stage.Round keys) (Some asked) ready none = let some : next_op left ≡ Some asked = ready.0 in absurd (cc)
+unbuilt_stage left (stage.Act chain asked) draft ready none = let some : is_some (next_op left) ≡ true = ready in absurd (cc)
+
+-- so does one that has come to a call that is not built
+pub waits_unbuilt : (s : Client) (draft : Option Op) → IsReady s.left s.stage draft → is_some (next_op s.left) ≡ false → 0 < length s.left → next_step (composed s) ≡ waits
+waits_unbuilt s draft ready none left =
+    next_in_some (composed s) s.left left
+    ∙ ap (λ (next : Stage). next_of (composed s) (slice_get (group s.who next) (length s.sent))) (unbuilt_stage s.left s.stage draft ready none)
 
 -- ---- the results
 

@@ -7,3 +7,9 @@ abbrev pub next_as : ClientStep → Next
 next_as (step.Ask number ask) = asks number ask
 next_as step.Waiting = waits
 next_as step.Finished = is_over
+
+-- no ask is to be made
+abbrev pub IsQuiet : ClientStep → Type 0
+IsQuiet (step.Ask number ask) = ⊥
+IsQuiet step.Waiting = Unit {0}
+IsQuiet step.Finished = Unit {0}

@@ -1,10 +1,10 @@
 -- What comes of the answer to a group, as the code has it.
-use Rattle.std.specs.Prelude.{◌≡◌, ◌<◌, false, List, length}
+use Rattle.std.specs.Prelude.{◌≡◌, ◌<◌, true, false, List, length, is_some}
 use Rattle.inf_base.specs.declared.call.Call.{Call}
 use Rattle.inf_core.specs.Client.{is_round}
 use Rattle.inf_core.specs.declared.course.Course.{Course}
 use Rattle.inf_core.specs.declared.course.Course.TheVariants as course
-use Rattle.inf_core.specs.Turn.{Turn, goes_on, ends, begins_again}
+use Rattle.inf_core.specs.Turn.{Turn, goes_on, ends, begins_again, next_op}
 
 abbrev pub turn_of : Course → Turn
 turn_of (course.GoesOn next) = goes_on next
@@ -17,8 +17,8 @@ HasNoRound (course.GoesOn next) = is_round next ≡ false
 HasNoRound (course.Ends given place) = Unit {0}
 HasNoRound course.BeginsAgain = Unit {0}
 
--- only a call that is left goes on or ends
+-- only a call that is built goes on, and only one that is left ends
 abbrev pub IsPossible : List Call → Course → Type 0
-IsPossible left (course.GoesOn next) = (0 < length left) × (is_round next ≡ false)
+IsPossible left (course.GoesOn next) = (is_some (next_op left) ≡ true) × (is_round next ≡ false)
 IsPossible left (course.Ends given place) = 0 < length left
 IsPossible left course.BeginsAgain = Unit {0}

@@ -1,5 +1,5 @@
 -- What is kept true of a client in code, and words for what its parts do.
-use Rattle.std.specs.Prelude.{◌≡◌, ℕ, zero, suc, ◌+◌, ◌<◌, ◌≤◌, Bool, true, false, List, [], length, Option, Some, None}
+use Rattle.std.specs.Prelude.{◌≡◌, ℕ, zero, suc, ◌+◌, ◌<◌, ◌≤◌, Bool, true, false, List, [], length, Option, Some, None, is_some}
 use Rattle.inf_base.specs.declared.answer.Answer.{Answer}
 use Rattle.inf_base.specs.declared.answer.Answer.TheVariants as answer
 use Rattle.inf_base.specs.declared.call.Call.{Call}
@@ -17,12 +17,12 @@ use Rattle.inf_core.specs.declared.stage.Stage.TheVariants as stage
 use Rattle.inf_message.specs.declared.call_result.CallResult.{CallResult}
 use Rattle.inf_message.specs.declared.op.Op.{Op}
 
--- what is to follow a round was made ready; a group belongs to a call
+-- what is to follow a round of one key was made ready; a group belongs to a call that is built
 abbrev pub IsReady : List Call → Stage → Option Op → Type 0
 IsReady left stage.Compose draft = Unit {0}
 IsReady left (stage.Round keys) None = ⊥
-IsReady left (stage.Round keys) (Some op) = (next_op left ≡ Some op) × (0 < length left)
-IsReady left (stage.Act chain op) draft = 0 < length left
+IsReady left (stage.Round keys) (Some op) = (next_op left ≡ Some op) × (length keys ≡ 1)
+IsReady left (stage.Act chain op) draft = is_some (next_op left) ≡ true
 
 pub record IsKept (number : ℕ) (left : List Call) (stage : Stage) (draft : Option Op) (sent : List Sent) (room : ℕ) (results capacity : ℕ) : Type 0 where
   -- the numbers of the calls that are left fit

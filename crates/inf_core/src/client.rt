@@ -1,6 +1,6 @@
 //! A client: the call under way, what it asked for it and was told, and the results so far.
 
-ghost use Rattle.std.specs.Prelude.{◌≡◌, ◌+◌, ◌-◌, ◌<◌, ◌≤◌, ◌^◌, ◌≢◌, ◌↔◌, ◌∷◌, [], true, false, length, drop, slice_get, Some, None, IfOk, OnOk, OnErr, IsOk, IsTrue};
+ghost use Rattle.std.specs.Prelude.{◌≡◌, ◌+◌, ◌-◌, ◌<◌, ◌≤◌, ◌^◌, ◌≢◌, ◌↔◌, ◌∷◌, [], true, false, length, drop, slice_get, Some, None, is_some, IfOk, OnOk, OnErr, IsOk, IsTrue};
 ghost use Rattle.std.specs.Option.{option_copied};
 ghost use Rattle.inf_base.specs.declared.answer.Answer.TheVariants as answer;
 ghost use Rattle.inf_base.specs.declared.limits.TheConstants.{MOST_CALLS};
@@ -162,9 +162,9 @@ impl ClientMachine {
     }
 
     /// The next group of the attempt.
-    #[tactic(auto, using(crate::proofs::StepFacts::one_message_at))]
+    #[tactic(auto, using(crate::proofs::StepFacts::one_message_at, crate::proofs::BegunFacts::built_left))]
     fn go_on(&mut self, next: Stage)
-        requires call { 0 < length self.old.left }
+        requires call { is_some (next_op self.old.left) ≡ true }
         requires no_round { is_round next ≡ false }
         ensures { self.new ≡ turned (goes_on next) self.old }
     {
@@ -173,6 +173,7 @@ impl ClientMachine {
     }
 
     /// What comes of the answer to the group, which is over.
+    #[tactic(auto, using(crate::proofs::BegunFacts::some_call, crate::proofs::BegunFacts::some_built, crate::proofs::BegunFacts::built_left))]
     fn take_course(&mut self, place: Place, reply: Reply) -> Course
         ensures course { turn_of result
             ≡ turn_at self.old.left self.old.stage (Some (told_reply place reply)) }

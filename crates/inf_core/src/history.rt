@@ -13,7 +13,7 @@ ghost use Rattle.inf_server.specs.Server.{Standing};
 
 use inf_base::{NoMemory, Place, Setup, TryClone};
 use inf_birth::IdRule;
-use inf_message::{Ask, Event, Reply};
+use inf_message::{Ask, Event, Events, Reply};
 use inf_server::Server;
 use std::alloc::Global;
 use std::marker::Model;
@@ -74,6 +74,14 @@ impl<R: IdRule> Core<R> {
         ensures replays { AllReplay (world_in R.digest_of self.now) self.now.history }
     {
         self.events.as_slice()
+    }
+
+    /// The events by place, the oldest first.
+    pub fn into_history(self) -> Events
+        ensures { result ≡ reverse self.history }
+    {
+        let Core { events, .. } = self;
+        Events::new(events)
     }
 
     /// Whether some Serve names the event at a place.

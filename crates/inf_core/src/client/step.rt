@@ -1,11 +1,12 @@
 //! A client that is driven: what it is to do next, and the steps that it takes.
 
-ghost use Rattle.std.specs.Prelude.{◌≡◌, ◌≢◌, ◌↔◌, ◌+◌, ◌<◌, ◌^◌, [], length, is_some, Some, IfOk, OnOk, OnErr, IsOk, IsTrue};
+ghost use Rattle.std.specs.Prelude.{◌≡◌, ◌≢◌, ◌↔◌, ◌+◌, ◌<◌, ◌^◌, [], length, is_some, true, false, Some, IfOk, OnOk, OnErr, IsTrue};
 ghost use Rattle.inf_core.specs.Client.{placed};
-ghost use Rattle.inf_core.specs.ClientStep.{next_as};
-ghost use Rattle.inf_core.specs.Duty.{given_up, next_of, next_step};
+ghost use Rattle.inf_core.specs.ClientStep.{IsQuiet, next_as};
+ghost use Rattle.inf_core.specs.Duty.{asks, given_up, next_of, next_step};
 ghost use Rattle.inf_core.specs.Group.{composed, group};
 ghost use Rattle.inf_core.specs.Kept.{unserved};
+ghost use Rattle.inf_core.specs.Messages.{is_compose};
 ghost use Rattle.inf_core.specs.Outcome.{results_of};
 ghost use Rattle.inf_core.specs.Turn.{next_op};
 
@@ -43,9 +44,11 @@ impl ClientMachine {
     }
 
     /// What is asked for next is settled, where nothing is yet.
+    #[tactic(auto, using(crate::proofs::StepFacts::composed_settled))]
     pub fn take_up(&mut self, alloc: Global) -> Result<(), NoMemory>
         requires between { self.old.sent ≡ [] }
         ensures ok { OnOk result (self.new ≡ composed self.old) }
+        ensures settled { OnOk result (is_some (next_op self.old.left) ≡ true → is_compose self.new.stage ≡ false) }
         ensures err { OnErr result (self.new ≡ self.old) }
     {
         if !is_compose(&self.stage) {
@@ -56,38 +59,47 @@ impl ClientMachine {
         Ok(())
     }
 
-    /// The ask that sends this message.
-    fn sending(&self, message: Message) -> ClientStep
-        ensures { next_as result ≡ next_of self.now (Some message) }
+    /// The ask that sends this message, and the server that it is for.
+    fn posted(&self, message: Message) -> (u32, Ask)
+        ensures { next_of self.now (Some message) ≡ asks result.0 result.1 }
     {
         let Message { number, request } = message;
-        ClientStep::Ask(
-            number,
-            Ask {
-                from: CallRef {
-                    client: self.party.client(),
-                    number: self.number,
-                },
-                caller: self.party.caller(),
-                request,
+        let ask = Ask {
+            from: CallRef {
+                client: self.party.client(),
+                number: self.number,
             },
-        )
+            caller: self.party.caller(),
+            request,
+        };
+        (number, ask)
     }
 
-    /// What the client is to do next. It takes memory only where that is the first ask of a group.
-    pub fn next(&self, alloc: Global) -> Result<ClientStep, NoMemory>
-        ensures next { IfOk result (λ step. next_step self.now ≡ next_as step) }
-        ensures inside { self.now.sent ≢ [] → IsOk result }
+    /// The one message of the group that is settled.
+    #[tactic(auto, using(crate::proofs::StepFacts::first_there, crate::proofs::StepFacts::ready_left, crate::proofs::StepFacts::first_next))]
+    pub fn first_ask(&self, alloc: Global) -> Result<(u32, Ask), NoMemory>
+        requires between { self.now.sent ≡ [] }
+        requires settled { is_compose self.now.stage ≡ false }
+        ensures { IfOk result (λ first. next_step self.now ≡ asks first.0 first.1) }
+    {
+        let Some(message) = first_message(alloc, &self.party, &self.stage)? else {
+            unreachable!()
+        };
+        Ok(self.posted(message))
+    }
+
+    /// What a client does next that has no ask to make.
+    #[tactic(auto, using(crate::proofs::StepFacts::over_next, crate::proofs::StepFacts::waits_inside, crate::proofs::StepFacts::waits_unbuilt))]
+    pub fn rest(&self) -> ClientStep
+        ensures quiet { IsQuiet result }
+        ensures inside { self.now.sent ≢ [] → next_step self.now ≡ next_as result }
+        ensures unbuilt { self.now.sent ≡ [] → is_some (next_op self.now.left) ≡ false
+            → next_step (composed self.now) ≡ next_as result }
     {
         if self.left.is_empty() {
-            return Ok(ClientStep::Finished);
-        }
-        if !self.sent.is_empty() {
-            return Ok(ClientStep::Waiting);
-        }
-        match first_message(alloc, &self.party, &self.stage)? {
-            Some(message) => Ok(self.sending(message)),
-            None => Ok(ClientStep::Waiting),
+            ClientStep::Finished
+        } else {
+            ClientStep::Waiting
         }
     }
 
