@@ -98,7 +98,7 @@ first_of_both false b e = e
 pub counted_same : (a b : ℕ) → eqb a b ≡ true → a ≡ b
 counted_same a b e = grind (arith, nat_tests)
 
-same_counted : (a b : ℕ) → a ≡ b → eqb a b ≡ true
+pub same_counted : (a b : ℕ) → a ≡ b → eqb a b ≡ true
 same_counted a b e = grind (arith, nat_tests)
 
 -- once the only Ask was told, the group is complete

@@ -4,6 +4,7 @@ use Rattle.std.proofs.lemmas.List.{append_assoc, append-nil}
 use Rattle.inf_base.specs.declared.answer.Answer.TheVariants as answer
 use Rattle.inf_base.specs.declared.call.Call.{Call}
 use Rattle.inf_core.specs.Client.{Client, Sent, Who, ended, is_round, rest_of, result_of}
+use Rattle.inf_core.specs.ClientStep.{is_ask}
 use Rattle.inf_core.specs.Duty.{asks, is_over, next_in, next_of, next_step, waits}
 use Rattle.inf_core.specs.Group.{composed, composed_stage, first_round, group, lookup_of, op_of}
 use Rattle.inf_core.specs.Kept.{IsReady, unserved}
@@ -75,6 +76,28 @@ first_next s message number ask some none first is =
     next_in_some s s.left some
     ∙ ap (λ (sent : List Sent). next_of s (slice_get (group s.who s.stage) (length sent))) none
     ∙ ap (next_of s) first ∙ is
+
+some_ask : (s : Client) (o : Option Message) → (o ≡ None → ⊥) → is_ask (next_of s o) ≡ true
+some_ask s None some = absurd (some refl)
+some_ask s (Some message) some = refl
+
+composed_there : (who : Who) (next : Stage) (left : List Call) (draft : Option Op) → IsReady left next draft → is_some (next_op left) ≡ true
+    → slice_get (group who (composed_stage left next)) 0 ≡ None → ⊥
+composed_there who stage.Compose [] draft ready built none = absurd (cc)
+composed_there who stage.Compose (next ∷ calls) draft ready built none = by (op_of next) built none
+  where
+    by : (asked : Option Op) → is_some asked ≡ true → slice_get (group who (first_round asked)) 0 ≡ None → ⊥
+    by None some none = absurd (cc)
+    by (Some asked) some none = absurd (cc)
+composed_there who (stage.Round keys) left draft ready built none = first_there who (stage.Round keys) left draft refl ready none
+composed_there who (stage.Act chain asked) left draft ready built none = absurd (cc)
+
+-- between two groups there is an ask to make for a call that is built
+pub built_asks : (s : Client) (draft : Option Op) → IsReady s.left s.stage draft → s.sent ≡ [] → is_some (next_op s.left) ≡ true → is_ask (next_step (composed s)) ≡ true
+built_asks s draft ready between built =
+    ap is_ask (next_in_some (composed s) s.left (built_left s.left built)
+    ∙ ap (λ (sent : List Sent). next_of (composed s) (slice_get (group s.who (composed_stage s.left s.stage)) (length sent))) between)
+    ∙ some_ask (composed s) (slice_get (group s.who (composed_stage s.left s.stage)) 0) (composed_there s.who s.stage s.left draft ready built)
 
 pub over_next : (s : Client) → s.left ≡ [] → next_step s ≡ is_over
 over_next s over = ap (next_in s) over

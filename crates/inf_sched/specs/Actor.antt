@@ -1,12 +1,12 @@
 -- What contracts see of a client of a run, and what a step of it does.
-use Rattle.std.specs.Prelude.{◌≡◌, ◌⊎◌, ℕ, ◌≤◌, Bool, true, false, not, ◌&&◌, [], Option, Some, None}
+use Rattle.std.specs.Prelude.{◌≡◌, ◌⊎◌, ℕ, ◌≤◌, Bool, true, false, not, ◌&&◌, [], is_some}
 use Rattle.inf_core.specs.Client.{Client}
-use Rattle.inf_core.specs.Duty.{Duty, begun, next_step, waits, is_over}
+use Rattle.inf_core.specs.Duty.{Duty, at_call, begun, is_over, next_step, waits}
 use Rattle.inf_core.specs.Outcome.{all_given_up}
 use Rattle.inf_core.specs.declared.client_step.ClientStep.{ClientStep}
 use Rattle.inf_core.specs.declared.client_step.ClientStep.TheVariants as step
-use Rattle.inf_core.specs.Group.{composed}
 use Rattle.inf_message.specs.declared.ask.Ask.{Ask}
+use Rattle.inf_core.specs.Turn.{next_op}
 use Rattle.inf_sched.specs.Scene.{is_ask, planned}
 
 -- a client by its state, and whether it gave up all that it had left
@@ -48,7 +48,16 @@ Steps old (step.Ask number ask) new = AsksNext number ask old new
 Steps old step.Waiting new = Rests old new × (next_step (planned new.state) ≡ waits)
 Steps old step.Finished new = Rests old new × (next_step (planned new.state) ≡ is_over)
 
--- a client on its way through the calls that it has left, of which it gave some up
+-- a client that gave up what it had left stands between two groups, and has come to no call that is built
+abbrev pub IsAtRest : Client → Bool → Type 0
+IsAtRest state true = (state.sent ≡ []) × (is_some (next_op state.left) ≡ false)
+IsAtRest state false = Unit {0}
+
+-- between two groups, where the calls behind the entry's are given up: whatever call comes next, and whatever comes of
+-- giving up what is left, is as from the entry on
 pub record IsOnTheWay (entry now : Client) : Type 0 where
   pub between : now.sent ≡ []
+  pub behind : entry.number ≤ now.number
+  pub reach : (number : ℕ) → now.number ≤ number → at_call number entry.left entry ≡ at_call number now.left now
   pub all : all_given_up entry.left entry ≡ all_given_up now.left now
+  pub own : now.who.client ≡ entry.who.client

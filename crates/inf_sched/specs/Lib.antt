@@ -2,3 +2,4 @@ pub mod Scene
 pub mod Waiting
 pub mod Moves
 pub mod Order
+pub mod Actor

@@ -2,7 +2,8 @@
 use Rattle.std.specs.Prelude.{◌≡◌, ◌⊎◌, ℕ, ◌+◌, Bool, true, false, ◌&&◌, ◌||◌, not, nat_lt, List, [], ◌∷◌, ◌++◌, length, map, slice_get, slice_set, Option, Some, None}
 use Rattle.inf_base.specs.declared.setup.ClientLine.{ClientLine}
 use Rattle.inf_core.specs.Client.{Client, Sent}
-use Rattle.inf_core.specs.Duty.{Next, asks, waits, is_over, next_step}
+pub use Rattle.inf_core.specs.ClientStep.{is_ask}
+use Rattle.inf_core.specs.Duty.{next_step}
 use Rattle.inf_core.specs.Group.{composed}
 use Rattle.inf_core.specs.Legal.{MayAsk, MayServe, client_after}
 use Rattle.inf_core.specs.World.{World}
@@ -40,11 +41,6 @@ planned_from (x ∷ xs) s = s
 
 abbrev pub planned : Client → Client
 planned s = planned_from s.sent s
-
-abbrev pub is_ask : Next → Bool
-is_ask (asks number ask) = true
-is_ask waits = false
-is_ask is_over = false
 
 -- whether the client has an ask to make
 abbrev pub can_ask : World → Scene → ℕ → Bool

@@ -1,16 +1,16 @@
 //! A client of a run: it is told what to do next, and gives calls up where memory is wanting.
 
-ghost use Rattle.std.specs.Prelude.{◌≡◌, ◌+◌, ◌<◌, ◌^◌, true, false, [], Some, None, IsTrue, IfOk, IfSome, is_some};
+ghost use Rattle.std.specs.Prelude.{◌≡◌, ◌+◌, ◌<◌, ◌≤◌, ◌^◌, ◌&&◌, not, nat_lt, true, false, [], length, Some, None, IfOk, IfSome, is_some};
 ghost use Rattle.inf_base.specs.declared.limits.TheConstants.{MOST_CALLS};
 ghost use Rattle.inf_base.specs.Setup.{call_count};
 ghost use Rattle.inf_core.specs.Client.{placed, start};
-ghost use Rattle.inf_core.specs.Duty.{asks, given_up, next_step};
+ghost use Rattle.inf_core.specs.Duty.{Duty, asks, begun, given_up, next_step};
 ghost use Rattle.inf_core.specs.Group.{composed};
 ghost use Rattle.inf_core.specs.Kept.{world_by};
 ghost use Rattle.inf_core.specs.Outcome.{all_given_up, results_of};
 ghost use Rattle.inf_core.specs.Turn.{next_op, served};
 ghost use Rattle.inf_message.specs.History.{told_reply};
-ghost use Rattle.inf_sched.specs.Actor.{Steps, actor, wants_to_ask};
+ghost use Rattle.inf_sched.specs.Actor.{Steps, actor};
 ghost use Rattle.inf_sched.specs.Scene.{is_ask};
 
 use inf_base::{NoMemory, Place, Setup};
@@ -57,18 +57,108 @@ impl Client {
     }
 
     /// What to do next. Where memory is wanting for an ask, its call is given up, and the next one tried.
+    #[tactic(auto, using(crate::proofs::ActorFacts::rests_gone, crate::proofs::ActorFacts::rests_inside, crate::proofs::ActorFacts::rests_unbuilt, crate::proofs::ActorFacts::rests_given_up, crate::proofs::ActorFacts::asks_first))]
     pub fn step(&mut self, alloc: Global) -> ClientStep
         ensures { Steps self.old result self.new }
     {
-        if self.has_given_up || !self.machine.is_between() {
-            return self.rest();
+        if self.has_given_up {
+            return self.machine.rest();
         }
-        while self.machine.is_built() {
-            if let Some((number, ask)) = attempt(alloc, &mut self.machine) {
-                return ClientStep::Ask(number, ask);
+        if !self.machine.is_between() {
+            return self.machine.rest();
+        }
+        if !self.machine.is_built() {
+            return self.machine.rest();
+        }
+        match next_ask(alloc, &mut self.machine) {
+            Some((number, ask)) => ClientStep::Ask(number, ask),
+            None => {
+                self.has_given_up = true;
+                self.machine.rest()
             }
-            self.has_given_up = true;
         }
-        self.rest()
     }
+
+    /// The ask that was told to do next was made, and stands at this place.
+    pub fn asked(&mut self, place: Place)
+        requires here { self.old.gone ≡ false }
+        requires asking { is_ask (next_step self.old.state) ≡ true }
+        requires room { self.old.state.counts.messages + 1 < 2 ^ 64 }
+        ensures { self.new ≡ actor (placed place self.old.state) false }
+    {
+        self.machine.place_ask(place);
+    }
+
+    /// The Ask at a place was served.
+    pub fn told(&mut self, ask_place: Place, serve_place: Place, reply: Reply)
+        ensures { self.new ≡ actor (served ask_place (told_reply serve_place reply) self.old.state) self.old.gone }
+    {
+        self.machine.told(ask_place, serve_place, reply);
+    }
+
+    /// Whether the client gave up all that it had left.
+    pub fn has_given_up(&self) -> bool
+        ensures { result ≡ self.now.gone }
+    {
+        let _ = &self.machine;
+        self.has_given_up
+    }
+
+    /// The number of the call under way, or of the next one where none is.
+    pub fn number(&self) -> u32
+        ensures { result ≡ self.now.state.number }
+    {
+        self.machine.number()
+    }
+
+    /// Whether the client has a call left.
+    pub fn has_calls(&self) -> bool
+        ensures { result ≡ (not self.now.gone && nat_lt 0 (length self.now.state.left)) }
+    {
+        !self.has_given_up && !self.machine.is_over()
+    }
+
+    /// One result for each call; those that have not ended are unanswered.
+    pub fn into_results(self) -> Vec<CallResult>
+        ensures { result.items ≡ results_of self.state }
+    {
+        let Client { machine, .. } = self;
+        machine.into_results()
+    }
+}
+
+/// The first ask of the call under way, where there is memory for it; else the call is given up.
+fn attempt(alloc: Global, machine: &mut ClientMachine) -> Option<(u32, Ask)>
+    requires between { machine.old.sent ≡ [] }
+    requires built { is_some (next_op machine.old.left) ≡ true }
+    ensures asks { IfSome result (λ a. next_step machine.new ≡ asks a.0 a.1) }
+    ensures composed { IfSome result (λ a. machine.new ≡ composed machine.old) }
+    ensures gives_up { result ≡ None → machine.new ≡ given_up machine.old }
+{
+    if let Ok(()) = machine.take_up(alloc) {
+        if let Ok(first) = machine.first_ask(alloc) {
+            return Some(first);
+        }
+    }
+    machine.give_up_call();
+    None
+}
+
+#[tactic(auto, using(crate::proofs::WayFacts::way_starts, crate::proofs::WayFacts::way_goes, crate::proofs::WayFacts::way_ready, crate::proofs::WayFacts::way_duty, crate::proofs::WayFacts::way_own, crate::proofs::WayFacts::way_ends, crate::proofs::WayFacts::shorter))]
+/// The next ask, of the first call for which there is memory; the calls before it are given up.
+fn next_ask(alloc: Global, machine: &mut ClientMachine) -> Option<(u32, Ask)>
+    requires between { machine.old.sent ≡ [] }
+    ensures duty { IfSome result (λ a. Duty machine.old a.0 a.1) }
+    ensures own { IfSome result (λ a. a.1.from.client ≡ machine.old.who.client) }
+    ensures ready { IfSome result (λ a. machine.new ≡ begun a.1 machine.old.sent machine.old) }
+    ensures gave_up { result ≡ None → machine.new ≡ all_given_up machine.old.left machine.old }
+    ensures rests { result ≡ None → is_some (next_op machine.new.left) ≡ false }
+    ensures still_between { result ≡ None → machine.new.sent ≡ [] }
+{
+    while machine.is_built() {
+        if let Some(first) = attempt(alloc, machine) {
+            return Some(first);
+        }
+    }
+    None
 }

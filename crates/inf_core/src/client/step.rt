@@ -2,7 +2,7 @@
 
 ghost use Rattle.std.specs.Prelude.{◌≡◌, ◌≢◌, ◌↔◌, ◌+◌, ◌<◌, ◌^◌, [], length, is_some, true, false, Some, IfOk, OnOk, OnErr, IsTrue};
 ghost use Rattle.inf_core.specs.Client.{placed};
-ghost use Rattle.inf_core.specs.ClientStep.{IsQuiet, next_as};
+ghost use Rattle.inf_core.specs.ClientStep.{IsQuiet, is_ask, next_as};
 ghost use Rattle.inf_core.specs.Duty.{asks, given_up, next_of, next_step};
 ghost use Rattle.inf_core.specs.Group.{composed, group};
 ghost use Rattle.inf_core.specs.Kept.{unserved};
@@ -33,10 +33,13 @@ impl ClientMachine {
         self.left.is_empty()
     }
 
-    /// Whether the call under way is of a kind that is built.
+    /// Whether the call under way is of a kind that is built. Between two groups there is an ask to make for it.
+    #[tactic(auto, using(crate::proofs::StepFacts::built_asks))]
     pub fn is_built(&self) -> bool
-        ensures { result ≡ is_some (next_op self.now.left) }
+        ensures value { result ≡ is_some (next_op self.now.left) }
+        ensures asking { self.now.sent ≡ [] → result ≡ true → is_ask (next_step (composed self.now)) ≡ true }
     {
+        let _ = &self.stage;
         match self.call_at(0) {
             Some(call) => has_op(call),
             None => false,

@@ -1,0 +1,2 @@
+pub mod ActorFacts
+pub mod WayFacts
