@@ -1,2 +1,3 @@
 pub mod ActorFacts
+pub mod QueueFacts
 pub mod WayFacts

@@ -3,8 +3,12 @@
 
 mod client;
 mod limits;
+mod posting;
+mod queue;
 
 pub use client::Client;
 pub use inf_core::{ClientStep, Outcome, Results};
 pub use inf_order::{MOST_MOVES, Move, Moves};
 pub use limits::MOST_EVENTS;
+pub use posting::Posting;
+pub use queue::Queue;
