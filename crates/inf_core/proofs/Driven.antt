@@ -1,7 +1,7 @@
 -- What a driver of clients rests on: whom an event changes, that a new place is fresh, and how far the counts go.
 use Rattle.std.proofs.Common.{◌≡◌, ℕ, suc, ◌≤◌, Bool, true, false, cond, eqb, List, [], ◌∷◌, length, slice_get, Option, Some, None, refl, ap, ◌∙◌, arith}
 use Rattle.inf_base.specs.declared.setup.ClientLine.{ClientLine}
-use Rattle.inf_core.specs.Client.{Client, has_place, starting}
+use Rattle.inf_core.specs.Client.{Client, has_place, start, starting}
 use Rattle.inf_core.specs.Duty.{asked, begun}
 use Rattle.inf_core.specs.Legal.{Legal, client_after}
 use Rattle.inf_core.specs.Turn.{Turn, after_record, begins_again, ends, goes_on, recorded, served, turned}
@@ -75,9 +75,20 @@ served_counts most ask_place told s within =
     (λ here going. within)
     (λ here complete. turned_counts most _ (recorded ask_place told s) within)
 
+-- an answer is no Ask more
+pub served_messages : (ask_place : ℕ) (told : Told) (s : Client) → (served ask_place told s).counts.messages ≤ s.counts.messages
+served_messages ask_place told s = served_counts s.counts.messages ask_place told s (omega arith)
+
 starting_counts : (world : World) (client : ℕ) (line : Option ClientLine) → Counts 0 (starting world client line)
 starting_counts world client None = omega arith
 starting_counts world client (Some line) = omega arith
+
+starting_messages : (world : World) (client : ℕ) (line : Option ClientLine) → (starting world client line).counts.messages ≡ 0
+starting_messages world client None = refl
+starting_messages world client (Some line) = refl
+
+pub start_messages : (world : World) (client : ℕ) → (start world client).counts.messages ≡ 0
+start_messages world client = starting_messages world client (slice_get world.setup.clients client)
 
 one_more : (most : ℕ) (s : Client) → Counts most s → Counts (suc most) s
 one_more most s within = omega arith
