@@ -15,13 +15,13 @@ use std::alloc::Global;
 use std::process::Abort;
 use std::test::Fail;
 
-pub const RULE: ShaRule = ShaRule { bytes: 32 };
+const RULE: ShaRule = ShaRule { bytes: 32 };
 
 const ROOT_USER: Caller = Caller { uid: 0, gid: 0 };
 
 /// Two servers, and a client that makes a file and asks for it. The digest of the empty message begins with the bytes
 /// e3 b0 c4 42 98 fc 1c 14, an even number, so server 0 keeps the root.
-pub fn setup(alloc: Global) -> Result<Setup, NoMemory>
+fn setup(alloc: Global) -> Result<Setup, NoMemory>
     ensures servers { IfOk result (λ setup. setup.servers ≡ 2) }
     ensures calls { IfOk result (λ setup. call_count setup.clients ≤ MOST_CALLS) }
 {
@@ -103,7 +103,7 @@ fn finish(alloc: Global, call: u32, stamp: Place) -> Result<Ask, NoMemory> {
     })
 }
 
-pub fn found() -> Reply {
+fn found() -> Reply {
     Reply::Found {
         key: Key::Top,
         access: access(),

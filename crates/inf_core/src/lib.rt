@@ -7,8 +7,6 @@ mod allow_tests;
 mod call_op;
 mod client;
 mod client_step;
-#[cfg(test)]
-mod client_tests;
 mod course;
 mod draft;
 mod examples;
