@@ -122,7 +122,7 @@ decides_head : (s : Client) (left : List Call) (given : Answer) → decides s le
 decides_head s [] given = refl
 decides_head s (next ∷ left) given = refl
 
-client_of : (world : World) (client : ℕ) (line : Option ClientLine) → (starting world client line).who.client ≡ client
+pub client_of : (world : World) (client : ℕ) (line : Option ClientLine) → (starting world client line).who.client ≡ client
 client_of world client None = refl
 client_of world client (Some line) = refl
 

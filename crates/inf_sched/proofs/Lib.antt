@@ -1,3 +1,4 @@
 pub mod ActorFacts
 pub mod QueueFacts
+pub mod StepFacts
 pub mod WayFacts

@@ -3,3 +3,4 @@ pub mod Waiting
 pub mod Moves
 pub mod Order
 pub mod Actor
+pub mod Run

@@ -5,6 +5,7 @@ mod client;
 mod limits;
 mod posting;
 mod queue;
+mod stepping;
 
 pub use client::Client;
 pub use inf_core::{ClientStep, Outcome, Results};

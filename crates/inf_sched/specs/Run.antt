@@ -1,0 +1,99 @@
+-- What contracts see of a run, and what it keeps behind that.
+use Rattle.std.specs.Prelude.{◌≡◌, ℕ, suc, ◌+◌, Bool, true, false, List, [], ◌∷◌, length, map, slice_get, Some}
+use Rattle.inf_core.specs.Client.{Client}
+use Rattle.inf_core.specs.Core.{Running}
+use Rattle.inf_core.specs.Legal.{Legal, MayAsk, client_after}
+use Rattle.inf_core.specs.Outcome.{all_given_up}
+use Rattle.inf_core.specs.World.{World}
+use Rattle.inf_message.specs.declared.ask.Ask.{Ask}
+use Rattle.inf_message.specs.declared.event.Event.{Event}
+use Rattle.inf_message.specs.declared.event.Event.TheVariants as event
+use Rattle.inf_sched.specs.Actor.{Actor, wants_to_ask}
+use Rattle.inf_sched.specs.declared.stepping.Stepped.{Stepped}
+use Rattle.inf_sched.specs.declared.stepping.Stepped.TheVariants as stepped
+use Rattle.inf_sched.specs.Scene.{Scene}
+use Rattle.inf_sched.specs.Waiting.{IsQueue, Posting, is_by, is_to, posting}
+
+-- a run by its core, and for each client whether it gave up what it had left
+pub record Playing (R : Type 0) : Type 0 where
+  pub core : Running R
+  pub gone : List Bool
+
+abbrev pub playing : {R : Type 0} → Running R → List Bool → Playing R
+playing core gone = record { core = core; gone = gone }
+
+abbrev pub scene_of : {R : Type 0} → Playing R → Scene
+scene_of run = record { history = run.core.history; gone = run.gone }
+
+abbrev pub gone_of : List Actor → List Bool
+gone_of actors = map (λ (a : Actor). a.gone) actors
+
+-- ---- what a run keeps
+
+-- between two groups it gave up all that it had left
+pub record IsGivenUp (s state : Client) : Type 0 where
+  pub between : s.sent ≡ []
+  pub all : state ≡ all_given_up s.left s
+
+abbrev pub IsStateOf : Bool → Client → Client → Type 0
+IsStateOf true s state = IsGivenUp s state
+IsStateOf false s state = state ≡ s
+
+-- a client in code is as its events leave it
+abbrev pub IsActor : Client → Actor → Type 0
+IsActor s a = IsStateOf a.gone s a.state
+
+pub record AreActors (world : World) (h : List Event) (actors : List Actor) : Type 0 where
+  pub count : length actors ≡ length world.setup.clients
+  pub each : (client : ℕ) (a : Actor) → slice_get actors client ≡ Some a → IsActor (client_after world client h) a
+
+-- so many queues, each with the Asks that fit
+pub record AreQueues (fits : ℕ → Posting → Bool) (h : List Event) (many : ℕ) (queues : List (List Posting)) : Type 0 where
+  pub count : length queues ≡ many
+  pub each : (index : ℕ) (queue : List Posting) → slice_get queues index ≡ Some queue → IsQueue (fits index) h queue
+
+pub record IsKept (world : World) (h : List Event) (actors : List Actor) (to_server by_client : List (List Posting)) : Type 0 where
+  pub legal : Legal world h
+  pub clients : AreActors world h actors
+  pub servers : AreQueues is_to h (world.setup.servers + 1) to_server
+  pub askers : AreQueues is_by h (length world.setup.clients) by_client
+
+-- ---- what comes of letting a client ask
+
+-- it asked, and the posting is its Ask's
+pub record Asked (world : World) (client : ℕ) (p : Posting) (h after : List Event) (a b : Actor) : Type 0 where
+  pub number : ℕ
+  pub ask : Ask
+  pub here : a.gone ≡ false
+  pub own : ask.from.client ≡ client
+  pub may : MayAsk world h number ask
+  pub joins : after ≡ event.Ask number ask ∷ h
+  pub posted : p ≡ posting (suc (length h)) number client
+  pub still_here : b.gone ≡ false
+  pub actor : IsActor (client_after world client after) b
+  pub legal : Legal world after
+
+-- it gave up all that it had left
+pub record HasGivenUp (world : World) (client : ℕ) (h after : List Event) (a b : Actor) : Type 0 where
+  pub here : a.gone ≡ false
+  pub asking : wants_to_ask a ≡ true
+  pub between : a.state.sent ≡ []
+  pub same : after ≡ h
+  pub gone : b.gone ≡ true
+  pub actor : IsActor (client_after world client h) b
+
+-- it has no ask to make
+pub record HasRested (h after : List Event) (a b : Actor) : Type 0 where
+  pub idle : wants_to_ask a ≡ false
+  pub same : after ≡ h
+  pub actor : b ≡ a
+
+abbrev pub Did : World → ℕ → Stepped → List Event → List Event → Actor → Actor → Type 0
+Did world client (stepped.Asked p) h after a b = Asked world client p h after a b
+Did world client stepped.GaveUp h after a b = HasGivenUp world client h after a b
+Did world client stepped.Rested h after a b = HasRested h after a b
+
+-- what it did that made no ask
+abbrev pub rested : Bool → Bool → Stepped
+rested false true = stepped.GaveUp
+rested was_gone is_gone = stepped.Rested
