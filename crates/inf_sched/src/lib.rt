@@ -1,7 +1,9 @@
 //! Runs the calls of a script under an order of moves: clients ask, servers serve, and a history comes of it.
 #![tactic(auto)]
 
+mod laws;
 mod limits;
 
 pub use inf_order::{MOST_MOVES, Move, Moves};
+pub use laws::{what_an_order_makes_is_an_outcome, what_an_order_makes_is_legal};
 pub use limits::MOST_EVENTS;
