@@ -2,3 +2,5 @@ pub mod Scene
 pub mod Waiting
 pub mod Moves
 pub mod Order
+pub mod Straight
+pub mod Examples

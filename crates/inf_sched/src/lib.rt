@@ -1,9 +1,11 @@
 //! Runs the calls of a script under an order of moves: clients ask, servers serve, and a history comes of it.
 #![tactic(auto)]
 
+mod examples;
 mod laws;
 mod limits;
 
+pub use examples::single_events;
 pub use inf_order::{MOST_MOVES, Move, Moves};
 pub use laws::{what_an_order_makes_is_an_outcome, what_an_order_makes_is_legal};
 pub use limits::MOST_EVENTS;
