@@ -2,7 +2,8 @@
 
 ghost use Rattle.std.specs.Prelude.{◌≡◌, [], ◌∷◌};
 ghost use Rattle.inf_core.specs.Examples as example;
-ghost use Rattle.inf_sched.specs.Examples.{a_steps, after, asking, b_steps, by_hand, history_of, serves_0, serves_1, serves_b};
+ghost use Rattle.inf_order.specs.declared.moves.Move.TheVariants as move;
+ghost use Rattle.inf_sched.specs.Examples.{a_alone, a_only, a_steps, after, asking, b_alone, b_steps, b_waits_first, by_hand, history_of, not_asked, one_by_one, results_one_by_one, serves_0, serves_1, serves_b};
 ghost use Rattle.inf_sched.specs.Order.{results_in};
 
 /// What moves of single events make.
@@ -17,4 +18,22 @@ pub fn single_events()
     ensures other_server { history_of (a_steps ∷ serves_1 ∷ []) ≡ example.first_events 1 }
     ensures other_client { history_of (a_steps ∷ serves_b ∷ []) ≡ example.first_events 1 }
     ensures nothing_waits { history_of (serves_0 ∷ []) ≡ [] }
+{}
+
+/// What clients make that go on alone.
+pub fn alone()
+    ensures a { history_of (a_alone ∷ []) ≡ a_only }
+    ensures a_then_b { history_of (a_alone ∷ b_alone ∷ []) ≡ one_by_one }
+    ensures each { history_of (move.Rest ∷ []) ≡ one_by_one }
+    ensures waits_first { history_of (b_steps ∷ a_alone ∷ b_alone ∷ []) ≡ b_waits_first }
+
+    // Nothing is left to do.
+    ensures no_call_left { history_of (a_alone ∷ a_alone ∷ []) ≡ a_only }
+    ensures nobody_left { history_of (move.Rest ∷ move.Rest ∷ serves_0 ∷ []) ≡ one_by_one }
+{}
+
+/// What the calls come to, where the order ends before or after them.
+pub fn results()
+    ensures all { results_in example.world (after (move.Rest ∷ [])) ≡ results_one_by_one }
+    ensures early { results_in example.world (after (a_alone ∷ [])) ≡ example.result 0 example.done 4 1 ∷ not_asked ∷ [] }
 {}

@@ -5,7 +5,7 @@ mod examples;
 mod laws;
 mod limits;
 
-pub use examples::single_events;
+pub use examples::{alone, results, single_events};
 pub use inf_order::{MOST_MOVES, Move, Moves};
 pub use laws::{what_an_order_makes_is_an_outcome, what_an_order_makes_is_legal};
 pub use limits::MOST_EVENTS;
