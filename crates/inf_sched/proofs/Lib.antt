@@ -1,2 +1,6 @@
 pub mod Kept
 pub mod OrderLaws
+pub mod BuiltFacts
+pub mod StraightSteps
+pub mod StraightMoves
+pub mod StraightLaws

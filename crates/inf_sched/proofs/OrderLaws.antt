@@ -80,7 +80,7 @@ serving_left : (world : World) (number place : ℕ) (old new : Scene) → MakesS
 serving_left world number place old new serves left = subst (GoneAreLeft world) (sym serves.joins) (λ each gone.
     subst IsLeft (sym (unserved place (told_reply (suc (length old.history)) serves.given) (client_in world old each) (left each gone).between)) (left each gone))
 
-gone_left : (world : World) (order : List Move) (scene : Scene) → ByMoves world order (opening world) scene → GoneAreLeft world scene
+pub gone_left : (world : World) (order : List Move) (scene : Scene) → ByMoves world order (opening world) scene → GoneAreLeft world scene
 gone_left world order scene moves =
     moves_keep world (GoneAreLeft world)
     (record { asking = asking_left world; giving_up = giving_up_left world; serving = serving_left world })

@@ -1,6 +1,5 @@
 -- Orders of moves for the small world of two clients, and what they make.
-use Rattle.std.specs.Prelude.{ℕ, List, [], ◌∷◌, codes, Option, Some, None}
-use Rattle.inf_base.specs.declared.answer.Answer.{Answer}
+use Rattle.std.specs.Prelude.{ℕ, List, [], ◌∷◌, codes, Some, None}
 use Rattle.inf_base.specs.declared.answer.Answer.TheVariants as answer
 use Rattle.inf_base.specs.declared.file.FileMeta.{FileMeta}
 use Rattle.inf_base.specs.declared.item.Kind.TheVariants as kind

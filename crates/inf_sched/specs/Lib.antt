@@ -3,4 +3,5 @@ pub mod Waiting
 pub mod Moves
 pub mod Order
 pub mod Straight
+pub mod Laws
 pub mod Examples

@@ -78,8 +78,8 @@ abbrev pub alone : World → ℕ → ℕ → ℕ → Scene → Scene
 alone world client number zero scene = scene
 alone world client number (suc events) scene =
     unless (has_ended world client number scene)
-      (λ now. ask_on world client (can_ask world now client) (λ mid. alone world client number events mid) now)
-      scene
+    (λ now. ask_on world client (can_ask world now client) (λ mid. alone world client number events mid) now)
+    scene
 
 -- `=a`
 abbrev pub call : World → ℕ → Scene → Scene
@@ -90,11 +90,11 @@ abbrev pub calls : World → ℕ → ℕ → Scene → Scene
 calls world client zero scene = scene
 calls world client (suc count) scene =
     only_if (has_calls world scene client)
-      (λ now.
-      only_if (has_ended world client (number_in world now client) (call world client now))
-        (λ mid. calls world client count mid)
-        (call world client now))
-      scene
+    (λ now.
+    only_if (has_ended world client (number_in world now client) (call world client now))
+    (λ mid. calls world client count mid)
+    (call world client now))
+    scene
 
 -- `*`
 abbrev pub rest : World → ℕ → ℕ → Scene → Scene
