@@ -4,3 +4,4 @@ pub mod BuiltFacts
 pub mod StraightSteps
 pub mod StraightMoves
 pub mod StraightLaws
+pub mod PlainReplies
