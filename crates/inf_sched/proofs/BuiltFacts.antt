@@ -140,6 +140,13 @@ none_before xs ys none = false_before _ (list_any gave_up ys) (sym (list_any-app
 pub none_behind : (xs ys : List CallResult) → HasNotGivenUp (xs ++ ys) → HasNotGivenUp ys
 none_behind xs ys none = false_behind (list_any gave_up xs) _ (sym (list_any-append gave_up xs ys) ∙ none)
 
+pub neither : (a b : Bool) → a ≡ false → b ≡ false → (a || b) ≡ false
+neither true b e f = e
+neither false b e f = f
+
+pub none_joined : (xs ys : List CallResult) → HasNotGivenUp xs → HasNotGivenUp ys → HasNotGivenUp (xs ++ ys)
+none_joined xs ys none none_more = list_any-append gave_up xs ys ∙ neither _ _ none none_more
+
 pub gives_up : (s : Client) → HasGivenUp (given_up s).results
 gives_up s = gave_up_behind s.results _ refl
 

@@ -5,3 +5,5 @@ pub mod StraightSteps
 pub mod StraightMoves
 pub mod StraightLaws
 pub mod PlainReplies
+pub mod RunSteps
+pub mod RunMoves

@@ -41,7 +41,7 @@ pub record IsLeft (s : Client) : Type 0 where
 abbrev pub GoneAreLeft : World → Scene → Type 0
 GoneAreLeft world scene = (client : ℕ) → is_gone scene client ≡ true → IsLeft (client_in world scene client)
 
-starts_present : (lines : List ClientLine) (client : ℕ) → is_set (slice_get (map (λ (line : ClientLine). false) lines) client) ≡ false
+pub starts_present : (lines : List ClientLine) (client : ℕ) → is_set (slice_get (map (λ (line : ClientLine). false) lines) client) ≡ false
 starts_present [] client = refl
 starts_present (line ∷ lines) zero = refl
 starts_present (line ∷ lines) (suc client) = starts_present lines client

@@ -122,32 +122,37 @@ no_ask : (t : Client) (left : List Call) → slice_get left 0 ≡ None → is_as
 no_ask t [] none asking = cc
 no_ask t (call ∷ calls) none asking = cc
 
-planned_left : (sent : List Sent) (s : Client) → (planned_from sent s).left ≡ s.left
+pub planned_left : (sent : List Sent) (s : Client) → (planned_from sent s).left ≡ s.left
 planned_left [] s = refl
 planned_left (x ∷ sent) s = refl
 
-asking_of : (a b : Bool) → (a && b) ≡ true → b ≡ true
+pub asking_of : (a b : Bool) → (a && b) ≡ true → b ≡ true
 asking_of true b e = e
 asking_of false b e = absurd (cc)
 
-none_gives_up : (world : World) (client : ℕ) (old new : Scene) → GivesUp world client old new → IsCalm world new → ⊥
-none_gives_up world client old new gives calm = by (slice_get world.setup.clients client) refl
+-- a client that has an ask to make is there
+pub asks_within : (world : World) (client : ℕ) (h : List Event) → is_ask (next_step (planned (client_after world client h))) ≡ true → client < length world.setup.clients
+asks_within world client h asking = by (slice_get world.setup.clients client) refl
   where
     s : Client
-    s = client_in world old client
+    s = client_after world client h
 
-    by : (line : Option ClientLine) → slice_get world.setup.clients client ≡ line → ⊥
+    by : (line : Option ClientLine) → slice_get world.setup.clients client ≡ line → client < length world.setup.clients
     by None at =
-        let left : slice_get s.left 0 ≡ None = (reads world client old.history).left 0 ∙ ap (λ line. slice_get (calls_of line) (s.number - 1 + 0)) at in
-        no_ask (planned s) (planned s).left (ap (λ calls. slice_get calls 0) (planned_left s.sent s) ∙ left) (asking_of _ _ gives.can)
-    by (Some line) at =
-        let now : IsCalm world (record { history = old.history; gone = slice_set old.gone client true }) = subst (IsCalm world) gives.gone calm in
-        let within : client < length world.setup.clients = slice_get_within world.setup.clients client line at in
-        let size : length (slice_set old.gone client true) ≡ length old.gone = length-set old.gone client true in
-        let sized : length (slice_set old.gone client true) ≡ length world.setup.clients = now.sized in
-        let set = ap is_set (got_set old.gone client true (omega arith)) in
-        let here : is_set (slice_get (slice_set old.gone client true) client) ≡ false = now.here client within in
-        cc
+        let left : slice_get s.left 0 ≡ None = (reads world client h).left 0 ∙ ap (λ line. slice_get (calls_of line) (s.number - 1 + 0)) at in
+        absurd (no_ask (planned s) (planned s).left (ap (λ calls. slice_get calls 0) (planned_left s.sent s) ∙ left) asking)
+    by (Some line) at = slice_get_within world.setup.clients client line at
+
+none_gives_up : (world : World) (client : ℕ) (old new : Scene) → GivesUp world client old new → IsCalm world new → ⊥
+none_gives_up world client old new gives calm =
+    let now : IsCalm world (record { history = old.history; gone = slice_set old.gone client true }) = subst (IsCalm world) gives.gone calm in
+    let asking : is_ask (next_step (planned (client_in world old client))) ≡ true = asking_of (not (is_gone old client)) _ gives.can in
+    let within : client < length world.setup.clients = asks_within world client old.history asking in
+    let size : length (slice_set old.gone client true) ≡ length old.gone = length-set old.gone client true in
+    let sized : length (slice_set old.gone client true) ≡ length world.setup.clients = now.sized in
+    let set = ap is_set (got_set old.gone client true (omega arith)) in
+    let here : is_set (slice_get (slice_set old.gone client true) client) ≡ false = now.here client within in
+    cc
 
 pub asks_lead : (world : World) (client : ℕ) (old new : Scene) → Asks world client old new → IsCalm world new → MadeNext world client old new
 asks_lead world client old new made calm =

@@ -8,7 +8,9 @@ ghost use Rattle.inf_message.specs.declared.call_result.CallResult.{CallResult};
 ghost use Rattle.inf_message.specs.declared.event.Event.{Event};
 ghost use Rattle.inf_order.specs.declared.moves.Move.{Move};
 ghost use Rattle.inf_sched.specs.Laws.{IsStraight, MakesCalmly};
-ghost use Rattle.inf_sched.specs.Order.{ByOrder};
+ghost use Rattle.inf_sched.specs.Order.{ByOrder, results_in};
+ghost use Rattle.inf_sched.specs.Scene.{opening};
+ghost use Rattle.inf_sched.specs.Straight.{straight};
 
 /// Whatever history an order of moves makes is legal: in it each client did its duty, and each server replied as its
 /// machine does.
@@ -34,4 +36,10 @@ pub fn one_history_without_want_of_memory()
 pub fn one_outcome_without_want_of_memory()
     ensures { (world : World) (order : List Move) (h g : List Event) (results others : List CallResult)
         → MakesCalmly world order h results → MakesCalmly world order g others → (h ≡ g) × (results ≡ others) }
+{}
+
+/// And there is one: whatever the order, its run can be made without want of memory.
+pub fn every_order_is_made_without_want_of_memory()
+    ensures { (world : World) (order : List Move)
+        → MakesCalmly world order (straight world order (opening world)).history (results_in world (straight world order (opening world))) }
 {}

@@ -8,7 +8,7 @@ mod limits;
 pub use examples::{alone, results, single_events};
 pub use inf_order::{MOST_MOVES, Move, Moves};
 pub use laws::{
-    one_history_without_want_of_memory, one_outcome_without_want_of_memory,
+    every_order_is_made_without_want_of_memory, one_history_without_want_of_memory, one_outcome_without_want_of_memory,
     what_an_order_makes_is_an_outcome, what_an_order_makes_is_legal,
 };
 pub use limits::MOST_EVENTS;
