@@ -114,7 +114,7 @@ true_behind : (a b : Bool) → b ≡ true → (a || b) ≡ true
 true_behind true b e = refl
 true_behind false b e = e
 
-false_before : (a b : Bool) → (a || b) ≡ false → a ≡ false
+pub false_before : (a b : Bool) → (a || b) ≡ false → a ≡ false
 false_before true b e = e
 false_before false b e = refl
 

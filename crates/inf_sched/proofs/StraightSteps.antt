@@ -26,7 +26,7 @@ use Rattle.inf_sched.specs.Laws.{is_no_mem, wanted}
 use Rattle.inf_sched.specs.Scene.{Scene, Asks, GivesUp, MakesAsk, MakesServe, can_ask, client_in, is_ask, is_gone, is_set, planned, planned_from}
 use Rattle.inf_sched.specs.Straight.{reply_to, with_ask, with_event, with_next_ask, with_serve}
 use Rattle.inf_sched.specs.Waiting.{Posting}
-use Rattle.inf_sched.proofs.BuiltFacts.{HasGivenUp, HasNotGivenUp, false_behind, gave_up_before, gives_up, none_before}
+use Rattle.inf_sched.proofs.BuiltFacts.{HasGivenUp, HasNotGivenUp, false_before, false_behind, gave_up_before, gives_up, none_before}
 use Rattle.inf_server.specs.Machine.{Serves, machine}
 use Rattle.inf_server.specs.Response.{Response}
 use Rattle.inf_server.specs.State.{Site, State}
@@ -177,17 +177,13 @@ plain_reply : (site : Site) (before : State) (place : ℕ) (ask : Ask) (given : 
 plain_reply site before place ask reply.NoMem after plain serves = absurd (cc)
 plain_reply site before place ask any_reply after plain serves = ap (λ (r : Response). r.reply) serves
 
-no_mem_of : (a b : Bool) → (a || b) ≡ false → a ≡ false
-no_mem_of true b e = e
-no_mem_of false b e = refl
-
 pub serve_leads : (world : World) (p : Posting) (old new : Scene) → MakesServe world p.number p.place old new → IsCalm world new → Leads world old new (with_serve world p old)
 serve_leads world p old new makes calm =
     let h : List Event = old.history in
     let given : Reply = makes.given in
     let now : IsCalm world (record { history = event.Serve p.number p.place given ∷ h; gone = old.gone }) = subst (IsCalm world) makes.joins calm in
     let is : given ≡ reply_to world p.number p.place h (asked_at p.place h) =
-    plain_reply (site_of world p.number) (server_after world p.number h) p.place makes.may.posted.ask given makes.may.after (no_mem_of _ _ now.replies) makes.may.reply
+    plain_reply (site_of world p.number) (server_after world p.number h) p.place makes.may.posted.ask given makes.may.after (false_before _ _ now.replies) makes.may.reply
     ∙ ap (reply_to world p.number p.place h) (sym makes.may.made) in
     record {
       calm = record {

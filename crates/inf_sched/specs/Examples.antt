@@ -1,5 +1,5 @@
 -- Orders of moves for the small world of two clients, and what they make.
-use Rattle.std.specs.Prelude.{ℕ, List, [], ◌∷◌, codes, Some, None}
+use Rattle.std.specs.Prelude.{ℕ, List, [], ◌∷◌, codes, Option, Some, None}
 use Rattle.inf_base.specs.declared.answer.Answer.TheVariants as answer
 use Rattle.inf_base.specs.declared.file.FileMeta.{FileMeta}
 use Rattle.inf_base.specs.declared.item.Kind.TheVariants as kind
@@ -106,3 +106,20 @@ b_waits_first =
     ∷ example.asks 0 example.look_up_top
     ∷ example.asks 1 example.look_up_top
     ∷ []
+
+-- the call of `a`, where it ended for want of memory
+abbrev pub no_memory : Option ℕ → Option ℕ → ℕ → CallResult
+no_memory first last asks = record {
+  call = record { client = 0; number = 1 };
+  answer = answer.NoMemory;
+  place = None;
+  first = first;
+  last = last;
+  attempts = asks;
+  rounds = asks;
+  messages = asks;
+}
+
+-- the server wants memory for the lookup of `a`
+abbrev pub wanted_by_server : List Event
+wanted_by_server = event.Serve 0 1 reply.NoMem ∷ example.asks 0 example.look_up_top ∷ []

@@ -1,10 +1,11 @@
 //! Examples of the definitions, which the check computes.
 
-ghost use Rattle.std.specs.Prelude.{◌≡◌, [], ◌∷◌};
+ghost use Rattle.std.specs.Prelude.{◌≡◌, [], ◌∷◌, None, Some};
 ghost use Rattle.inf_core.specs.Examples as example;
 ghost use Rattle.inf_order.specs.declared.moves.Move.TheVariants as move;
-ghost use Rattle.inf_sched.specs.Examples.{a_alone, a_only, a_steps, after, asking, b_alone, b_steps, b_waits_first, by_hand, history_of, not_asked, one_by_one, results_one_by_one, serves_0, serves_1, serves_b};
-ghost use Rattle.inf_sched.specs.Order.{results_in};
+ghost use Rattle.inf_sched.specs.Examples.{a_alone, a_only, a_steps, after, asking, b_alone, b_steps, b_waits_first, by_hand, history_of, no_memory, not_asked, one_by_one, results_one_by_one, serves_0, serves_1, serves_b, wanted_by_server};
+ghost use Rattle.inf_sched.specs.Laws.{MakesCalmly};
+ghost use Rattle.inf_sched.specs.Order.{ByOrder, results_in};
 
 /// What moves of single events make.
 pub fn single_events()
@@ -36,4 +37,14 @@ pub fn alone()
 pub fn results()
     ensures all { results_in example.world (after (move.Rest ∷ [])) ≡ results_one_by_one }
     ensures early { results_in example.world (after (a_alone ∷ [])) ≡ example.result 0 example.done 4 1 ∷ not_asked ∷ [] }
+{}
+
+/// What an order may make where memory is wanted: no event shows that `a` gave its call up, and the server's reply shows
+/// that it wanted memory.
+pub fn wanting()
+    ensures by_client { ByOrder example.world (a_steps ∷ []) [] (no_memory None None 0 ∷ not_asked ∷ []) }
+    ensures by_server { ByOrder example.world (a_steps ∷ serves_0 ∷ []) wanted_by_server (no_memory (Some 1) (Some 2) 1 ∷ not_asked ∷ []) }
+
+    // Without want of memory `a` asks.
+    ensures silent { ¬ MakesCalmly example.world (a_steps ∷ []) [] (results_in example.world (after [])) }
 {}

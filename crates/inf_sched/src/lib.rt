@@ -5,7 +5,7 @@ mod examples;
 mod laws;
 mod limits;
 
-pub use examples::{alone, results, single_events};
+pub use examples::{alone, results, single_events, wanting};
 pub use inf_order::{MOST_MOVES, Move, Moves};
 pub use laws::{
     every_order_is_made_without_want_of_memory, one_history_without_want_of_memory, one_outcome_without_want_of_memory,
