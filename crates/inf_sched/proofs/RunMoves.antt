@@ -1,5 +1,5 @@
 -- The run in which nothing wants memory is one that the order makes.
-use Rattle.std.proofs.Common.{◌≡◌, ℕ, zero, suc, ◌+◌, ◌<◌, Bool, true, false, List, [], ◌∷◌, ◌++◌, length, map, slice_get, Option, Some, None, refl, sym, ap, subst, ◌∙◌, arith, inl, inr}
+use Rattle.std.proofs.Common.{◌≡◌, ℕ, zero, suc, ◌+◌, ◌<◌, Bool, true, false, List, [], ◌∷◌, length, slice_get, Option, Some, None, refl, subst, arith, inl, inr}
 use Rattle.std.proofs.lemmas.List.{length-map}
 use Rattle.inf_base.specs.declared.call.Call.{Call}
 use Rattle.inf_base.specs.declared.answer.Answer.TheVariants as answer
@@ -10,10 +10,10 @@ use Rattle.inf_core.specs.World.{World}
 use Rattle.inf_order.specs.declared.moves.Move.{Move}
 use Rattle.inf_order.specs.declared.moves.Move.TheVariants as move
 use Rattle.inf_sched.specs.Laws.{MakesCalmly}
-use Rattle.inf_sched.specs.Moves.{ByAlone, ByCall, ByCalls, ByMove, ByRest, ByServe, ByStep, FollowedBy, GoesOn, IfElse, ServesOldest, ServesOn}
+use Rattle.inf_sched.specs.Moves.{ByAlone, ByCall, ByCalls, ByMove, ByRest, ByStep, FollowedBy, GoesOn, IfElse, ServesOldest, ServesOn}
 use Rattle.inf_sched.specs.Order.{ByMoves, came_to, results_from, results_in}
 use Rattle.inf_sched.specs.Scene.{Scene, calls_left, can_ask, client_in, has_calls, has_ended, is_gone, number_in, opening}
-use Rattle.inf_sched.specs.Straight.{alone, ask_on, call, calls, made, only_if, rest, serve, serve_found, serve_on, step, straight, unless, with_next_ask, with_serve}
+use Rattle.inf_sched.specs.Straight.{alone, ask_on, call, calls, made, only_if, rest, serve_found, serve_on, step, straight, unless, with_next_ask, with_serve}
 use Rattle.inf_sched.specs.Waiting.{Posting, is_by, is_for, oldest}
 use Rattle.inf_sched.specs.declared.limits.TheConstants.{MOST_EVENTS}
 use Rattle.inf_sched.proofs.BuiltFacts.{HasNotGivenUp, none_joined}
@@ -67,12 +67,12 @@ alone_comes : (world : World) (client number events : ℕ) (old : Scene) → IsC
 alone_comes world client number zero old calm = record { by = refl; calm = calm }
 alone_comes world client number (suc events) old calm =
     let on = unless_comes world (has_ended world client number old)
-        (λ new. GoesOn world client old new (λ mid. ByAlone world client number events mid new))
-        (λ now. ask_on world client (can_ask world now client) (λ mid. alone world client number events mid) now)
-        old
-        (goes_on_comes world client old (λ mid new. ByAlone world client number events mid new) (λ mid. alone world client number events mid)
-        (λ mid there. alone_comes world client number events mid there) calm)
-        calm in
+    (λ new. GoesOn world client old new (λ mid. ByAlone world client number events mid new))
+    (λ now. ask_on world client (can_ask world now client) (λ mid. alone world client number events mid) now)
+    old
+    (goes_on_comes world client old (λ mid new. ByAlone world client number events mid new) (λ mid. alone world client number events mid)
+    (λ mid there. alone_comes world client number events mid there) calm)
+    calm in
     record { by = on.by; calm = on.calm }
 
 call_comes : (world : World) (client : ℕ) (old : Scene) → IsCalm world old → Comes world (ByCall world client old) (call world client old)
@@ -87,16 +87,16 @@ calls_come world client (suc count) old calm =
     let number : ℕ = number_in world old client in
     let mid : Scene = call world client old in
     let last = only_if_comes world (has_ended world client number mid) (λ new. ByCalls world client count mid new) (λ after. calls world client count after) mid
-        (calls_come world client count mid first.calm) first.calm in
+    (calls_come world client count mid first.calm) first.calm in
     let on = only_if_comes world (has_calls world old client)
-        (λ new.
-        FollowedBy (λ mid. ByCall world client old mid)
-        (λ mid. IfElse (has_ended world client (number_in world old client) mid) (ByCalls world client count mid new) (new ≡ mid)))
-        (λ now.
-        only_if (has_ended world client (number_in world now client) (call world client now)) (λ mid. calls world client count mid) (call world client now))
-        old
-        (record { by = record { between = mid; first = first.by; later = last.by }; calm = last.calm })
-        calm in
+    (λ new.
+    FollowedBy (λ mid. ByCall world client old mid)
+    (λ mid. IfElse (has_ended world client (number_in world old client) mid) (ByCalls world client count mid new) (new ≡ mid)))
+    (λ now.
+    only_if (has_ended world client (number_in world now client) (call world client now)) (λ mid. calls world client count mid) (call world client now))
+    old
+    (record { by = record { between = mid; first = first.by; later = last.by }; calm = last.calm })
+    calm in
     record { by = on.by; calm = on.calm }
 
 rest_comes : (world : World) (client clients : ℕ) (old : Scene) → IsCalm world old → Comes world (ByRest world client clients old) (rest world client clients old)

@@ -1,23 +1,22 @@
 -- Each step can be made without want of memory.
-use Rattle.std.proofs.Common.{◌≡◌, ◌≢◌, ℕ, suc, ◌+◌, ◌<◌, ◌≤◌, Bool, true, false, cond, eqb, not, ◌&&◌, ◌||◌, List, [], ◌∷◌, ◌++◌, length, slice_get, Option, Some, None, All, refl, sym, ap, subst, ◌∙◌, arith, inl, inr}
+use Rattle.std.proofs.Common.{◌≡◌, ℕ, suc, ◌<◌, Bool, true, false, cond, eqb, not, ◌&&◌, List, [], ◌∷◌, length, slice_get, Option, Some, None, All, refl, sym, ap, subst, ◌∙◌, arith}
 use Rattle.std.specs.List.{find, list_any}
 use Rattle.std.proofs.lemmas.Bool.Decides.{Decides-eqb}
 use Rattle.std.proofs.lemmas.List.Elements.{All-head, All-nil, All-push, All-tail, All-weaker}
 use Rattle.inf_base.specs.declared.answer.Answer.{Answer}
-use Rattle.inf_base.specs.declared.answer.Answer.TheVariants as answer
 use Rattle.inf_base.specs.declared.call.Call.{Call}
 use Rattle.inf_base.specs.declared.setup.ClientLine.{ClientLine}
 use Rattle.inf_core.specs.Client.{Client, Sent, Who, starting}
 use Rattle.inf_core.specs.Duty.{Duty, Next, asked, asks, at_call, begun, is_over, next_step, waits}
 use Rattle.inf_core.specs.Group.{composed}
-use Rattle.inf_core.specs.Legal.{MayAsk, MayServe, client_after, server_after}
+use Rattle.inf_core.specs.Legal.{client_after, server_after}
 use Rattle.inf_core.specs.Turn.{Turn, act_with, after_lookup, begins_again, ends, first_told, goes_on, next_op, recorded, served, success_of, turn_at, turned, unless_success}
 use Rattle.inf_core.specs.World.{World, site_of}
 use Rattle.inf_core.specs.declared.stage.Stage.{Stage}
 use Rattle.inf_core.specs.declared.stage.Stage.TheVariants as stage
 use Rattle.inf_core.proofs.NextFacts.{next_left, next_own}
 use Rattle.inf_core.proofs.Placed.{ready, reads, told_completes}
-use Rattle.inf_core.proofs.ResultFacts.{by_serve, if_both}
+use Rattle.inf_core.proofs.ResultFacts.{by_serve}
 use Rattle.inf_base.specs.declared.entry.Entry.{Entry}
 use Rattle.inf_message.specs.declared.ask.Ask.{Ask}
 use Rattle.inf_message.specs.declared.event.Event.{Event}
@@ -29,7 +28,7 @@ use Rattle.inf_message.specs.declared.reply.Reply.TheVariants as reply
 use Rattle.inf_message.specs.History.{Posted, Told, asked_at, is_served, posted_ask, told_reply}
 use Rattle.inf_message.proofs.HistoryLaws.{asked_newest, asked_stays, asked_within}
 use Rattle.inf_sched.specs.Laws.{is_no_mem, is_no_memory, wanted}
-use Rattle.inf_sched.specs.Scene.{Scene, Asks, MakesAsk, MakesServe, can_ask, client_in, is_ask, is_gone, planned, planned_from}
+use Rattle.inf_sched.specs.Scene.{Scene, MakesAsk, MakesServe, can_ask, client_in, is_ask, planned, planned_from}
 use Rattle.inf_sched.specs.Straight.{reply_to, with_ask, with_event, with_next_ask, with_serve}
 use Rattle.inf_sched.specs.Waiting.{Posting, is_open, oldest, posting, postings}
 use Rattle.inf_sched.proofs.BuiltFacts.{HasNotGivenUp, neither, none_joined}
@@ -78,9 +77,9 @@ next_comes world client old number ask can next calm =
     let s : Client = client_in world old client in
     let of = next_own (planned s) number ask next in
     let own : ask.from.client ≡ client =
-        of.client_is
-        ∙ ap (λ (w : Who). w.client) (planned_who s.sent s ∙ (reads world client old.history).who)
-        ∙ client_of world client (slice_get world.setup.clients client) in
+    of.client_is
+    ∙ ap (λ (w : Who). w.client) (planned_who s.sent s ∙ (reads world client old.history).who)
+    ∙ client_of world client (slice_get world.setup.clients client) in
     let some : 0 < length s.left = subst (λ (calls : List Call). 0 < length calls) (planned_left s.sent s) (next_left (planned s) number ask next) in
     let finds : begun ask s.sent s ≡ planned s = begun_planned s ask s.sent (of.number_is ∙ planned_number s.sent s) some in
     let duty : Duty s number ask = ap next_step finds ∙ next in

@@ -8,7 +8,7 @@ ghost use Rattle.inf_sched.specs.Laws.{MakesCalmly};
 ghost use Rattle.inf_sched.specs.Order.{ByOrder, results_in};
 
 /// What moves of single events make.
-pub fn single_events()
+pub fn single_moves()
     ensures by_hand { history_of by_hand ≡ example.history }
     ensures early { history_of asking ≡ example.first_events 6 }
     ensures results { results_in example.world (after by_hand) ≡ example.results }
@@ -22,7 +22,7 @@ pub fn single_events()
 {}
 
 /// What clients make that go on alone.
-pub fn alone()
+pub fn lone_clients()
     ensures a { history_of (a_alone ∷ []) ≡ a_only }
     ensures a_then_b { history_of (a_alone ∷ b_alone ∷ []) ≡ one_by_one }
     ensures each { history_of (move.Rest ∷ []) ≡ one_by_one }
@@ -34,7 +34,7 @@ pub fn alone()
 {}
 
 /// What the calls come to, where the order ends before or after them.
-pub fn results()
+pub fn ended_calls()
     ensures all { results_in example.world (after (move.Rest ∷ [])) ≡ results_one_by_one }
     ensures early { results_in example.world (after (a_alone ∷ [])) ≡ example.result 0 example.done 4 1 ∷ not_asked ∷ [] }
 {}

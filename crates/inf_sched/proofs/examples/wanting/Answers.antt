@@ -1,10 +1,10 @@
-use Rattle.std.proofs.Common.{Bool, true, false, [], ◌∷◌, refl, inl, inr, lit<}
+use Rattle.std.proofs.Common.{true, false, [], ◌∷◌, refl, inl, inr, lit<}
 use Rattle.inf_core.specs.Examples as example
 use Rattle.inf_core.specs.Legal.{server_after}
 use Rattle.inf_message.specs.declared.reply.Reply.TheVariants as reply
 use Rattle.inf_message.specs.History.{posted_ask}
 use Rattle.inf_sched.specs.Examples.{a_steps, wanted_by_server}
-use Rattle.inf_sched.specs.Scene.{Scene, opening}
+use Rattle.inf_sched.specs.Scene.{Scene}
 use Rattle.inf_sched.proofs.StraightLaws.{is_straight}
 use Rattle.inf_sched.proofs.examples.wanting.Goals as goal
 
