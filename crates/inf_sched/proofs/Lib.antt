@@ -2,3 +2,12 @@ pub mod ActorFacts
 pub mod QueueFacts
 pub mod StepFacts
 pub mod WayFacts
+pub mod Kept
+pub mod OrderLaws
+pub mod BuiltFacts
+pub mod StraightSteps
+pub mod StraightMoves
+pub mod StraightLaws
+pub mod PlainReplies
+pub mod RunSteps
+pub mod RunMoves

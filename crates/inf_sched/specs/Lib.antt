@@ -4,3 +4,6 @@ pub mod Moves
 pub mod Order
 pub mod Actor
 pub mod Run
+pub mod Straight
+pub mod Laws
+pub mod Examples

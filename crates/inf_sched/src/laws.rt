@@ -1,0 +1,45 @@
+//! Laws of the orders of moves, each a function that only states it.
+
+ghost use Rattle.std.specs.Prelude.{◌≡◌, List};
+ghost use Rattle.inf_core.specs.Legal.{Legal};
+ghost use Rattle.inf_core.specs.Outcome.{Outcome};
+ghost use Rattle.inf_core.specs.World.{World};
+ghost use Rattle.inf_message.specs.declared.call_result.CallResult.{CallResult};
+ghost use Rattle.inf_message.specs.declared.event.Event.{Event};
+ghost use Rattle.inf_order.specs.declared.moves.Move.{Move};
+ghost use Rattle.inf_sched.specs.Laws.{IsStraight, MakesCalmly};
+ghost use Rattle.inf_sched.specs.Order.{ByOrder, results_in};
+ghost use Rattle.inf_sched.specs.Scene.{opening};
+ghost use Rattle.inf_sched.specs.Straight.{straight};
+
+/// Whatever history an order of moves makes is legal: in it each client did its duty, and each server replied as its
+/// machine does.
+pub fn what_an_order_makes_is_legal()
+    ensures { (world : World) (order : List Move) (h : List Event) (results : List CallResult)
+        → ByOrder world order h results → Legal world h }
+{}
+
+/// The results that an order makes agree with the history that it makes.
+pub fn what_an_order_makes_is_an_outcome()
+    ensures { (world : World) (order : List Move) (h : List Event) (results : List CallResult)
+        → ByOrder world order h results → Outcome world h results }
+{}
+
+/// Want of memory is all that is free: where nothing wants memory, an order makes the one history, and the one list of
+/// results, that its run gives.
+pub fn one_history_without_want_of_memory()
+    ensures { (world : World) (order : List Move) (h : List Event) (results : List CallResult)
+        → MakesCalmly world order h results → IsStraight world order h results }
+{}
+
+/// So whatever else an order makes without want of memory is the same.
+pub fn one_outcome_without_want_of_memory()
+    ensures { (world : World) (order : List Move) (h g : List Event) (results others : List CallResult)
+        → MakesCalmly world order h results → MakesCalmly world order g others → (h ≡ g) × (results ≡ others) }
+{}
+
+/// And there is one: whatever the order, its run can be made without want of memory.
+pub fn every_order_is_made_without_want_of_memory()
+    ensures { (world : World) (order : List Move)
+        → MakesCalmly world order (straight world order (opening world)).history (results_in world (straight world order (opening world))) }
+{}
