@@ -11,3 +11,4 @@ pub mod StraightLaws
 pub mod PlainReplies
 pub mod RunSteps
 pub mod RunMoves
+pub mod ServeFacts

@@ -2,7 +2,7 @@
 use Rattle.std.specs.Prelude.{◌≡◌, ℕ, suc, ◌+◌, Bool, true, false, List, [], ◌∷◌, length, map, slice_get, Some}
 use Rattle.inf_core.specs.Client.{Client}
 use Rattle.inf_core.specs.Core.{Running}
-use Rattle.inf_core.specs.Legal.{Legal, MayAsk, client_after}
+use Rattle.inf_core.specs.Legal.{Legal, MayAsk, MayServe, client_after}
 use Rattle.inf_core.specs.Outcome.{all_given_up}
 use Rattle.inf_core.specs.World.{World}
 use Rattle.inf_message.specs.declared.ask.Ask.{Ask}
@@ -11,7 +11,9 @@ use Rattle.inf_message.specs.declared.event.Event.TheVariants as event
 use Rattle.inf_sched.specs.Actor.{Actor, wants_to_ask}
 use Rattle.inf_sched.specs.declared.stepping.Stepped.{Stepped}
 use Rattle.inf_sched.specs.declared.stepping.Stepped.TheVariants as stepped
-use Rattle.inf_sched.specs.Scene.{Scene}
+use Rattle.inf_message.specs.declared.reply.Reply.{Reply}
+use Rattle.inf_sched.specs.Moves.{HasNoAsk}
+use Rattle.inf_sched.specs.Scene.{Asks, Scene}
 use Rattle.inf_sched.specs.Waiting.{IsQueue, Posting, is_by, is_to, posting}
 
 -- a run by its core, and for each client whether it gave up what it had left
@@ -97,3 +99,20 @@ Did world client stepped.Rested h after a b = HasRested h after a b
 abbrev pub rested : Bool → Bool → Stepped
 rested false true = stepped.GaveUp
 rested was_gone is_gone = stepped.Rested
+
+-- ---- what comes of serving an Ask
+
+pub record HasServed (world : World) (p : Posting) (h after : List Event) (a b : Actor) : Type 0 where
+  pub given : Reply
+  pub may : MayServe world h p.number p.place given
+  pub joins : after ≡ event.Serve p.number p.place given ∷ h
+  pub same_gone : b.gone ≡ a.gone
+  pub actor : IsActor (client_after world p.client after) b
+  pub legal : Legal world after
+
+-- ---- steps of a run
+
+-- a client that is let ask does so or gives up; or it has no ask to make, and nothing comes of it
+abbrev pub HasStepped : Bool → World → ℕ → Scene → Scene → Type 0
+HasStepped true world client old new = Asks world client old new
+HasStepped false world client old new = HasNoAsk world client old × (new ≡ old)

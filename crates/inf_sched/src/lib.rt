@@ -7,7 +7,6 @@ mod laws;
 mod limits;
 mod posting;
 mod queue;
-mod run;
 mod serving;
 mod stepping;
 
