@@ -12,3 +12,4 @@ pub mod PlainReplies
 pub mod RunSteps
 pub mod RunMoves
 pub mod ServeFacts
+pub mod RunFacts

@@ -1,0 +1,261 @@
+-- What a run keeps as its clients ask and its servers serve.
+use Rattle.std.proofs.Common.{◌≡◌, ◌≢◌, ℕ, suc, ◌+◌, ◌≤◌, ◌<◌, Bool, true, false, cond, eqb, not, ◌&&◌, ◌||◌, List, [], ◌∷◌, ◌++◌, length, map, slice_get, slice_set, Option, None, Some, All, refl, sym, ap, ap₂, subst, ◌∙◌, arith}
+use Rattle.std.specs.List.{find}
+use Rattle.std.specs.Option.{option_or}
+use Rattle.std.proofs.lemmas.List.{length-set, map-set}
+use Rattle.std.proofs.lemmas.List.Elements.{All-head, All-nil, All-push, All-tail, All-weaker}
+use Rattle.std.proofs.lemmas.List.Folds.{find-append}
+use Rattle.std.proofs.lemmas.Option.{slice_get-map, slice_get_within}
+use Rattle.inf_core.specs.Client.{Client}
+use Rattle.inf_core.specs.Duty.{asked}
+use Rattle.inf_core.specs.Legal.{Legal, MayAsk, MayServe, client_after}
+use Rattle.inf_core.specs.World.{World}
+use Rattle.inf_core.proofs.CoreFacts.{got_apart, got_set}
+use Rattle.inf_core.proofs.Driven.{others_stay}
+use Rattle.inf_core.proofs.Placed.{counted_same, same_counted}
+use Rattle.inf_core.proofs.Posted.{IsKnown, posted_known}
+use Rattle.inf_message.specs.declared.ask.Ask.{Ask}
+use Rattle.inf_message.specs.declared.event.Event.{Event}
+use Rattle.inf_message.specs.declared.event.Event.TheVariants as event
+use Rattle.inf_message.specs.declared.reply.Reply.{Reply}
+use Rattle.inf_message.specs.History.{Posted, asked_at, is_served, posted_ask}
+use Rattle.inf_message.proofs.HistoryLaws.{asked_newest, asked_stays, asked_within}
+use Rattle.inf_sched.specs.Actor.{Actor}
+use Rattle.inf_sched.specs.Run.{AreActors, AreQueues, Asked, HasGivenUp, HasServed, IsActor, IsKept, gone_of}
+use Rattle.inf_sched.specs.Waiting.{IsFrontLeft, IsQueue, IsWaiting, IsWithin, Posting, is_by, is_open, is_to, oldest, posting, postings}
+
+-- ---- a queue
+
+find_same : (f g : Posting → Bool) (ps : List Posting) → ((p : Posting) → f p ≡ g p) → find f ps ≡ find g ps
+find_same f g [] same = refl
+find_same f g (p ∷ ps) same = ap₂ (λ b rest. cond b (Some p) rest) (same p) (find_same f g ps same)
+
+later_within : (e : Event) (h : List Event) (ps : List Posting) → All (IsWithin h) ps → All (IsWithin (e ∷ h)) ps
+later_within e h ps within =
+    All-weaker (IsWithin h) (IsWithin (e ∷ h)) (λ p is. record { counted = is.counted; within = let so : p.place ≤ length h = is.within in omega arith }) ps within
+
+or_none : {A : Type 0} (o : Option A) → option_or o None ≡ o
+or_none None = refl
+or_none (Some x) = refl
+
+find_one : (test : Posting → Bool) (p : Posting) (b : Bool) → test p ≡ b → find test (p ∷ []) ≡ cond b (Some p) None
+find_one test p b is = rw is refl
+
+and_false : (b : Bool) → (b && false) ≡ false
+and_false true = refl
+and_false false = refl
+
+-- an Ask that does not fit leaves the queue
+ask_skips : (fits : Posting → Bool) (h : List Event) (number : ℕ) (ask : Ask) (queue : List Posting) → IsQueue fits h queue
+    → fits (posting (suc (length h)) number ask.from.client) ≡ false → IsQueue fits (event.Ask number ask ∷ h) queue
+ask_skips fits h number ask queue is other = record { finds = λ also. finds also; within = later_within (event.Ask number ask) h queue is.within }
+  where
+    new : Posting
+    new = posting (suc (length h)) number ask.from.client
+    finds : (also : Posting → Bool) → find (λ p. also p && is_open h p) queue ≡ find (λ p. also p && (fits p && is_open h p)) (postings h ++ new ∷ [])
+    finds also =
+        is.finds also
+        ∙ sym (or_none (find (λ p. also p && (fits p && is_open h p)) (postings h)))
+        ∙ ap (option_or (find (λ p. also p && (fits p && is_open h p)) (postings h)))
+          (sym (find_one (λ p. also p && (fits p && is_open h p)) new false (ap (λ b. also new && (b && is_open h new)) other ∙ and_false (also new))))
+        ∙ sym (find-append (λ p. also p && (fits p && is_open h p)) (postings h) (new ∷ []))
+
+-- one that fits joins it
+ask_joins : (fits : Posting → Bool) (h : List Event) (number : ℕ) (ask : Ask) (queue : List Posting) → IsQueue fits h queue
+    → fits (posting (suc (length h)) number ask.from.client) ≡ true
+    → IsQueue fits (event.Ask number ask ∷ h) (queue ++ posting (suc (length h)) number ask.from.client ∷ [])
+ask_joins fits h number ask queue is fit = record {
+  finds = λ also. finds also;
+  within = All-push (IsWithin (event.Ask number ask ∷ h)) queue new (later_within (event.Ask number ask) h queue is.within) (record { counted = omega arith; within = omega arith });
+}
+  where
+    new : Posting
+    new = posting (suc (length h)) number ask.from.client
+    finds : (also : Posting → Bool) → find (λ p. also p && is_open h p) (queue ++ new ∷ []) ≡ find (λ p. also p && (fits p && is_open h p)) (postings h ++ new ∷ [])
+    finds also =
+        find-append (λ p. also p && is_open h p) queue (new ∷ [])
+        ∙ ap₂ option_or (is.finds also)
+          (find_one (λ p. also p && is_open h p) new (also new && is_open h new) refl
+          ∙ sym (find_one (λ p. also p && (fits p && is_open h p)) new (also new && is_open h new) (ap (λ b. also new && (b && is_open h new)) fit)))
+        ∙ sym (find-append (λ p. also p && (fits p && is_open h p)) (postings h) (new ∷ []))
+
+shut : (a o s : Bool) → (a && not (s || o)) ≡ ((a && not s) && not o)
+shut true o true = refl
+shut true o false = refl
+shut false o s = refl
+
+shut_fitting : (a f o s : Bool) → (a && (f && not (s || o))) ≡ ((a && not s) && (f && not o))
+shut_fitting true true o true = refl
+shut_fitting true true o false = refl
+shut_fitting true false o true = refl
+shut_fitting true false o false = refl
+shut_fitting false f o s = refl
+
+-- the queues stay as Asks are served
+serve_keeps : (fits : Posting → Bool) (h : List Event) (number place : ℕ) (given : Reply) (queue : List Posting) → IsQueue fits h queue
+    → IsQueue fits (event.Serve number place given ∷ h) queue
+serve_keeps fits h number place given queue is = record {
+  finds = λ also.
+    find_same _ (λ p. (also p && not (eqb place p.place)) && is_open h p) queue (λ p. shut (also p) (is_served p.place h) (eqb place p.place))
+    ∙ is.finds (λ p. also p && not (eqb place p.place))
+    ∙ find_same (λ p. (also p && not (eqb place p.place)) && (fits p && is_open h p)) _ (postings h)
+      (λ p. sym (shut_fitting (also p) (fits p) (is_served p.place h) (eqb place p.place)));
+  within = later_within (event.Serve number place given) h queue is.within;
+}
+
+front_keeps : (fits : Posting → Bool) (h : List Event) (queue rest : List Posting) → IsQueue fits h queue → IsFrontLeft h queue rest → IsQueue fits h rest
+front_keeps fits h queue rest is left = record { finds = λ also. left.finds also ∙ is.finds also; within = left.within }
+
+-- ---- all queues
+
+unlike_test : (a b : ℕ) → a ≢ b → eqb a b ≡ false
+unlike_test a b unlike = by (eqb a b) refl
+  where
+    by : (t : Bool) → eqb a b ≡ t → t ≡ false
+    by true same = absurd (unlike (counted_same a b same))
+    by false same = refl
+
+set_each : {X : Type 0} (P : ℕ → X → Type 0) (xs : List X) (index : ℕ) (y : X) → index < length xs → P index y
+    → ((k : ℕ) (x : X) → k ≢ index → slice_get xs k ≡ Some x → P k x)
+    → (k : ℕ) (x : X) → slice_get (slice_set xs index y) k ≡ Some x → P k x
+set_each P xs index y there new old k x at = by (eqb k index) refl
+  where
+    by : (b : Bool) → eqb k index ≡ b → P k x
+    by true same =
+        let here : k ≡ index = counted_same k index same in
+        let got : Some y ≡ Some x = sym (got_set xs index y there) ∙ subst (λ i. slice_get (slice_set xs index y) i ≡ Some x) here at in
+        let is : y ≡ x = cc in
+        subst (λ i. P i x) (sym here) (subst (λ z. P index z) is new)
+    by false unlike =
+        let apart : k ≢ index = λ same. absurd (differs k index same unlike) in
+        old k x apart (sym (got_apart xs index k y apart) ∙ at)
+      where
+        differs : (a b : ℕ) → a ≡ b → eqb a b ≡ false → ⊥
+        differs a b same no_more = let yes_more : eqb a b ≡ true = same_counted a b same in absurd (cc)
+
+asked_queues : (fits : ℕ → Posting → Bool) (h : List Event) (many index number : ℕ) (ask : Ask) (queues : List (List Posting)) (queue : List Posting)
+    → AreQueues fits h many queues → slice_get queues index ≡ Some queue
+    → fits index (posting (suc (length h)) number ask.from.client) ≡ true
+    → ((k : ℕ) → k ≢ index → fits k (posting (suc (length h)) number ask.from.client) ≡ false)
+    → AreQueues fits (event.Ask number ask ∷ h) many (slice_set queues index (queue ++ posting (suc (length h)) number ask.from.client ∷ []))
+asked_queues fits h many index number ask queues queue are at fit others = record {
+  count = length-set queues index (queue ++ posting (suc (length h)) number ask.from.client ∷ []) ∙ are.count;
+  each = set_each (λ k q. IsQueue (fits k) (event.Ask number ask ∷ h) q) queues index (queue ++ posting (suc (length h)) number ask.from.client ∷ [])
+    (slice_get_within queues index queue at)
+    (ask_joins (fits index) h number ask queue (are.each index queue at) fit)
+    (λ k q unlike at_k. ask_skips (fits k) h number ask q (are.each k q at_k) (others k unlike));
+}
+
+served_queues : (fits : ℕ → Posting → Bool) (h : List Event) (many number place : ℕ) (given : Reply) (queues : List (List Posting))
+    → AreQueues fits h many queues → AreQueues fits (event.Serve number place given ∷ h) many queues
+served_queues fits h many number place given queues are = record {
+  count = are.count;
+  each = λ k q at. serve_keeps (fits k) h number place given q (are.each k q at);
+}
+
+front_queues : (fits : ℕ → Posting → Bool) (h : List Event) (many index : ℕ) (queues : List (List Posting)) (queue rest : List Posting)
+    → AreQueues fits h many queues → slice_get queues index ≡ Some queue → IsFrontLeft h queue rest → AreQueues fits h many (slice_set queues index rest)
+front_queues fits h many index queues queue rest are at left = record {
+  count = length-set queues index rest ∙ are.count;
+  each = set_each (λ k q. IsQueue (fits k) h q) queues index rest (slice_get_within queues index queue at)
+    (front_keeps (fits index) h queue rest (are.each index queue at) left)
+    (λ k q unlike at_k. are.each k q at_k);
+}
+
+-- ---- all clients
+
+other_asks : (world : World) (h : List Event) (number client : ℕ) (ask : Ask) → client ≢ ask.from.client
+    → client_after world client (event.Ask number ask ∷ h) ≡ client_after world client h
+other_asks world h number client ask unlike =
+    ap (λ b. cond b (asked (suc (length h)) ask (client_after world client h)) (client_after world client h))
+    (unlike_test ask.from.client client (λ same. unlike (sym same)))
+
+asked_actors : (world : World) (h after : List Event) (client : ℕ) (p : Posting) (actors : List Actor) (a b : Actor)
+    → AreActors world h actors → slice_get actors client ≡ Some a → Asked world client p h after a b → AreActors world after (slice_set actors client b)
+asked_actors world h after client p actors a b are at did = record {
+  count = length-set actors client b ∙ are.count;
+  each = set_each (λ k x. IsActor (client_after world k after) x) actors client b (slice_get_within actors client a at) did.actor
+    (λ k x unlike at_k.
+      subst (λ s. IsActor s x)
+      (sym (ap (client_after world k) did.joins ∙ other_asks world h did.number k did.ask (λ same. unlike (same ∙ did.own))))
+      (are.each k x at_k));
+}
+
+gave_up_actors : (world : World) (h after : List Event) (client : ℕ) (actors : List Actor) (a b : Actor)
+    → AreActors world h actors → slice_get actors client ≡ Some a → HasGivenUp world client h after a b → AreActors world h (slice_set actors client b)
+gave_up_actors world h after client actors a b are at did = record {
+  count = length-set actors client b ∙ are.count;
+  each = set_each (λ k x. IsActor (client_after world k h) x) actors client b (slice_get_within actors client a at) did.actor
+    (λ k x unlike at_k. are.each k x at_k);
+}
+
+served_actors : (world : World) (h after : List Event) (p : Posting) (actors : List Actor) (a b : Actor) → Legal world h → IsWaiting h p
+    → AreActors world h actors → slice_get actors p.client ≡ Some a → HasServed world p h after a b → AreActors world after (slice_set actors p.client b)
+served_actors world h after p actors a b legal waits are at did = record {
+  count = length-set actors p.client b ∙ are.count;
+  each = set_each (λ k x. IsActor (client_after world k after) x) actors p.client b (slice_get_within actors p.client a at) did.actor
+    (λ k x unlike at_k.
+      subst (λ s. IsActor s x)
+      (sym (ap (client_after world k) did.joins
+      ∙ others_stay world h legal k p.number p.place did.given (posted_ask p.number waits.ask) waits.asked (λ same. unlike (sym same ∙ waits.own))))
+      (are.each k x at_k));
+}
+
+-- ---- the run
+
+pub kept_asked : (world : World) (h after : List Event) (client : ℕ) (p : Posting) (actors : List Actor) (to by : List (List Posting)) (a b : Actor) (q r : List Posting)
+    → IsKept world h actors to by → slice_get actors client ≡ Some a → Asked world client p h after a b
+    → slice_get to p.number ≡ Some q → slice_get by client ≡ Some r
+    → IsKept world after (slice_set actors client b) (slice_set to p.number (q ++ p ∷ [])) (slice_set by client (r ++ p ∷ []))
+kept_asked world h after client p actors to by a b q r kept at did at_to at_by =
+    let is : p ≡ posting (suc (length h)) did.number did.ask.from.client = did.posted ∙ ap (posting (suc (length h)) did.number) (sym did.own) in
+    let number : p.number ≡ did.number = ap (λ (x : Posting). x.number) is in
+    let by_own : client ≡ did.ask.from.client = sym did.own in
+    record {
+      legal = did.legal;
+      clients = asked_actors world h after client p actors a b kept.clients at did;
+      servers =
+        subst (λ g. AreQueues is_to g (world.setup.servers + 1) (slice_set to p.number (q ++ p ∷ []))) (sym did.joins)
+        (subst (λ x. AreQueues is_to (event.Ask did.number did.ask ∷ h) (world.setup.servers + 1) (slice_set to p.number (q ++ x ∷ []))) (sym is)
+        (asked_queues is_to h (world.setup.servers + 1) p.number did.number did.ask to q kept.servers at_to
+          (same_counted did.number p.number (sym number))
+          (λ k unlike. unlike_test did.number k (λ same. unlike (sym same ∙ sym number)))));
+      askers =
+        subst (λ g. AreQueues is_by g (length world.setup.clients) (slice_set by client (r ++ p ∷ []))) (sym did.joins)
+        (subst (λ x. AreQueues is_by (event.Ask did.number did.ask ∷ h) (length world.setup.clients) (slice_set by client (r ++ x ∷ []))) (sym is)
+        (asked_queues is_by h (length world.setup.clients) client did.number did.ask by r kept.askers at_by
+          (same_counted did.ask.from.client client did.own)
+          (λ k unlike. unlike_test did.ask.from.client k (λ same. unlike (sym same ∙ did.own)))));
+    }
+
+pub kept_gave_up : (world : World) (h after : List Event) (client : ℕ) (actors : List Actor) (to by : List (List Posting)) (a b : Actor)
+    → IsKept world h actors to by → slice_get actors client ≡ Some a → HasGivenUp world client h after a b
+    → IsKept world after (slice_set actors client b) to by
+kept_gave_up world h after client actors to by a b kept at did =
+    subst (λ g. IsKept world g (slice_set actors client b) to by) (sym did.same)
+    (record { legal = kept.legal; clients = gave_up_actors world h after client actors a b kept.clients at did; servers = kept.servers; askers = kept.askers })
+
+pub kept_served : (world : World) (h after : List Event) (p : Posting) (actors : List Actor) (to by : List (List Posting)) (a b : Actor)
+    → IsKept world h actors to by → IsWaiting h p → slice_get actors p.client ≡ Some a → HasServed world p h after a b
+    → IsKept world after (slice_set actors p.client b) to by
+kept_served world h after p actors to by a b kept waits at did = record {
+  legal = did.legal;
+  clients = served_actors world h after p actors a b kept.legal waits kept.clients at did;
+  servers = subst (λ g. AreQueues is_to g (world.setup.servers + 1) to) (sym did.joins) (served_queues is_to h (world.setup.servers + 1) p.number p.place did.given to kept.servers);
+  askers = subst (λ g. AreQueues is_by g (length world.setup.clients) by) (sym did.joins) (served_queues is_by h (length world.setup.clients) p.number p.place did.given by kept.askers);
+}
+
+pub kept_front_to : (world : World) (h : List Event) (number : ℕ) (actors : List Actor) (to by : List (List Posting)) (q rest : List Posting)
+    → IsKept world h actors to by → slice_get to number ≡ Some q → IsFrontLeft h q rest → IsKept world h actors (slice_set to number rest) by
+kept_front_to world h number actors to by q rest kept at left = record {
+  legal = kept.legal; clients = kept.clients;
+  servers = front_queues is_to h (world.setup.servers + 1) number to q rest kept.servers at left;
+  askers = kept.askers;
+}
+
+pub kept_front_by : (world : World) (h : List Event) (client : ℕ) (actors : List Actor) (to by : List (List Posting)) (q rest : List Posting)
+    → IsKept world h actors to by → slice_get by client ≡ Some q → IsFrontLeft h q rest → IsKept world h actors to (slice_set by client rest)
+kept_front_by world h client actors to by q rest kept at left = record {
+  legal = kept.legal; clients = kept.clients; servers = kept.servers;
+  askers = front_queues is_by h (length world.setup.clients) client by q rest kept.askers at left;
+}
