@@ -22,7 +22,7 @@ use Rattle.inf_message.specs.History.{Posted, asked_at, is_served, posted_ask}
 use Rattle.inf_message.proofs.HistoryLaws.{asked_newest, asked_stays, asked_within}
 use Rattle.inf_sched.specs.Actor.{Actor}
 use Rattle.inf_sched.specs.Run.{AreActors, AreQueues, Asked, HasGivenUp, HasServed, IsActor, IsKept, gone_of}
-use Rattle.inf_sched.specs.Waiting.{IsFrontLeft, IsQueue, IsWaiting, IsWithin, Posting, is_by, is_open, is_to, oldest, posting, postings}
+use Rattle.inf_sched.specs.Waiting.{IsFrontLeft, IsQueue, IsWaiting, IsWithin, Posting, is_by, is_for, is_open, is_to, oldest, posting, postings}
 
 -- ---- a queue
 
@@ -259,3 +259,86 @@ kept_front_by world h client actors to by q rest kept at left = record {
   legal = kept.legal; clients = kept.clients; servers = kept.servers;
   askers = front_queues is_by h (length world.setup.clients) client by q rest kept.askers at left;
 }
+
+-- ---- what is found
+
+record IsPostedBy (h : List Event) (p : Posting) : Type 0 where
+  ask : Ask
+  made : asked_at p.place h ≡ Some (posted_ask p.number ask)
+  own : ask.from.client ≡ p.client
+
+stays_posted : (e : Event) (h : List Event) (p : Posting) → IsPostedBy h p → IsPostedBy (e ∷ h) p
+stays_posted e h p is = record {
+  ask = is.ask;
+  made = asked_stays p.place e h (asked_within p.place (posted_ask p.number is.ask) h is.made).within ∙ is.made;
+  own = is.own;
+}
+
+are_posted : (h : List Event) → All (IsPostedBy h) (postings h)
+are_posted [] = All-nil (IsPostedBy [])
+are_posted (event.Ask number ask ∷ h) =
+    All-push (IsPostedBy (event.Ask number ask ∷ h)) (postings h) (posting (suc (length h)) number ask.from.client)
+    (All-weaker (IsPostedBy h) (IsPostedBy (event.Ask number ask ∷ h)) (λ p. stays_posted (event.Ask number ask) h p) (postings h) (are_posted h))
+    (record { ask = ask; made = asked_newest number ask h; own = refl })
+are_posted (event.Serve number at given ∷ h) =
+    All-weaker (IsPostedBy h) (IsPostedBy (event.Serve number at given ∷ h)) (λ p. stays_posted (event.Serve number at given) h p) (postings h) (are_posted h)
+
+record IsFound (P : Posting → Type 0) (test : Posting → Bool) (p : Posting) : Type 0 where
+  holds : P p
+  passes : test p ≡ true
+
+found : (P : Posting → Type 0) (test : Posting → Bool) (ps : List Posting) (p : Posting) → All P ps → find test ps ≡ Some p → IsFound P test p
+found P test [] p all is = absurd (cc)
+found P test (q ∷ ps) p all is = by (λ e. found P test ps p (All-tail P q ps all) e) (test q) refl is
+  where
+    by : (find test ps ≡ Some p → IsFound P test p) → (b : Bool) → test q ≡ b → cond b (Some q) (find test ps) ≡ Some p → IsFound P test p
+    by later true passes e = let same : q ≡ p = cc in subst (IsFound P test) same (record { holds = All-head P q ps all; passes = passes })
+    by later false passes e = later e
+
+open_of : (a b : Bool) → (a && not b) ≡ true → b ≡ false
+open_of true true e = absurd (cc)
+open_of true false e = refl
+open_of false b e = absurd (cc)
+
+-- the oldest waiting Ask waits
+pub waiting_found : (fits : Posting → Bool) (h : List Event) (p : Posting) → oldest fits h ≡ Some p → IsWaiting h p
+waiting_found fits h p is =
+    let it : IsFound (IsPostedBy h) (λ q. fits q && is_open h q) p = found (IsPostedBy h) (λ q. fits q && is_open h q) (postings h) p (are_posted h) is in
+    record { ask = it.holds.ask; asked = it.holds.made; own = it.holds.own; open_yet = open_of (fits p) (is_served p.place h) it.passes }
+
+asked_client : (world : World) (place : ℕ) (posted : Posted) (h : List Event) → Legal world h → asked_at place h ≡ Some posted → posted.ask.from.client < length world.setup.clients
+asked_client world place posted [] legal is = absurd (cc)
+asked_client world place posted (event.Serve number at given ∷ h) legal is = asked_client world place posted h legal.0 is
+asked_client world place posted (event.Ask number ask ∷ h) legal is =
+    by (λ there. asked_client world place posted h legal.0 there) (eqb place (suc (length h))) is
+  where
+    by : (asked_at place h ≡ Some posted → posted.ask.from.client < length world.setup.clients) → (b : Bool)
+        → cond b (Some (posted_ask number ask)) (asked_at place h) ≡ Some posted → posted.ask.from.client < length world.setup.clients
+    by before true here = let this : posted_ask number ask ≡ posted = cc in subst (λ (q : Posted). q.ask.from.client < length world.setup.clients) this legal.1.client
+    by before false there = before there
+
+pub waiting_client : (world : World) (h : List Event) (p : Posting) → Legal world h → IsWaiting h p → p.client < length world.setup.clients
+waiting_client world h p legal waits =
+    subst (λ c. c < length world.setup.clients) waits.own (asked_client world p.place (posted_ask p.number waits.ask) h legal waits.asked)
+
+pub asked_server : (world : World) (h after : List Event) (client : ℕ) (p : Posting) (a b : Actor) → 1 ≤ world.setup.servers → Asked world client p h after a b → p.number < world.setup.servers
+asked_server world h after client p a b some did =
+    let number : did.number ≡ p.number = ap (λ (x : Posting). x.number) (sym did.posted) in
+    subst (λ n. n < world.setup.servers) number
+    ((posted_known world (suc (length h)) (posted_ask did.number did.ask) after did.legal
+      (ap (asked_at (suc (length h))) did.joins ∙ asked_newest did.number did.ask h)).there some)
+
+pub oldest_to_is : (h : List Event) (number : ℕ) (queue : List Posting) → IsQueue (is_to number) h queue → find (is_open h) queue ≡ oldest (is_to number) h
+oldest_to_is h number queue is = is.finds (λ p. true)
+
+pub oldest_by_is : (h : List Event) (client : ℕ) (queue : List Posting) → IsQueue (is_by client) h queue → find (is_open h) queue ≡ oldest (is_by client) h
+oldest_by_is h client queue is = is.finds (λ p. true)
+
+both : (a b c : Bool) → (a && (b && c)) ≡ ((a && b) && c)
+both true b c = refl
+both false b c = refl
+
+pub oldest_of_is : (h : List Event) (number client : ℕ) (queue : List Posting) → IsQueue (is_by client) h queue
+    → find (λ p. is_to number p && is_open h p) queue ≡ oldest (is_for number (Some client)) h
+oldest_of_is h number client queue is =
+    is.finds (is_to number) ∙ find_same _ _ (postings h) (λ p. both (is_to number p) (is_by client p) (is_open h p))

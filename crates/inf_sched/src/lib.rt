@@ -7,6 +7,9 @@ mod laws;
 mod limits;
 mod posting;
 mod queue;
+
+mod run;
+mod scheduler;
 mod serving;
 mod stepping;
 
@@ -22,3 +25,4 @@ pub use laws::{
 pub use limits::MOST_EVENTS;
 pub use posting::Posting;
 pub use queue::Queue;
+pub use scheduler::schedule;
