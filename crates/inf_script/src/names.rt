@@ -1,4 +1,4 @@
-//! The words that are names, paths and modes.
+//! The words that are names, paths, modes and numbers.
 
 ghost use Rattle.std.specs.Prelude.{◌≡◌, ◌<◌, ◌≤◌, ◌==◌, ◌||◌, length, IsTrue};
 ghost use Rattle.std.specs.List.{list_all, list_any};
@@ -7,9 +7,9 @@ ghost use Rattle.inf_base.specs.Path.{is_reserved};
 ghost use Rattle.inf_base.specs.Setup.{is_letter, is_digit, ends_word, is_client_name};
 ghost use Rattle.inf_base.specs.declared.limits.TheConstants.{MOST_NAME_BYTES};
 ghost use Rattle.inf_script.specs.Faults.{line_cause};
-ghost use Rattle.inf_script.specs.Names.{is_plain, is_entry_name, is_single_path, is_octal, mode_of};
+ghost use Rattle.inf_script.specs.Names.{is_plain, is_entry_name, is_single_path, is_octal, mode_of, is_digit_above_zero, number_of, number_within};
 
-use crate::fault::{BAD_WORD, LineFault};
+use crate::fault::{BAD_NUMBER, LineFault};
 use inf_base::MOST_NAME_BYTES;
 
 fn is_letter(byte: u8) -> bool
@@ -51,7 +51,7 @@ fn ends_word(byte: u8) -> bool
 fn is_plain(byte: u8) -> bool
     ensures { result ≡ is_plain byte }
 {
-    !(byte == b'/' || ends_word(byte) || byte == b'\r')
+    !(byte == b'/' || ends_word(byte))
 }
 
 fn are_plain(bytes: &[u8]) -> bool
@@ -99,11 +99,50 @@ pub fn mode_of(word: &[u8]) -> Result<u16, LineFault>
     ensures { Gives line_cause result (mode_of word.now) }
 {
     let [a, b, c] = word else {
-        return Err(BAD_WORD);
+        return Err(BAD_NUMBER);
     };
     if is_octal(*a) && is_octal(*b) && is_octal(*c) {
         Ok(u16::from(*a - b'0') * 64 + u16::from(*b - b'0') * 8 + u16::from(*c - b'0'))
     } else {
-        Err(BAD_WORD)
+        Err(BAD_NUMBER)
+    }
+}
+
+fn is_digit_above_zero(byte: u8) -> bool
+    ensures { result ≡ is_digit_above_zero byte }
+{
+    b'1' <= byte && byte <= b'9'
+}
+
+/// The number that a word of one or two digits spells.
+pub fn number_of(word: &[u8]) -> Result<u32, LineFault>
+    ensures { Gives line_cause result (number_of word.now) }
+{
+    match word {
+        [a] => {
+            if is_digit(*a) {
+                return Ok(u32::from(*a - b'0'));
+            }
+            Err(BAD_NUMBER)
+        }
+        [a, b] => {
+            if is_digit_above_zero(*a) && is_digit(*b) {
+                return Ok(u32::from(*a - b'0') * 10 + u32::from(*b - b'0'));
+            }
+            Err(BAD_NUMBER)
+        }
+        _ => Err(BAD_NUMBER),
+    }
+}
+
+/// The number that a word spells, from `low` to `high`.
+pub fn number_within(low: u32, high: u32, word: &[u8]) -> Result<u32, LineFault>
+    ensures { Gives line_cause result (number_within low high word.now) }
+{
+    let number = number_of(word)?;
+    if low <= number && number <= high {
+        Ok(number)
+    } else {
+        Err(BAD_NUMBER)
     }
 }
