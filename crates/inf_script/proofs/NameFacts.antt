@@ -1,5 +1,5 @@
 -- The words that are names, paths and modes: what a path of one name names, and that what is read is valid.
-use Rattle.std.proofs.Common.{◌≡◌, ℕ, ◌+◌, ◌-◌, ◌*◌, ◌≤◌, Bool, true, false, ◌&&◌, ◌||◌, not, cond, nat_lt, List, [], ◌∷◌, length, Ok, Result, Err, IfOk, if◌then◌else◌, nat_le, refl, sym, subst, arith}
+use Rattle.std.proofs.Common.{◌≡◌, ℕ, ◌+◌, ◌-◌, ◌*◌, ◌<◌, ◌≤◌, Bool, true, false, ◌&&◌, ◌||◌, not, cond, nat_lt, List, [], ◌∷◌, length, Ok, Result, Err, IfOk, if◌then◌else◌, nat_le, refl, sym, subst, arith}
 use Rattle.std.specs.List.{list_all, slice_split}
 use Rattle.std.proofs.lemmas.Bool.{eqb-true, ltb-true, leb-true, le-leb, not-true, false≢true}
 use Rattle.std.proofs.lemmas.List.Elements.{All-weaker}
@@ -38,11 +38,17 @@ if_both P false x y then_holds else_holds = else_holds refl
 pub if_read : {X : Type 0} (P : X → Type 0) (b : Bool) (r : Result X Why) (reason : Why) → (b ≡ true → IfOk r P) → IfOk (if b then r else Err reason) P
 if_read P b r reason holds = if_both (λ answer. IfOk answer P) b r (Err reason) holds (λ _. tt)
 
-not_above : (m n : ℕ) → m ≤ n → nat_lt n m ≡ false
+pub not_above : (m n : ℕ) → m ≤ n → nat_lt n m ≡ false
 not_above m n within = by_test (nat_lt n m) refl where
   by_test : (b : Bool) → nat_lt n m ≡ b → b ≡ false
   by_test true above = absurd (let over = ltb-true n m above in omega arith)
   by_test false above = refl
+
+pub not_above_le : (m n : ℕ) → n < m → nat_le m n ≡ false
+not_above_le m n over = by_test (nat_le m n) refl where
+  by_test : (b : Bool) → nat_le m n ≡ b → b ≡ false
+  by_test true within = absurd (let short = leb-true m n within in omega arith)
+  by_test false within = refl
 
 all_weaker : (p q : ℕ → Bool) → ((byte : ℕ) → p byte ≡ true → q byte ≡ true) → (bytes : List ℕ) → list_all p bytes ≡ true → list_all q bytes ≡ true
 all_weaker p q weaker [] all = refl

@@ -1,5 +1,5 @@
 -- The moves of order lines: the first word that spells no move decides.
-use Rattle.std.proofs.Common.{◌≡◌, ℕ, List, [], ◌∷◌, Result, Ok, Err, IfSome, refl}
+use Rattle.std.proofs.Common.{◌≡◌, ℕ, List, [], ◌∷◌, Ok, Err, IfSome, refl}
 use Rattle.inf_base.specs.declared.setup.ClientLine.{ClientLine}
 use Rattle.inf_order.specs.declared.moves.Move.{Move}
 use Rattle.inf_script.specs.declared.refusal.Why.{Why}

@@ -1,20 +1,19 @@
 -- What is read is valid, and of the form that is built.
-use Rattle.std.proofs.Common.{◌≡◌, ℕ, zero, suc, ◌+◌, ◌≤◌, ◌<◌, Bool, true, false, ◌&&◌, ◌||◌, not, cond, nat_eq, nat_lt, nat_le, if◌then◌else◌, codes, List, [], ◌∷◌, ◌++◌, length, map, position, Option, Some, None, is_some, is_none, IfSome, Result, Ok, Err, IfOk, All, refl, sym, ap, ◌∙◌, subst, arith}
+use Rattle.std.proofs.Common.{◌≡◌, ℕ, zero, suc, ◌+◌, ◌≤◌, ◌<◌, Bool, true, false, ◌&&◌, ◌||◌, cond, nat_eq, nat_lt, nat_le, if◌then◌else◌, codes, List, [], ◌∷◌, ◌++◌, length, position, Option, Some, None, is_some, is_none, IfSome, Result, Ok, Err, IfOk, All, refl, sym, ◌∙◌, subst, arith}
 use Rattle.std.specs.List.{list_all, list_any, IsDistinct, AllByRecursion, position_or_len}
 use Rattle.std.specs.Str.{bytes_eq, is_utf8}
-use Rattle.std.proofs.lemmas.Bool.{eqb-true, ltb-true, ltb-false, leb-true, lt-ltb, le-leb}
+use Rattle.std.proofs.lemmas.Bool.{eqb-true, ltb-true, leb-true, le-leb}
 use Rattle.std.proofs.lemmas.Cmp.{nat_list_eq_equiv}
 use Rattle.std.proofs.lemmas.List.{length-append, length-map, map-append}
 use Rattle.std.proofs.lemmas.List.Elements.{All-nil, All-push, All-cons, All-head, All-tail}
 use Rattle.std.proofs.lemmas.List.Folds.{list_all-append}
-use Rattle.std.proofs.lemmas.List.Sums.{sum_by-append, sum_by-cons}
+use Rattle.std.proofs.lemmas.List.Sums.{sum_by-append}
 use Rattle.inf_base.specs.declared.call.Call.{Call}
 use Rattle.inf_base.specs.declared.call.Call.TheVariants as call
 use Rattle.inf_base.specs.declared.setup.ClientLine.{ClientLine}
 use Rattle.inf_base.specs.declared.limits.TheConstants.{MOST_SERVERS, MOST_CLIENTS, MOST_CALLS}
 use Rattle.inf_base.specs.Setup.{is_mode, is_valid_call, is_valid_client, is_client_name, names_of, call_count, IsWithin, IsValid}
 use Rattle.inf_order.specs.declared.moves.Move.{Move}
-use Rattle.inf_order.specs.declared.moves.Move.TheVariants as move
 use Rattle.inf_order.specs.declared.moves.TheConstants.{MOST_MOVES}
 use Rattle.inf_order.specs.Order.{is_move_of}
 use Rattle.inf_script.specs.declared.refusal.Why.{Why}

@@ -1,5 +1,5 @@
 -- What was read of a script so far.
-use Rattle.std.specs.Prelude.{ℕ, Bool, ◌&&◌, nat_eq, nat_le, List, [], ◌∷◌, Option, None, position, unwrap_or}
+use Rattle.std.specs.Prelude.{ℕ, Bool, ◌&&◌, nat_le, List, [], ◌∷◌, Option, None, position, unwrap_or}
 use Rattle.std.specs.Str.{bytes_eq}
 use Rattle.inf_base.specs.declared.setup.ClientLine.{ClientLine}
 use Rattle.inf_base.specs.Setup.{names_of}

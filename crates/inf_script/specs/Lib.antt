@@ -12,3 +12,4 @@ pub mod OrderLine
 pub mod Sections
 pub mod Reading
 pub mod Built
+pub mod Examples

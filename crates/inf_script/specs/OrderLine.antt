@@ -1,5 +1,5 @@
 -- The words of an order line, each a move.
-use Rattle.std.specs.Prelude.{ℕ, ◌==◌, nat_le, nat_lt, if◌then◌else◌, Bool, codes, List, [], ◌∷◌, ◌++◌, length, Option, Some, None, position, Result, Ok, Err}
+use Rattle.std.specs.Prelude.{ℕ, ◌==◌, nat_le, nat_lt, if◌then◌else◌, Bool, List, [], ◌∷◌, ◌++◌, length, Option, Some, None, position, Result, Ok, Err}
 use Rattle.inf_base.specs.declared.setup.ClientLine.{ClientLine}
 use Rattle.inf_order.specs.declared.moves.Move.{Move}
 use Rattle.inf_order.specs.declared.moves.Move.TheVariants as move

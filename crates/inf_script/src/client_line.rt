@@ -34,7 +34,12 @@ fn with_client(alloc: Global, draft: Draft, name: &[u8]) -> Result<Draft, LineFa
     })
 }
 
-fn client_group(alloc: Global, draft: Draft, name: &[u8], words: Words<'_>) -> Result<Draft, LineFault>
+fn client_group(
+    alloc: Global,
+    draft: Draft,
+    name: &[u8],
+    words: Words<'_>,
+) -> Result<Draft, LineFault>
     requires not_empty { 0 < length name.now }
     requires fits { length name.now ≤ MOST_NAME_BYTES }
     requires unknown { place_of name.now draft.clients ≡ None }
@@ -52,7 +57,12 @@ fn client_group(alloc: Global, draft: Draft, name: &[u8], words: Words<'_>) -> R
     with_client(alloc, draft, name)
 }
 
-fn client_user(alloc: Global, draft: Draft, name: &[u8], words: Words<'_>) -> Result<Draft, LineFault>
+fn client_user(
+    alloc: Global,
+    draft: Draft,
+    name: &[u8],
+    words: Words<'_>,
+) -> Result<Draft, LineFault>
     requires not_empty { 0 < length name.now }
     requires fits { length name.now ≤ MOST_NAME_BYTES }
     requires unknown { place_of name.now draft.clients ≡ None }

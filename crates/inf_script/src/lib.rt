@@ -19,8 +19,14 @@ mod sections;
 mod settings;
 mod words;
 
+pub use examples::{
+    limits_hold, lines_are_refused, moves_are_refused, paths_are_refused, scripts_are_read,
+    too_long_is_refused, words_are_refused,
+};
 pub use fault::ScriptFault;
 pub use reader::read_script;
 pub use refusal::{ScriptRefusal, Why};
 pub use script::{MOST_LINE_BYTES, MOST_SCRIPT_BYTES, Script};
 
+#[cfg(test)]
+mod tests;

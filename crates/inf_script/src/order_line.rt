@@ -109,7 +109,12 @@ fn move_of(servers: u32, clients: &ClientTable, word: &[u8]) -> Result<Move, Lin
 }
 
 /// These moves, and those that the words spell behind them.
-fn moves_from(servers: u32, clients: &ClientTable, moves: Moves, words: Words<'_>) -> Result<Moves, LineFault>
+fn moves_from(
+    servers: u32,
+    clients: &ClientTable,
+    moves: Moves,
+    words: Words<'_>,
+) -> Result<Moves, LineFault>
     ensures { Gives line_cause result (moves_from servers clients.now (Ok moves) words.entry) }
 {
     let mut made = moves.into_vec();

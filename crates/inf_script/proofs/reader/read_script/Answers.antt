@@ -2,7 +2,6 @@ use Rattle.std.proofs.Common.{◌≡◌, true, length}
 use Rattle.std.specs.List.{list_all}
 use Rattle.inf_base.specs.Setup.{IsValid}
 use Rattle.inf_order.specs.Order.{is_move_of}
-use Rattle.inf_script.specs.declared.script.Script.{Script}
 use Rattle.inf_script.specs.Built.{IsBuilt}
 use Rattle.inf_script.proofs.Soundness.{read-good}
 use Rattle.inf_script.proofs.reader.read_script.Goals as goal

@@ -1,9 +1,5 @@
-use Rattle.std.proofs.Common.{◌≡◌, ◌<◌, ◌+◌, ◌≤◌, List, length, set, refl, sym, ap, ◌∙◌, subst, arith}
-use Rattle.inf_base.specs.declared.setup.ClientLine.{ClientLine}
-use Rattle.inf_base.specs.declared.limits.TheConstants.{MOST_CLIENTS}
-use Rattle.inf_base.specs.Setup.{names_of, call_count}
+use Rattle.std.proofs.Common.{◌≡◌, ◌<◌, length, set, refl, ap, ◌∙◌}
 use Rattle.inf_script.specs.CallLine.{calling}
-use Rattle.inf_script.specs.ClientTable.{spelt}
 use Rattle.inf_script.proofs.TableFacts.{calling-set, calling-kept}
 use Rattle.inf_script.proofs.client_table.ClientTable.calling.Goals as goal
 

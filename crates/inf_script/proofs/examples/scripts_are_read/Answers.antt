@@ -1,0 +1,7 @@
+use Rattle.std.proofs.Common.{refl}
+use Rattle.std.specs.Str.{chars, is_utf8}
+use Rattle.inf_script.proofs.examples.scripts_are_read.Goals as goal
+
+pub returns : goal.returns
+unfolding chars is_utf8 lib.Utf8.encode
+returns c = record { shortest = refl; all_lines = refl; blanks = refl; returns = refl; any_bytes = refl; least_mode = refl; greatest_mode = refl; longest_name = refl; most_servers = refl }
