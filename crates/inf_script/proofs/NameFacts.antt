@@ -10,7 +10,8 @@ use Rattle.inf_base.specs.Setup.{ends_word, is_word, is_mode, IsWithin}
 use Rattle.inf_base.specs.declared.limits.TheConstants.{MOST_NAME_BYTES}
 use Rattle.inf_script.specs.declared.refusal.Why.{Why}
 use Rattle.inf_script.specs.declared.refusal.Why.TheVariants as why
-use Rattle.inf_script.specs.Names.{is_plain, is_entry_name, is_single_path, is_octal, mode_of, number_of, if_within, number_within}
+use Rattle.inf_script.specs.Names.{is_plain, is_entry_name, is_single_path, is_octal, mode_of, is_number, value_from, if_below, number_below, if_from, number_within}
+use Rattle.inf_script.specs.Faults.{bad_number}
 use Rattle.inf_script.specs.Built.{IsSinglePath}
 
 pub and_left : (a b : Bool) → (a && b) ≡ true → a ≡ true
@@ -111,10 +112,24 @@ mode_of-is_mode (a ∷ []) = tt
 mode_of-is_mode (a ∷ b ∷ []) = tt
 mode_of-is_mode (a ∷ b ∷ c ∷ d ∷ rest) = tt
 
-if_within-good : (low high : ℕ) (r : Result ℕ Why) → IfOk (if_within low high r) (λ number. IsWithin low high number)
-if_within-good low high (Err reason) = tt
-if_within-good low high (Ok number) = if_read (IsWithin low high) (nat_le low number && nat_le number high) (Ok number) why.BadNumber (λ within.
-    record { at_least = leb-true _ _ (and_left _ _ within); at_most = leb-true _ _ (and_right _ _ within) })
+pub number_below-good : (bound : ℕ) (word : List ℕ) → IfOk (number_below bound word) (λ number. number < bound)
+number_below-good bound word = if_read (λ number. number < bound) (is_number word) (if_below bound (value_from 0 word)) why.BadNumber (λ _.
+    if_read (λ number. number < bound) (nat_lt (value_from 0 word) bound) (Ok (value_from 0 word)) why.BadNumber (λ below. ltb-true _ _ below))
+
+if_from-good : (low high : ℕ) (r : Result ℕ Why) → IfOk r (λ number. number < high + 1) → IfOk (if_from low r) (λ number. IsWithin low high number)
+if_from-good low high (Err reason) below = tt
+if_from-good low high (Ok number) below = if_read (IsWithin low high) (nat_le low number) (Ok number) why.BadNumber (λ above.
+    let least = leb-true low number above in record { at_least = least; at_most = omega arith })
 
 pub number_within-good : (low high : ℕ) (word : List ℕ) → IfOk (number_within low high word) (λ number. IsWithin low high number)
-number_within-good low high word = if_within-good low high (number_of word)
+number_within-good low high word = if_from-good low high (number_below (high + 1) word) (number_below-good (high + 1) word)
+
+pub value_from-least : (so_far : ℕ) (digits : List ℕ) → so_far ≤ value_from so_far digits
+value_from-least so_far [] = omega arith
+value_from-least so_far (digit ∷ digits) = omega (arith, value_from-least (so_far * 10 + (digit - 48)) digits)
+
+-- further digits make a number that is too great no smaller
+pub too_great : (bound so_far : ℕ) (digits : List ℕ) (total : ℕ) → value_from so_far digits ≡ total → bound ≤ so_far → if_below bound total ≡ bad_number
+too_great bound so_far digits total spelt over =
+    let least = value_from-least so_far digits in
+    rw (not_above bound total (omega arith)) refl

@@ -27,7 +27,7 @@ use Rattle.inf_script.specs.declared.section.Section.TheVariants as section
 use Rattle.inf_script.specs.declared.draft.Draft.{Draft}
 use Rattle.inf_base.specs.Memory.{Gives}
 use Rattle.inf_script.specs.Faults.{bad_word, cause}
-use Rattle.inf_script.specs.Names.{is_single_path, mode_of, number_of, number_within}
+use Rattle.inf_script.specs.Names.{is_single_path, mode_of, number_below, number_within}
 use Rattle.inf_script.specs.Words.{words_of, without_return, is_comment}
 use Rattle.inf_script.specs.Cuts.{before, behind}
 use Rattle.inf_script.specs.Draft.{rank, may_stand, start, servers_of, place_of, order_of}
@@ -39,7 +39,7 @@ use Rattle.inf_script.specs.Sections.{end_line, word_line, after_words, after_li
 use Rattle.inf_script.specs.Lines.{lines_of}
 use Rattle.inf_script.specs.Reading.{at_line, script_of, ended, at_end, read_line, read_from, reading}
 use Rattle.inf_script.specs.Built.{IsBuiltCall, IsBuiltClient, IsBuilt}
-use Rattle.inf_script.proofs.NameFacts.{and_left, and_right, if_both, if_read, single_path, single_path-is_word, mode_of-is_mode, number_within-good}
+use Rattle.inf_script.proofs.NameFacts.{and_left, and_right, if_both, if_read, single_path, single_path-is_word, mode_of-is_mode, number_below-good, number_within-good}
 use Rattle.inf_script.proofs.TableFacts.{none_at, names_of-calling, length-calling, call_count-calling}
 
 pub record IsGoodCall (call : Call) : Type 0 where
@@ -279,10 +279,9 @@ module _ (servers : ℕ) (clients : List ClientLine) where
   serve_move-good number fits None = rw (le-leb number servers fits) refl
   serve_move-good number fits (Some name) = serve_client-good number fits (place_of name clients) (place-within name clients)
 
-  server_move-good : (r : Result ℕ Why) (name : Option (List ℕ)) → IfOk (server_move servers clients r name) IsGoodMove
-  server_move-good (Err reason) name = tt
-  server_move-good (Ok number) name = if_read IsGoodMove (nat_lt number servers) (serve_move clients number name) why.BadNumber (λ fits.
-      let below = ltb-true number servers fits in serve_move-good number (omega arith) name)
+  server_move-good : (r : Result ℕ Why) → IfOk r (λ number. number < servers) → (name : Option (List ℕ)) → IfOk (server_move clients r name) IsGoodMove
+  server_move-good (Err reason) below name = tt
+  server_move-good (Ok number) below name = serve_move-good number (omega arith) name
 
   coordinator_move-good : (text : List ℕ) → IfOk (coordinator_move servers clients text) IsGoodMove
   coordinator_move-good [] = serve_move-good servers (omega arith) None
@@ -297,7 +296,7 @@ module _ (servers : ℕ) (clients : List ClientLine) where
   move_of-good (sign ∷ text) =
       if_both (λ r. IfOk r IsGoodMove) (nat_eq sign 43) (step_move (place_of text clients)) _ (λ _. step_move-good (place_of text clients) (place-within text clients)) (λ _.
       if_both (λ r. IfOk r IsGoodMove) (nat_eq sign 61) (alone_move (place_of text clients)) _ (λ _. alone_move-good (place_of text clients) (place-within text clients)) (λ _.
-      if_both (λ r. IfOk r IsGoodMove) (nat_eq sign 115) (server_text servers clients text) _ (λ _. server_move-good (number_of (before (position is_colon text) text)) (behind (position is_colon text) text)) (λ _.
+      if_both (λ r. IfOk r IsGoodMove) (nat_eq sign 115) (server_text servers clients text) _ (λ _. server_move-good (number_below servers (before (position is_colon text) text)) (number_below-good servers (before (position is_colon text) text)) (behind (position is_colon text) text)) (λ _.
       if_both (λ r. IfOk r IsGoodMove) (nat_eq sign 99) (coordinator_move servers clients text) _ (λ _. coordinator_move-good text) (λ _.
       if_read IsGoodMove (nat_eq sign 42) (rest_move text) why.BadWord (λ _. rest_move-good text)))))
 

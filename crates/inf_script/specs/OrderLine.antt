@@ -1,5 +1,5 @@
 -- The words of an order line, each a move.
-use Rattle.std.specs.Prelude.{ℕ, ◌==◌, nat_le, nat_lt, if◌then◌else◌, Bool, List, [], ◌∷◌, ◌++◌, length, Option, Some, None, position, Result, Ok, Err}
+use Rattle.std.specs.Prelude.{ℕ, ◌==◌, nat_le, if◌then◌else◌, Bool, List, [], ◌∷◌, ◌++◌, length, Option, Some, None, position, Result, Ok, Err}
 use Rattle.inf_base.specs.declared.setup.ClientLine.{ClientLine}
 use Rattle.inf_order.specs.declared.moves.Move.{Move}
 use Rattle.inf_order.specs.declared.moves.Move.TheVariants as move
@@ -10,8 +10,8 @@ use Rattle.inf_script.specs.declared.section.Section.TheVariants as section
 use Rattle.inf_script.specs.declared.draft.Draft.{Draft}
 use Rattle.inf_script.specs.Cuts.{before, behind}
 use Rattle.inf_script.specs.Draft.{may_stand, place_of, servers_of}
-use Rattle.inf_script.specs.Faults.{bad_word, bad_number}
-use Rattle.inf_script.specs.Names.{number_of}
+use Rattle.inf_script.specs.Faults.{bad_word}
+use Rattle.inf_script.specs.Names.{number_below}
 
 abbrev pub is_colon : ℕ → Bool
 is_colon byte = byte == 58
@@ -33,13 +33,13 @@ abbrev pub serve_move : List ClientLine → ℕ → Option (List ℕ) → Result
 serve_move clients number None = Ok (move.Serve number None)
 serve_move clients number (Some name) = serve_client number (place_of name clients)
 
-abbrev pub server_move : ℕ → List ClientLine → Result ℕ Why → Option (List ℕ) → Result Move Why
-server_move servers clients (Err reason) name = Err reason
-server_move servers clients (Ok number) name = if nat_lt number servers then serve_move clients number name else bad_number
+abbrev pub server_move : List ClientLine → Result ℕ Why → Option (List ℕ) → Result Move Why
+server_move clients (Err reason) name = Err reason
+server_move clients (Ok number) name = serve_move clients number name
 
 -- what stands behind the letter of a server: its number up to a colon, and a name behind that
 abbrev pub server_text : ℕ → List ClientLine → List ℕ → Result Move Why
-server_text servers clients text = server_move servers clients (number_of (before (position is_colon text) text)) (behind (position is_colon text) text)
+server_text servers clients text = server_move clients (number_below servers (before (position is_colon text) text)) (behind (position is_colon text) text)
 
 -- what stands behind the letter of the coordinator
 abbrev pub coordinator_move : ℕ → List ClientLine → List ℕ → Result Move Why

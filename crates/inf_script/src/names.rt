@@ -1,13 +1,13 @@
 //! The words that are names, paths, modes and numbers.
 
-ghost use Rattle.std.specs.Prelude.{◌≡◌, ◌<◌, ◌≤◌, ◌==◌, ◌||◌, length, IsTrue};
+ghost use Rattle.std.specs.Prelude.{◌≡◌, ◌+◌, ◌^◌, ◌<◌, ◌≤◌, ◌==◌, ◌||◌, length, IsTrue};
 ghost use Rattle.std.specs.List.{list_all, list_any};
 ghost use Rattle.inf_base.specs.Memory.{Gives};
 ghost use Rattle.inf_base.specs.Path.{is_reserved};
 ghost use Rattle.inf_base.specs.Setup.{is_letter, is_digit, ends_word, is_client_name};
 ghost use Rattle.inf_base.specs.declared.limits.TheConstants.{MOST_NAME_BYTES};
 ghost use Rattle.inf_script.specs.Faults.{line_cause};
-ghost use Rattle.inf_script.specs.Names.{is_plain, is_entry_name, is_single_path, is_octal, mode_of, is_digit_above_zero, number_of, number_within};
+ghost use Rattle.inf_script.specs.Names.{is_plain, is_entry_name, is_single_path, is_octal, mode_of, is_number, value_from, if_below, number_below, number_within};
 
 use crate::fault::{BAD_NUMBER, LineFault};
 use inf_base::MOST_NAME_BYTES;
@@ -108,41 +108,60 @@ pub fn mode_of(word: &[u8]) -> Result<u16, LineFault>
     }
 }
 
-fn is_digit_above_zero(byte: u8) -> bool
-    ensures { result ≡ is_digit_above_zero byte }
+fn are_digits(bytes: &[u8]) -> bool
+    ensures { result ≡ list_all is_digit bytes.now }
 {
-    b'1' <= byte && byte <= b'9'
+    bytes.iter().all(|b| is_digit(*b))
 }
 
-/// The number that a word of one or two digits spells.
-pub fn number_of(word: &[u8]) -> Result<u32, LineFault>
-    ensures { Gives line_cause result (number_of word.now) }
+fn is_number(word: &[u8]) -> bool
+    ensures { result ≡ is_number word.now }
 {
     match word {
-        [a] => {
-            if is_digit(*a) {
-                return Ok(u32::from(*a - b'0'));
-            }
-            Err(BAD_NUMBER)
-        }
-        [a, b] => {
-            if is_digit_above_zero(*a) && is_digit(*b) {
-                return Ok(u32::from(*a - b'0') * 10 + u32::from(*b - b'0'));
-            }
-            Err(BAD_NUMBER)
-        }
-        _ => Err(BAD_NUMBER),
+        [] => false,
+        [first] => is_digit(*first),
+        [first, _, ..] => *first != b'0' && are_digits(word),
     }
+}
+
+/// The number below the bound that digits spell.
+fn value_below(bound: u32, digits: &[u8]) -> Result<u32, LineFault>
+    ensures { Gives line_cause result (if_below bound (value_from 0 digits.now)) }
+{
+    let mut value: u64 = 0;
+    let mut rest = digits;
+    while let Some((digit, others)) = rest.split_first() {
+        // More digits would only make it greater.
+        if value >= u64::from(bound) {
+            return Err(BAD_NUMBER);
+        }
+        value = value * 10 + u64::from(digit.saturating_sub(b'0'));
+        rest = others;
+    }
+    if value >= u64::from(bound) {
+        return Err(BAD_NUMBER);
+    }
+    Ok(value as u32)
+}
+
+/// The number that a word spells, of those below a bound.
+pub fn number_below(bound: u32, word: &[u8]) -> Result<u32, LineFault>
+    ensures { Gives line_cause result (number_below bound word.now) }
+{
+    if !is_number(word) {
+        return Err(BAD_NUMBER);
+    }
+    value_below(bound, word)
 }
 
 /// The number that a word spells, from `low` to `high`.
 pub fn number_within(low: u32, high: u32, word: &[u8]) -> Result<u32, LineFault>
+    requires { high + 1 < 2 ^ 32 }
     ensures { Gives line_cause result (number_within low high word.now) }
 {
-    let number = number_of(word)?;
-    if low <= number && number <= high {
-        Ok(number)
-    } else {
-        Err(BAD_NUMBER)
+    let number = number_below(high + 1, word)?;
+    if number < low {
+        return Err(BAD_NUMBER);
     }
+    Ok(number)
 }

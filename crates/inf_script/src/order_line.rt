@@ -9,8 +9,8 @@ ghost use Rattle.inf_script.specs.OrderLine.{step_move, alone_move, serve_move, 
 use crate::bytes::{cut_at, position_of};
 use crate::client_table::ClientTable;
 use crate::draft::Draft;
-use crate::fault::{BAD_NUMBER, BAD_WORD, LineFault, TOO_MANY, UNKNOWN_CLIENT};
-use crate::names::number_of;
+use crate::fault::{BAD_WORD, LineFault, TOO_MANY, UNKNOWN_CLIENT};
+use crate::names::number_below;
 use crate::section::Section;
 use crate::words::Words;
 use inf_order::{MOST_MOVES, Move, Moves};
@@ -62,10 +62,7 @@ fn server_move(servers: u32, clients: &ClientTable, text: &[u8]) -> Result<Move,
     ensures { Gives line_cause result (server_text servers clients.now text.now) }
 {
     let (spelt, name) = cut_at(text, position_of(text, b':'));
-    let number = number_of(spelt)?;
-    if number >= servers {
-        return Err(BAD_NUMBER);
-    }
+    let number = number_below(servers, spelt)?;
     serve_move(clients, number, name)
 }
 
