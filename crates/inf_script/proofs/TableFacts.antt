@@ -12,7 +12,7 @@ use Rattle.inf_base.specs.declared.setup.ClientLine.{ClientLine}
 use Rattle.inf_base.specs.declared.limits.TheConstants.{MOST_CLIENTS}
 use Rattle.inf_base.specs.Setup.{names_of, call_count}
 use Rattle.inf_script.specs.CallLine.{calling}
-use Rattle.inf_script.specs.ClientTable.{spelt}
+use Rattle.inf_script.specs.ClientTable.{spelt, IsTable}
 use Rattle.inf_script.specs.Draft.{place_of}
 
 position_or_len-map : {X Y : Type 0} (p : Y → Bool) (f : X → Y) (xs : List X) → position_or_len p (map f xs) ≡ position_or_len (λ x. p (f x)) xs
@@ -69,16 +69,27 @@ call_count-calling place call [] within = absurd (omega arith)
 call_count-calling zero call (x ∷ xs) within = omega (arith, length-append x.calls (call ∷ []), sum_by-cons (λ (c : ClientLine). length c.calls) x xs, sum_by-cons (λ (c : ClientLine). length c.calls) (record x { calls = x.calls ++ call ∷ [] }) xs)
 call_count-calling (suc place) call (x ∷ xs) within = omega (arith, call_count-calling place call xs (omega arith), sum_by-cons (λ (c : ClientLine). length c.calls) x xs, sum_by-cons (λ (c : ClientLine). length c.calls) x (calling place call xs))
 
--- the facts of the table stay
-pub calling-kept : {A : Type 0} (keys : List (Vec ℕ A)) (calls place : ℕ) (call : Call) (xs : List ClientLine) → place < length xs → spelt keys ≡ names_of xs → calls ≡ call_count xs → length xs ≤ MOST_CLIENTS → (spelt keys ≡ names_of (calling place call xs)) × (calls + 1 ≡ call_count (calling place call xs)) × (length (calling place call xs) ≤ MOST_CLIENTS)
-calling-kept keys calls place call xs within same counted few =
-    (same ∙ sym (names_of-calling place call xs), ap (λ (n : ℕ). n + 1) counted ∙ sym (call_count-calling place call xs within), rw (length-calling place call xs) few)
+-- the table's facts stay where a call is added
+pub calling-kept : {A : Type 0} (names : List (Vec ℕ A)) (lines : List ClientLine) (calls place : ℕ) (call : Call) → place < length lines → IsTable names lines calls → IsTable names (calling place call lines) (calls + 1)
+calling-kept names lines calls place call within table = record {
+  named = table.named ∙ sym (names_of-calling place call lines);
+  counted = ap (λ (n : ℕ). n + 1) table.counted ∙ sym (call_count-calling place call lines within);
+  few = rw (length-calling place call lines) table.few;
+}
 
--- and so with a client more
-pub clients-kept : {A : Type 0} (key : Vec ℕ A) (keys more_keys : List (Vec ℕ A)) (calls : ℕ) (lines more_lines clients : List ClientLine) (line : ClientLine) (name : List ℕ) → key.items ≡ name → line.name ≡ name → line.calls ≡ [] → more_keys ≡ insert_key (λ (x y : Vec ℕ A). bytes_eq x.items y.items) keys key → more_lines ≡ lines ++ line ∷ [] → spelt keys ≡ names_of lines → calls ≡ call_count lines → lines ≡ clients → place_of name clients ≡ None → length clients < MOST_CLIENTS → (spelt more_keys ≡ names_of more_lines) × (calls ≡ call_count more_lines) × (length more_lines ≤ MOST_CLIENTS)
-clients-kept {A} key keys more_keys calls lines more_lines clients line name made named fresh put grown same counted seen unknown room =
+-- and where a client is added whose name was unknown
+pub client-kept : {A : Type 0} (key : Vec ℕ A) (names new_names : List (Vec ℕ A)) (lines new_lines clients : List ClientLine) (calls : ℕ) (line : ClientLine) (name : List ℕ) → IsTable names lines calls → lines ≡ clients → place_of name clients ≡ None → length clients < MOST_CLIENTS → key.items ≡ name → line.name ≡ name → line.calls ≡ [] → new_names ≡ insert_key (λ (x y : Vec ℕ A). bytes_eq x.items y.items) names key → new_lines ≡ lines ++ line ∷ [] → IsTable new_names new_lines calls
+client-kept {A} key names new_names lines new_lines clients calls line name table seen unknown room made named fresh put grown =
     let counts = sum_by-append (λ (c : ClientLine). length c.calls) lines (line ∷ []) in
     let single = sum_by-cons (λ (c : ClientLine). length c.calls) line [] in
     let none : length line.calls ≡ 0 = ap length fresh in
     let total : call_count lines ≡ call_count (lines ++ line ∷ []) = omega arith in
-    (ap spelt put ∙ keys_with key keys lines clients name made same seen unknown ∙ ap (λ (xs : List ClientLine). names_of xs ++ name ∷ []) (sym seen) ∙ ap (λ (n : List ℕ). names_of lines ++ n ∷ []) (sym named) ∙ sym (map-append (λ (c : ClientLine). c.name) lines (line ∷ [])) ∙ ap names_of (sym grown), counted ∙ total ∙ ap call_count (sym grown), rw grown (let longer = length-append lines (line ∷ []) in let same_length : length lines ≡ length clients = ap length seen in omega arith))
+    let longer = length-append lines (line ∷ []) in
+    let as_long : length lines ≡ length clients = ap length seen in
+    let below : length (lines ++ line ∷ []) ≤ MOST_CLIENTS = omega arith in
+    record {
+      named = ap spelt put ∙ keys_with key names lines clients name made table.named seen unknown ∙ ap (λ (xs : List ClientLine). names_of xs ++ name ∷ []) (sym seen)
+          ∙ ap (λ (n : List ℕ). names_of lines ++ n ∷ []) (sym named) ∙ sym (map-append (λ (c : ClientLine). c.name) lines (line ∷ [])) ∙ ap names_of (sym grown);
+      counted = table.counted ∙ total ∙ ap call_count (sym grown);
+      few = rw grown below;
+    }

@@ -92,6 +92,8 @@ pub record WordsAreRefused : Type 0 where
   pub no_servers : IsRefused 2 why.BadNumber (with_lines (codes "servers 0" ∷ []))
   pub servers_65 : IsRefused 2 why.BadNumber (with_lines (codes "servers 65" ∷ []))
   pub servers_100 : IsRefused 2 why.BadNumber (with_lines (codes "servers 100" ∷ []))
+  pub servers_past_32_bits : IsRefused 2 why.BadNumber (with_lines (codes "servers 4294967298" ∷ []))
+  pub servers_past_64_bits : IsRefused 2 why.BadNumber (with_lines (codes "servers 18446744073709551618" ∷ []))
   pub zero_in_front : IsRefused 2 why.BadNumber (with_lines (codes "servers 02" ∷ []))
   pub sign_in_front : IsRefused 2 why.BadNumber (with_lines (codes "servers +2" ∷ []))
   pub no_number : IsRefused 2 why.BadWord (with_lines (codes "servers" ∷ []))

@@ -25,17 +25,15 @@ pub struct ClientTable {
 }
 
 impl Model for ClientTable {
-    ghost use Rattle.std.specs.Prelude.{◌≡◌, ◌≤◌, List, length};
+    ghost use Rattle.std.specs.Prelude.{List};
     ghost use Rattle.inf_base.specs.declared.setup.ClientLine.{ClientLine};
-    ghost use Rattle.inf_base.specs.Setup.{names_of, call_count};
-    ghost use Rattle.inf_base.specs.declared.limits.TheConstants.{MOST_CLIENTS};
-    ghost use Rattle.inf_script.specs.ClientTable.{spelt};
+    ghost use Rattle.inf_script.specs.ClientTable.{IsTable};
 
     ghost Value = { List ClientLine };
 
     ghost view = { λ t. t.lines.items };
 
-    ghost invariant = { λ t. (spelt t.names.keys ≡ names_of t.lines.items) × (t.calls ≡ call_count t.lines.items) × (length t.lines.items ≤ MOST_CLIENTS) };
+    ghost invariant = { λ t. IsTable t.names.keys t.lines.items t.calls };
 }
 
 impl ClientTable {

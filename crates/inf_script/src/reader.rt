@@ -85,21 +85,6 @@ fn read_line(alloc: Global, number: u64, draft: Draft, line: &[u8]) -> Result<Dr
     }
 }
 
-/// Reads a script. Words are parted by spaces and tabs, lines end with newlines, and lines that are empty or begin with `#`
-/// are passed over. The lines are `infinifs 1`, then `servers N` (from 1 to 64; one where it is left out), then up to 64 of
-/// `client NAME 0 0`, up to 20,000 of `call NAME create /N MODE` and `call NAME stat /N`, lines `order MOVE ..` with up to
-/// 1,000,000 moves, and `end`. The first line at fault refuses the text. The form is our own.
-/// `more` tells that the text goes on behind these bytes, which are then the most that a script may have.
-pub fn read_script(alloc: Global, bytes: &[u8], more: bool) -> Result<Script, ScriptFault>
-    requires { IsTrue more → MOST_SCRIPT_BYTES ≤ length bytes.now }
-    ensures exact { Gives cause result (reading bytes.now more) }
-    ensures valid { IfOk result (λ script. IsValid script.setup) }
-    ensures order { IfOk result (λ script. list_all (is_move_of script.setup.servers (length script.setup.clients)) script.order ≡ true) }
-    ensures built { IfOk result (λ script. IsBuilt script.setup) }
-{
-    read_lines(alloc, bytes, more)
-}
-
 fn read_lines(alloc: Global, bytes: &[u8], more: bool) -> Result<Script, ScriptFault>
     ensures { Gives cause result (read_from more 1 (Ok start) (lines_of more bytes.now)) }
 {
@@ -112,4 +97,20 @@ fn read_lines(alloc: Global, bytes: &[u8], more: bool) -> Result<Script, ScriptF
         number += 1;
     }
     at_end(alloc, more, number, draft)
+}
+
+/// Reads a script. Words are parted by spaces and tabs, lines end with newlines, and lines that are empty or begin with `#`
+/// are passed over. The lines are `infinifs 1`, then `servers N` (from 1 to 64; one where it is left out), then up to 64 of
+/// `client NAME 0 0`, up to 20,000 of `call NAME create /N MODE` and `call NAME stat /N`, lines `order MOVE ..` with up to
+/// 1,000,000 moves, and `end`. The first line at fault refuses the text. The form is our own.
+/// `more` tells that the text goes on behind these bytes, which are then the most that a script may have.
+pub fn read_script(alloc: Global, bytes: &[u8], more: bool) -> Result<Script, ScriptFault>
+    requires { IsTrue more → MOST_SCRIPT_BYTES ≤ length bytes.now }
+    ensures exact { Gives cause result (reading bytes.now more) }
+    ensures valid { IfOk result (λ script. IsValid script.setup) }
+    ensures order { IfOk result (λ script.
+        list_all (is_move_of script.setup.servers (length script.setup.clients)) script.order ≡ true) }
+    ensures built { IfOk result (λ script. IsBuilt script.setup) }
+{
+    read_lines(alloc, bytes, more)
 }

@@ -11,7 +11,7 @@ written c =
     calling-set c.args.client c.args.call c.self.inside.lines.items c.index_mut.result.now c.index_mut-2.result.now c.replace-made.new.dest c.new-3.result (within c) c.index_mut.ensures.value c.index_mut-2.ensures.value (c.new-3.ensures ∙ c.in_ok-push.ensures.items ∙ rw (c.into_vec-made.ensures, c.replace-made.ensures.value) refl)
 
 pub invariant_of-result : goal.invariant_of-result
-invariant_of-result c = rw (written c) (calling-kept c.self.inside.names.keys c.self.inside.calls c.args.client c.args.call c.self.inside.lines.items (within c) c.self.invariant.0 c.self.invariant.1 c.self.invariant.2)
+invariant_of-result c = rw (written c) (calling-kept c.self.inside.names.keys c.self.inside.lines.items c.self.inside.calls c.args.client c.args.call (within c) c.self.invariant)
 
 pub returns : goal.returns
 returns c = written c ∙ ap (calling c.args.client c.args.call) c.self.view_is
