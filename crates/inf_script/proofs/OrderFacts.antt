@@ -13,6 +13,7 @@ moves_from-refused servers clients reason [] = refl
 moves_from-refused servers clients reason (word ∷ words) = moves_from-refused servers clients reason words
 
 -- a word that spells no move behind those that were read refuses the line
-pub refused_word : (fault : LineFault) (servers : ℕ) (clients : List ClientLine) (moves : List Move) (word : List ℕ) (words : List (List ℕ)) → IfSome (line_cause fault) (λ f. move_of servers clients word ≡ Err f) → IfSome (line_cause fault) (λ f. moves_from servers clients (Ok moves) (word ∷ words) ≡ Err f)
+pub refused_word : (fault : LineFault) (servers : ℕ) (clients : List ClientLine) (moves : List Move) (word : List ℕ) (words : List (List ℕ)) → IfSome (line_cause fault) (λ f. move_of servers clients word ≡ Err f)
+    → IfSome (line_cause fault) (λ f. moves_from servers clients (Ok moves) (word ∷ words) ≡ Err f)
 refused_word (line_fault.Refused reason) servers clients moves word words refused = rw refused (moves_from-refused servers clients reason words)
 refused_word line_fault.NoMemory servers clients moves word words refused = tt

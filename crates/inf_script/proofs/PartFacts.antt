@@ -56,17 +56,13 @@ pub line_last : (text line : List ℕ) (back : Option (List ℕ)) → slice_spli
 line_last text line (Some behind) parts missed piece = cc
 line_last text line None parts missed piece = ap (whole_parts false) parts ∙ rw piece refl
 
--- nothing stands behind the last newline
-pub line_none : (text line : List ℕ) (back : Option (List ℕ)) → slice_split is_newline text ≡ line ∷ parts_behind is_newline back → back ≡ None → line ≡ [] → lines_of false text ≡ []
-line_none text line (Some behind) parts missed empty = cc
-line_none text line None parts missed empty = ap (whole_parts false) parts ∙ rw empty refl
-
 -- a part that is not empty
 pub piece_of : (part : List ℕ) → false ≡ nat_eq (length part) 0 → is_piece part ≡ true
 piece_of [] filled = cc
 piece_of (byte ∷ bytes) filled = refl
 
 -- the first part that is not empty is the first word
-pub word_found : (left : Option (List ℕ)) (bytes part : List ℕ) (back : Option (List ℕ)) (words : List (List ℕ)) → filter is_piece (parts_behind is_blank left) ≡ words → left ≡ Some bytes → slice_split is_blank bytes ≡ part ∷ parts_behind is_blank back → is_piece part ≡ true → words ≡ part ∷ filter is_piece (parts_behind is_blank back)
+pub word_found : (left : Option (List ℕ)) (bytes part : List ℕ) (back : Option (List ℕ)) (words : List (List ℕ)) → filter is_piece (parts_behind is_blank left) ≡ words → left ≡ Some bytes
+    → slice_split is_blank bytes ≡ part ∷ parts_behind is_blank back → is_piece part ≡ true → words ≡ part ∷ filter is_piece (parts_behind is_blank back)
 word_found left bytes part back words all found parts piece =
     sym all ∙ rw (found, parts, piece) refl

@@ -29,7 +29,8 @@ read_from-refused more refusal number [] = refl
 read_from-refused more refusal number (line ∷ lines) = read_from-refused more refusal (number + 1) lines
 
 -- a line that is refused behind those that were read refuses the text
-pub refused_line : (fault : ScriptFault) (more : Bool) (number : ℕ) (draft : Draft) (line : List ℕ) (lines : List (List ℕ)) → IfSome (cause fault) (λ f. read_line number (Ok draft) line ≡ Err f) → IfSome (cause fault) (λ f. read_from more number (Ok draft) (line ∷ lines) ≡ Err f)
+pub refused_line : (fault : ScriptFault) (more : Bool) (number : ℕ) (draft : Draft) (line : List ℕ) (lines : List (List ℕ)) → IfSome (cause fault) (λ f. read_line number (Ok draft) line ≡ Err f)
+    → IfSome (cause fault) (λ f. read_from more number (Ok draft) (line ∷ lines) ≡ Err f)
 refused_line (script_fault.Refused refusal) more number draft line lines refused = rw refused (read_from-refused more refusal (number + 1) lines)
 refused_line script_fault.NoMemory more number draft line lines refused = tt
 

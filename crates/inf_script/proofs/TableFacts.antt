@@ -43,13 +43,16 @@ none_at p xs missed = by_test (nat_lt (position_or_len p xs) (length xs)) refl m
   by_test false past at = passed_over p xs (ltb-false _ _ past)
 
 -- a new name goes last
-pub keys_with : {A : Type 0} (key : Vec ℕ A) (keys : List (Vec ℕ A)) (lines clients : List ClientLine) (name : List ℕ) → key.items ≡ name → spelt keys ≡ names_of lines → lines ≡ clients → place_of name clients ≡ None → spelt (insert_key (λ (x y : Vec ℕ A). bytes_eq x.items y.items) keys key) ≡ names_of clients ++ name ∷ []
+pub keys_with : {A : Type 0} (key : Vec ℕ A) (keys : List (Vec ℕ A)) (lines clients : List ClientLine) (name : List ℕ) → key.items ≡ name → spelt keys ≡ names_of lines → lines ≡ clients → place_of name clients ≡ None
+    → spelt (insert_key (λ (x y : Vec ℕ A). bytes_eq x.items y.items) keys key) ≡ names_of clients ++ name ∷ []
 keys_with {A} key keys lines clients name made same seen unknown =
     let missed : list_any (λ (k : Vec ℕ A). bytes_eq key.items k.items) keys ≡ false = none_at _ keys (ap (λ (n : List ℕ). position (λ (k : Vec ℕ A). bytes_eq n k.items) keys) made ∙ found_place name keys lines clients same seen ∙ unknown) in
     rw missed (map-append (λ (k : Vec ℕ A). k.items) keys (key ∷ []) ∙ rw (same, seen, made) refl)
 
 -- a write of the calls behind a write that took them out
-pub calling-set : (place : ℕ) (call : Call) (xs : List ClientLine) (first second : ClientLine) (left made : List Call) → place < length xs → first ≡ get_or xs place first → second ≡ get_or (set xs place (record { name = first.name; caller = first.caller; calls = left })) place second → made ≡ first.calls ++ call ∷ [] → set (set xs place (record { name = first.name; caller = first.caller; calls = left })) place (record { name = second.name; caller = second.caller; calls = made }) ≡ calling place call xs
+pub calling-set : (place : ℕ) (call : Call) (xs : List ClientLine) (first second : ClientLine) (left made : List Call) → place < length xs
+    → first ≡ get_or xs place first → second ≡ get_or (set xs place (record { name = first.name; caller = first.caller; calls = left })) place second → made ≡ first.calls ++ call ∷ []
+    → set (set xs place (record { name = first.name; caller = first.caller; calls = left })) place (record { name = second.name; caller = second.caller; calls = made }) ≡ calling place call xs
 calling-set place call [] first second left made within at_first at_second grown = absurd (omega arith)
 calling-set zero call (x ∷ xs) first second left made within at_first at_second grown = rw (grown, at_second, at_first) refl
 calling-set (suc place) call (x ∷ xs) first second left made within at_first at_second grown = ap (λ (rest : List ClientLine). x ∷ rest) (calling-set place call xs first second left made (omega arith) at_first at_second grown)
@@ -78,7 +81,9 @@ calling-kept names lines calls place call within table = record {
 }
 
 -- and where a client is added whose name was unknown
-pub client-kept : {A : Type 0} (key : Vec ℕ A) (names new_names : List (Vec ℕ A)) (lines new_lines clients : List ClientLine) (calls : ℕ) (line : ClientLine) (name : List ℕ) → IsTable names lines calls → lines ≡ clients → place_of name clients ≡ None → length clients < MOST_CLIENTS → key.items ≡ name → line.name ≡ name → line.calls ≡ [] → new_names ≡ insert_key (λ (x y : Vec ℕ A). bytes_eq x.items y.items) names key → new_lines ≡ lines ++ line ∷ [] → IsTable new_names new_lines calls
+pub client-kept : {A : Type 0} (key : Vec ℕ A) (names new_names : List (Vec ℕ A)) (lines new_lines clients : List ClientLine) (calls : ℕ) (line : ClientLine) (name : List ℕ)
+    → IsTable names lines calls → lines ≡ clients → place_of name clients ≡ None → length clients < MOST_CLIENTS
+    → key.items ≡ name → line.name ≡ name → line.calls ≡ [] → new_names ≡ insert_key (λ (x y : Vec ℕ A). bytes_eq x.items y.items) names key → new_lines ≡ lines ++ line ∷ [] → IsTable new_names new_lines calls
 client-kept {A} key names new_names lines new_lines clients calls line name table seen unknown room made named fresh put grown =
     let counts = sum_by-append (λ (c : ClientLine). length c.calls) lines (line ∷ []) in
     let single = sum_by-cons (λ (c : ClientLine). length c.calls) line [] in

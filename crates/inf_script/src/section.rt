@@ -8,7 +8,7 @@ ghost use Rattle.inf_script.specs.Draft.{rank, may_stand};
 pub enum Section {
     /// Nothing was read.
     Start,
-    /// The first line and the lines behind it that no client stands in.
+    /// The first line, and the settings behind it.
     Settings,
     Clients,
     Calls,
