@@ -1,4 +1,6 @@
 pub mod PartFacts
 pub mod ReadingFacts
+pub mod TableFacts
+pub mod OrderFacts
 pub mod NameFacts
 pub mod Soundness

@@ -1,13 +1,15 @@
--- The parts of a list, by the place of its first separator, and the lines of a text.
-use Rattle.std.proofs.Common.{◌≡◌, ℕ, ◌+◌, ◌<◌, Bool, true, false, cond, nat_lt, List, [], ◌∷◌, length, take, drop, Option, Some, None, is_some, not, IsTrue, Bor, ◌↔◌, refl, sym, ap, ◌∙◌, subst, arith}
+-- The parts of a list, by the place of its first separator, and the lines and words that they make.
+use Rattle.std.proofs.Common.{◌≡◌, ℕ, ◌+◌, ◌<◌, Bool, true, false, cond, nat_lt, nat_eq, List, [], ◌∷◌, length, filter, take, drop, Option, Some, None, refl, sym, ap, ◌∙◌, subst, arith}
 use Rattle.std.specs.List.{slice_split, position, position_or_len}
-use Rattle.std.specs.Option.{option_copied}
-use Rattle.std.proofs.lemmas.Bool.{false≢true, ltb-true, ltb-false}
+use Rattle.std.proofs.lemmas.Bool.{ltb-true, ltb-false}
 use Rattle.std.proofs.lemmas.List.Splits.{slice_split_first, slice_split_none, length-slice_split}
 use Rattle.std.proofs.lemmas.List.Sums.{fails_before_first}
-use Rattle.inf_script.specs.Lines.{parts_behind, is_newline, without_empty_end, lines_of}
+use Rattle.inf_base.specs.Path.{is_piece}
+use Rattle.inf_script.specs.Cuts.{before, behind, parts_behind}
+use Rattle.inf_script.specs.Words.{is_blank}
+use Rattle.inf_script.specs.Lines.{is_newline, whole_parts, lines_of}
 
-pub split_found : (p : ℕ → Bool) (xs : List ℕ) (i : ℕ) → position p xs ≡ Some i → slice_split p xs ≡ take i xs ∷ slice_split p (drop (i + 1) xs)
+split_found : (p : ℕ → Bool) (xs : List ℕ) (i : ℕ) → position p xs ≡ Some i → slice_split p xs ≡ take i xs ∷ slice_split p (drop (i + 1) xs)
 split_found p xs i found = by_test (nat_lt (position_or_len p xs) (length xs)) refl found where
   by_test : (b : Bool) → nat_lt (position_or_len p xs) (length xs) ≡ b → cond b (Some (position_or_len p xs)) None ≡ Some i → slice_split p xs ≡ take i xs ∷ slice_split p (drop (i + 1) xs)
   by_test true within at =
@@ -15,7 +17,7 @@ split_found p xs i found = by_test (nat_lt (position_or_len p xs) (length xs)) r
       subst (λ (k : ℕ). slice_split p xs ≡ take k xs ∷ slice_split p (drop (k + 1) xs)) place (slice_split_first p xs 0 (ltb-true _ _ within))
   by_test false past at = cc
 
-pub split_missed : (p : ℕ → Bool) (xs : List ℕ) → position p xs ≡ None → slice_split p xs ≡ xs ∷ []
+split_missed : (p : ℕ → Bool) (xs : List ℕ) → position p xs ≡ None → slice_split p xs ≡ xs ∷ []
 split_missed p xs missed = by_test (nat_lt (position_or_len p xs) (length xs)) refl missed where
   by_test : (b : Bool) → nat_lt (position_or_len p xs) (length xs) ≡ b → cond b (Some (position_or_len p xs)) None ≡ None → slice_split p xs ≡ xs ∷ []
   by_test true within at = cc
@@ -23,21 +25,44 @@ split_missed p xs missed = by_test (nat_lt (position_or_len p xs) (length xs)) r
       let whole = ltb-false (position_or_len p xs) (length xs) past in
       slice_split_none p xs (λ k d below. fails_before_first p xs k d (omega arith))
 
--- there is always a part
-pub split_some : (p : ℕ → Bool) (xs : List ℕ) → slice_split p xs ≡ [] → ⊥
-split_some p xs none = let counted = length-slice_split p xs in let empty = ap length none in omega arith
+-- a list that is cut at its first separator
+cut_parts : (p : ℕ → Bool) (xs : List ℕ) (place : Option ℕ) → position p xs ≡ place → slice_split p xs ≡ before place xs ∷ parts_behind p (behind place xs)
+cut_parts p xs (Some i) found = split_found p xs i found
+cut_parts p xs None missed = split_missed p xs missed
 
-front_kept : (part : List ℕ) (parts : List (List ℕ)) → 0 < length parts → without_empty_end (part ∷ parts) ≡ part ∷ without_empty_end parts
-front_kept part [] some = absurd (omega arith)
-front_kept part (next ∷ parts) some = refl
+-- the same of what a cut gave
+pub parts_of_cut : (p : ℕ → Bool) (xs front : List ℕ) (place : Option ℕ) (back : Option (List ℕ)) → place ≡ position p xs → front ≡ before place xs → back ≡ behind place xs → slice_split p xs ≡ front ∷ parts_behind p back
+parts_of_cut p xs front place back found first rest = rw (first, rest) (cut_parts p xs place (sym found))
 
--- nothing is left exactly where no separator stood
-pub none_behind : (p : ℕ → Bool) (o : Option (Bor (List ℕ))) (b : Bool) → is_some o ≡ not b → IsTrue b ↔ (parts_behind p (option_copied o) ≡ [])
-none_behind p None true same = (λ _. refl, λ _. refl)
-none_behind p None false same = absurd (false≢true same)
-none_behind p (Some rest) true same = absurd (false≢true (sym same))
-none_behind p (Some rest) false same = (λ wrong. absurd (false≢true wrong), λ none. absurd (split_some p rest.now none))
+front_kept : (more : Bool) (part : List ℕ) (parts : List (List ℕ)) → 0 < length parts → whole_parts more (part ∷ parts) ≡ part ∷ whole_parts more parts
+front_kept more part [] some = absurd (omega arith)
+front_kept more part (next ∷ parts) some = refl
 
-pub line_found : (text line rest : List ℕ) → slice_split is_newline text ≡ line ∷ slice_split is_newline rest → lines_of text ≡ line ∷ lines_of rest
-line_found text line rest parts =
-    ap without_empty_end parts ∙ front_kept line (slice_split is_newline rest) (omega (arith, length-slice_split is_newline rest))
+-- a line that a newline ends
+pub line_found : (more : Bool) (text line : List ℕ) (back : Option (List ℕ)) (rest : List ℕ) → slice_split is_newline text ≡ line ∷ parts_behind is_newline back → back ≡ Some rest → lines_of more text ≡ line ∷ lines_of more rest
+line_found more text line (Some behind) rest parts found =
+    let same : behind ≡ rest = cc in
+    subst (λ (r : List ℕ). lines_of more text ≡ line ∷ lines_of more r) same
+    (ap (whole_parts more) parts ∙ front_kept more line (slice_split is_newline behind) (omega (arith, length-slice_split is_newline behind)))
+line_found more text line None rest parts found = cc
+
+-- the last part of a text that goes on
+pub line_cut : (text line : List ℕ) (back : Option (List ℕ)) → slice_split is_newline text ≡ line ∷ parts_behind is_newline back → back ≡ None → lines_of true text ≡ []
+line_cut text line (Some behind) parts missed = cc
+line_cut text line None parts missed = ap (whole_parts true) parts
+
+-- the last line of a text that ends there
+pub line_last : (text line : List ℕ) (back : Option (List ℕ)) → slice_split is_newline text ≡ line ∷ parts_behind is_newline back → back ≡ None → is_piece line ≡ true → lines_of false text ≡ line ∷ []
+line_last text line (Some behind) parts missed piece = cc
+line_last text line None parts missed piece = ap (whole_parts false) parts ∙ rw piece refl
+
+-- a part that is not empty
+pub piece_of : (part : List ℕ) → false ≡ nat_eq (length part) 0 → is_piece part ≡ true
+piece_of [] filled = cc
+piece_of (byte ∷ bytes) filled = refl
+
+-- the first part that is not empty is the first word
+pub word_found : (left : Option (List ℕ)) (bytes part : List ℕ) (back : Option (List ℕ)) (words : List (List ℕ)) → filter is_piece (parts_behind is_blank left) ≡ words → left ≡ Some bytes
+    → slice_split is_blank bytes ≡ part ∷ parts_behind is_blank back → is_piece part ≡ true → words ≡ part ∷ filter is_piece (parts_behind is_blank back)
+word_found left bytes part back words all found parts piece =
+    sym all ∙ rw (found, parts, piece) refl

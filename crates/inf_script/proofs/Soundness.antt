@@ -1,184 +1,428 @@
--- What is read is valid, and of the form that is built; what is refused is refused as bad-word.
-use Rattle.std.proofs.Common.{◌≡◌, ℕ, ◌≤◌, Bool, true, false, nat_eq, nat_lt, if◌then◌else◌, codes, List, [], ◌∷◌, ◌++◌, length, Result, Ok, Err, All, refl, ◌∙◌, subst, arith}
-use Rattle.std.specs.List.{list_all, ends_with, IsDistinct}
+-- What is read is valid, and of the form that is built.
+use Rattle.std.proofs.Common.{◌≡◌, ℕ, zero, suc, ◌+◌, ◌≤◌, ◌<◌, Bool, true, false, ◌&&◌, ◌||◌, cond, nat_eq, nat_lt, nat_le, if◌then◌else◌, codes, List, [], ◌∷◌, ◌++◌, length, position, Option, Some, None, is_some, is_none, IfSome, Result, Ok, Err, IfOk, All, refl, sym, ◌∙◌, subst, arith}
+use Rattle.std.specs.List.{list_all, list_any, IsDistinct, AllByRecursion, position_or_len}
 use Rattle.std.specs.Str.{bytes_eq, is_utf8}
-use Rattle.std.proofs.lemmas.Bool.{ltb-true}
-use Rattle.std.proofs.lemmas.List.{length-append}
-use Rattle.std.proofs.lemmas.List.Elements.{All-nil, All-push}
+use Rattle.std.proofs.lemmas.Bool.{eqb-true, ltb-true, leb-true, le-leb}
+use Rattle.std.proofs.lemmas.Cmp.{nat_list_eq_equiv}
+use Rattle.std.proofs.lemmas.List.{length-append, length-map, map-append}
+use Rattle.std.proofs.lemmas.List.Elements.{All-nil, All-push, All-cons, All-head, All-tail}
 use Rattle.std.proofs.lemmas.List.Folds.{list_all-append}
+use Rattle.std.proofs.lemmas.List.Sums.{sum_by-append}
 use Rattle.inf_base.specs.declared.call.Call.{Call}
 use Rattle.inf_base.specs.declared.call.Call.TheVariants as call
 use Rattle.inf_base.specs.declared.setup.ClientLine.{ClientLine}
-use Rattle.inf_base.specs.declared.setup.Setup.{Setup}
-use Rattle.inf_base.specs.declared.limits.TheConstants.{MOST_CALLS}
-use Rattle.inf_base.specs.Setup.{is_mode, is_valid_call, is_client_name, IsValid}
+use Rattle.inf_base.specs.declared.limits.TheConstants.{MOST_SERVERS, MOST_CLIENTS, MOST_CALLS}
+use Rattle.inf_base.specs.Setup.{is_mode, is_valid_call, is_valid_client, is_client_name, names_of, call_count, IsWithin, IsValid}
+use Rattle.inf_order.specs.declared.moves.Move.{Move}
+use Rattle.inf_order.specs.declared.moves.TheConstants.{MOST_MOVES}
+use Rattle.inf_order.specs.Order.{is_move_of}
 use Rattle.inf_script.specs.declared.refusal.Why.{Why}
 use Rattle.inf_script.specs.declared.refusal.Why.TheVariants as why
-use Rattle.inf_script.specs.declared.stage.Stage.{Stage}
-use Rattle.inf_script.specs.declared.stage.Stage.TheVariants as stage
-use Rattle.inf_script.specs.Names.{is_single_path, mode_of}
-use Rattle.inf_script.specs.Words.{words_of}
-use Rattle.inf_script.specs.CallLine.{no_more, create_end, create_mode, create_path, stat_path, call_kind, call_client}
-use Rattle.inf_script.specs.Faults.{bad_word}
+use Rattle.inf_script.specs.declared.refusal.ScriptRefusal.{ScriptRefusal}
+use Rattle.inf_script.specs.declared.script.Script.{Script}
+use Rattle.inf_script.specs.declared.script.TheConstants.{MOST_LINE_BYTES}
+use Rattle.inf_script.specs.declared.fault.ScriptFault.{ScriptFault}
+use Rattle.inf_script.specs.declared.section.Section.{Section}
+use Rattle.inf_script.specs.declared.section.Section.TheVariants as section
+use Rattle.inf_script.specs.declared.draft.Draft.{Draft}
+use Rattle.inf_base.specs.Memory.{Gives}
+use Rattle.inf_script.specs.Faults.{bad_word, cause}
+use Rattle.inf_script.specs.Names.{is_single_path, mode_of, number_below, number_within}
+use Rattle.inf_script.specs.Words.{words_of, without_return, is_comment}
+use Rattle.inf_script.specs.Cuts.{before, behind}
+use Rattle.inf_script.specs.Draft.{rank, may_stand, start, servers_of, place_of, order_of}
+use Rattle.inf_script.specs.Settings.{no_more, version, first_line, servers_end, servers_number, servers_line}
+use Rattle.inf_script.specs.ClientLine.{new_client, with_client, client_end, client_group, client_user, client_name, client_line}
+use Rattle.inf_script.specs.CallLine.{create_end, create_mode, create_path, stat_path, call_kind, calling, with_call, call_of, call_client, call_line}
+use Rattle.inf_script.specs.OrderLine.{is_colon, step_move, alone_move, serve_client, serve_move, server_move, server_text, coordinator_move, rest_move, move_of, with_move, moves_from, with_moves, order_moves, order_line}
+use Rattle.inf_script.specs.Sections.{end_line, word_line, after_words, after_line}
 use Rattle.inf_script.specs.Lines.{lines_of}
-use Rattle.inf_script.specs.Sections.{new_client, version, first_line, client_group, client_user, client_name, client_line, with_call, call_line, after_line}
-use Rattle.inf_script.specs.Reading.{setup_of, at_end, read_line, read_from, setup_in}
-use Rattle.inf_script.specs.Built.{IsBuiltCall, IsBuilt}
-use Rattle.inf_script.proofs.NameFacts.{Reads, if_true, single_path, single_path-is_word, mode_of-is_mode}
+use Rattle.inf_script.specs.Reading.{at_line, script_of, ended, at_end, read_line, read_from, reading}
+use Rattle.inf_script.specs.Built.{IsBuiltCall, IsBuiltClient, IsBuilt}
+use Rattle.inf_script.proofs.NameFacts.{and_left, and_right, if_both, if_read, single_path, single_path-is_word, mode_of-is_mode, number_below-good, number_within-good}
+use Rattle.inf_script.proofs.TableFacts.{none_at, names_of-calling, length-calling, call_count-calling}
 
 pub record IsGoodCall (call : Call) : Type 0 where
   pub valid : is_valid_call call ≡ true
   pub built : IsBuiltCall call
 
-pub record IsGoodClient (client : ClientLine) : Type 0 where
-  pub name : is_client_name client.name ≡ true
-  pub user : client.caller.uid ≡ 0
-  pub group : client.caller.gid ≡ 0
-  pub valid : list_all is_valid_call client.calls ≡ true
-  pub built : All IsBuiltCall client.calls
-  pub count : length client.calls ≤ MOST_CALLS
+pub record IsGoodDraft (draft : Draft) : Type 0 where
+  pub servers : IsWithin 1 MOST_SERVERS (servers_of draft)
+  pub clients : length draft.clients ≤ MOST_CLIENTS
+  pub calls : call_count draft.clients ≤ MOST_CALLS
+  pub names : IsDistinct bytes_eq (names_of draft.clients)
+  pub lines : list_all is_valid_client draft.clients ≡ true
+  pub built : All IsBuiltClient draft.clients
+  pub moves : list_all (is_move_of (servers_of draft) (length draft.clients)) draft.moves ≡ true
+  pub none_yet : rank draft.reached ≤ 3 → draft.moves ≡ []
 
-abbrev IsGoodStage : Stage → Type 0
-IsGoodStage stage.First = Unit {0}
-IsGoodStage stage.Client = Unit {0}
-IsGoodStage (stage.Calls client) = IsGoodClient client
-IsGoodStage (stage.Ended client) = IsGoodClient client
+pub record IsGoodScript (script : Script) : Type 0 where
+  pub valid : IsValid script.setup
+  pub order : list_all (is_move_of script.setup.servers (length script.setup.clients)) script.order ≡ true
+  pub built : IsBuilt script.setup
 
-pub record IsGoodSetup (setup : Setup) : Type 0 where
-  pub valid : IsValid setup
-  pub built : IsBuilt setup
-
--- what holds of both answers holds of the choice
-either : {X : Type 0} (P : X → Type 0) (b : Bool) (x y : Result X Why) → Reads x P → Reads y P → Reads (if b then x else y) P
-either P b x y first second = if_true (λ r. Reads r P) b x y (λ _. first) second
-
-no_more-good : {X : Type 0} (P : X → Type 0) (value : X) → P value → (words : List (List ℕ)) → Reads (no_more value words) P
+no_more-good : {X : Type 0} (P : X → Type 0) (value : X) → P value → (words : List (List ℕ)) → IfOk (no_more value words) P
 no_more-good P value good [] = good
-no_more-good P value good (word ∷ words) = refl
+no_more-good P value good (word ∷ words) = tt
 
-create_end-good : (path : List ℕ) → is_single_path path ≡ true → (mode : Result ℕ Why) → Reads mode (λ m. is_mode m ≡ true) → (words : List (List ℕ)) → Reads (create_end path mode words) IsGoodCall
-create_end-good path single (Err reason) fits words = fits
+-- a line that may stand is of no earlier section than the reading has come to
+stands : (line reached : Section) → may_stand line reached ≡ true → rank reached ≤ rank line
+stands line reached may = leb-true _ _ (and_right _ _ may)
+
+-- the first line and the settings
+
+version-good : (draft : Draft) → IsGoodDraft draft → rank draft.reached ≤ 3 → (words : List (List ℕ)) → IfOk (version draft words) IsGoodDraft
+version-good draft good early [] = tt
+version-good draft good early (word ∷ words) =
+    if_read IsGoodDraft (bytes_eq word (codes "1")) (no_more (record draft { reached = section.Settings }) words) why.BadWord
+    (λ _. no_more-good IsGoodDraft (record draft { reached = section.Settings }) (record {
+      servers = good.servers;
+      clients = good.clients;
+      calls = good.calls;
+      names = good.names;
+      lines = good.lines;
+      built = good.built;
+      moves = good.moves;
+      none_yet = λ _. good.none_yet early;
+    }) words)
+
+first_line-good : (draft : Draft) → IsGoodDraft draft → (words : List (List ℕ)) → IfOk (first_line draft words) IsGoodDraft
+first_line-good draft good words = if_read IsGoodDraft (nat_eq (rank draft.reached) 0) (version draft words) why.BadWord (λ first.
+    let at_start = eqb-true (rank draft.reached) 0 first in version-good draft good (omega arith) words)
+
+servers_end-good : (draft : Draft) → IsGoodDraft draft → draft.moves ≡ [] → (r : Result ℕ Why) → IfOk r (λ number. IsWithin 1 MOST_SERVERS number) → (words : List (List ℕ)) → IfOk (servers_end draft r words) IsGoodDraft
+servers_end-good draft good none (Err reason) within words = tt
+servers_end-good draft good none (Ok number) within words = no_more-good IsGoodDraft (record draft { servers = Some number }) (record {
+  servers = within;
+  clients = good.clients;
+  calls = good.calls;
+  names = good.names;
+  lines = good.lines;
+  built = good.built;
+  moves = rw none refl;
+  none_yet = good.none_yet;
+}) words
+
+servers_number-good : (draft : Draft) → IsGoodDraft draft → draft.moves ≡ [] → (words : List (List ℕ)) → IfOk (servers_number draft words) IsGoodDraft
+servers_number-good draft good none [] = tt
+servers_number-good draft good none (word ∷ words) = servers_end-good draft good none (number_within 1 MOST_SERVERS word) (number_within-good 1 MOST_SERVERS word) words
+
+servers_line-good : (draft : Draft) → IsGoodDraft draft → (words : List (List ℕ)) → IfOk (servers_line draft words) IsGoodDraft
+servers_line-good draft good words = if_read IsGoodDraft (may_stand section.Settings draft.reached && is_none draft.servers) (servers_number draft words) why.BadWord (λ may.
+    let early = stands section.Settings draft.reached (and_left _ _ may) in servers_number-good draft good (good.none_yet (omega arith)) words)
+
+-- a client line
+
+all_push : (name : List ℕ) (names : List (List ℕ)) (n : List ℕ) → bytes_eq n name ≡ false → AllByRecursion (λ other. bytes_eq n other ≡ false) names → AllByRecursion (λ other. bytes_eq n other ≡ false) (names ++ name ∷ [])
+all_push name [] n new all = (new, tt)
+all_push name (first ∷ names) n new all = (all.0, all_push name names n new all.1)
+
+or_first : (a b : Bool) → (a || b) ≡ false → a ≡ false
+or_first true b neither = neither
+or_first false b neither = refl
+
+or_later : (a b : Bool) → (a || b) ≡ false → b ≡ false
+or_later true b neither = cc
+or_later false b neither = neither
+
+distinct_push : (name : List ℕ) (names : List (List ℕ)) → list_any (bytes_eq name) names ≡ false → IsDistinct bytes_eq names → IsDistinct bytes_eq (names ++ name ∷ [])
+unfolding IsDistinct
+distinct_push name [] none distinct = (tt, tt)
+distinct_push name (first ∷ names) none distinct =
+    (all_push name names first (nat_list_eq_equiv.symm first name ∙ or_first _ _ none) distinct.0, distinct_push name names (or_later _ _ none) distinct.1)
+
+with_client-good : (draft : Draft) → IsGoodDraft draft → draft.moves ≡ [] → (name : List ℕ) → is_client_name name ≡ true → place_of name draft.clients ≡ None → IfOk (with_client draft name) IsGoodDraft
+with_client-good draft good none name named unknown =
+    if_read IsGoodDraft (nat_lt (length draft.clients) MOST_CLIENTS) (Ok (record draft { reached = section.Clients; clients = draft.clients ++ new_client name ∷ [] })) why.TooMany (λ room.
+    let below = ltb-true (length draft.clients) MOST_CLIENTS room in
+    let longer = length-append draft.clients (new_client name ∷ []) in
+    let total = sum_by-append (λ (c : ClientLine). length c.calls) draft.clients (new_client name ∷ []) in
+    let counts : call_count (draft.clients ++ new_client name ∷ []) ≡ call_count draft.clients = omega arith in
+    record {
+      servers = good.servers;
+      clients = omega arith;
+      calls = rw counts good.calls;
+      names = subst (IsDistinct bytes_eq) (sym (map-append (λ (c : ClientLine). c.name) draft.clients (new_client name ∷ []))) (distinct_push name (names_of draft.clients) (none_at (bytes_eq name) (names_of draft.clients) unknown) good.names);
+      lines = list_all-append is_valid_client draft.clients (new_client name ∷ []) ∙ rw (good.lines, named) refl;
+      built = All-push IsBuiltClient draft.clients (new_client name) good.built (record { user = refl; group = refl; calls = All-nil IsBuiltCall });
+      moves = rw none refl;
+      none_yet = λ _. none;
+    })
+
+client_end-good : (draft : Draft) → IsGoodDraft draft → draft.moves ≡ [] → (name : List ℕ) → is_client_name name ≡ true → place_of name draft.clients ≡ None → (words : List (List ℕ)) → IfOk (client_end draft name words) IsGoodDraft
+client_end-good draft good none name named unknown [] = with_client-good draft good none name named unknown
+client_end-good draft good none name named unknown (word ∷ words) = tt
+
+client_group-good : (draft : Draft) → IsGoodDraft draft → draft.moves ≡ [] → (name : List ℕ) → is_client_name name ≡ true → place_of name draft.clients ≡ None → (words : List (List ℕ)) → IfOk (client_group draft name words) IsGoodDraft
+client_group-good draft good none name named unknown [] = tt
+client_group-good draft good none name named unknown (word ∷ words) =
+    if_read IsGoodDraft (bytes_eq word (codes "0")) (client_end draft name words) why.BadNumber (λ _. client_end-good draft good none name named unknown words)
+
+client_user-good : (draft : Draft) → IsGoodDraft draft → draft.moves ≡ [] → (name : List ℕ) → is_client_name name ≡ true → place_of name draft.clients ≡ None → (words : List (List ℕ)) → IfOk (client_user draft name words) IsGoodDraft
+client_user-good draft good none name named unknown [] = tt
+client_user-good draft good none name named unknown (word ∷ words) =
+    if_read IsGoodDraft (bytes_eq word (codes "0")) (client_group draft name words) why.BadNumber (λ _. client_group-good draft good none name named unknown words)
+
+is_none_of : {X : Type 0} (o : Option X) → is_some o ≡ false → o ≡ None
+is_none_of None missing = refl
+is_none_of (Some x) missing = cc
+
+client_name-good : (draft : Draft) → IsGoodDraft draft → draft.moves ≡ [] → (words : List (List ℕ)) → IfOk (client_name draft words) IsGoodDraft
+client_name-good draft good none [] = tt
+client_name-good draft good none (name ∷ words) =
+    if_read IsGoodDraft (is_client_name name) (if is_some (place_of name draft.clients) then Err why.DoubleClient else client_user draft name words) why.BadWord (λ named.
+    if_both (λ r. IfOk r IsGoodDraft) (is_some (place_of name draft.clients)) (Err why.DoubleClient) (client_user draft name words) (λ _. tt) (λ unknown. client_user-good draft good none name named (is_none_of _ unknown) words))
+
+client_line-good : (draft : Draft) → IsGoodDraft draft → (words : List (List ℕ)) → IfOk (client_line draft words) IsGoodDraft
+client_line-good draft good words = if_read IsGoodDraft (may_stand section.Clients draft.reached) (client_name draft words) why.BadWord (λ may.
+    let early = stands section.Clients draft.reached may in client_name-good draft good (good.none_yet (omega arith)) words)
+
+-- a call line
+
+create_end-good : (path : List ℕ) → is_single_path path ≡ true → (mode : Result ℕ Why) → IfOk mode (λ m. is_mode m ≡ true) → (words : List (List ℕ)) → IfOk (create_end path mode words) IsGoodCall
+create_end-good path single (Err reason) fits words = tt
 create_end-good path single (Ok mode) fits words =
     no_more-good IsGoodCall (call.Create path mode) (record { valid = rw (single_path-is_word path single, fits) refl; built = single_path path single }) words
 
-create_mode-good : (path : List ℕ) → is_single_path path ≡ true → (words : List (List ℕ)) → Reads (create_mode path words) IsGoodCall
-create_mode-good path single [] = refl
+create_mode-good : (path : List ℕ) → is_single_path path ≡ true → (words : List (List ℕ)) → IfOk (create_mode path words) IsGoodCall
+create_mode-good path single [] = tt
 create_mode-good path single (word ∷ words) = create_end-good path single (mode_of word) (mode_of-is_mode word) words
 
-create_path-good : (words : List (List ℕ)) → Reads (create_path words) IsGoodCall
-create_path-good [] = refl
-create_path-good (path ∷ words) = if_true (λ r. Reads r IsGoodCall) (is_single_path path) (create_mode path words) bad_word (λ single. create_mode-good path single words) refl
+create_path-good : (words : List (List ℕ)) → IfOk (create_path words) IsGoodCall
+create_path-good [] = tt
+create_path-good (path ∷ words) = if_read IsGoodCall (is_single_path path) (create_mode path words) why.BadWord (λ single. create_mode-good path single words)
 
-stat_path-good : (words : List (List ℕ)) → Reads (stat_path words) IsGoodCall
-stat_path-good [] = refl
-stat_path-good (path ∷ words) = if_true (λ r. Reads r IsGoodCall) (is_single_path path) (no_more (call.Stat path) words) bad_word (λ single.
-    no_more-good IsGoodCall (call.Stat path) (record { valid = single_path-is_word path single; built = single_path path single }) words) refl
+stat_path-good : (words : List (List ℕ)) → IfOk (stat_path words) IsGoodCall
+stat_path-good [] = tt
+stat_path-good (path ∷ words) = if_read IsGoodCall (is_single_path path) (no_more (call.Stat path) words) why.BadWord (λ single.
+    no_more-good IsGoodCall (call.Stat path) (record { valid = single_path-is_word path single; built = single_path path single }) words)
 
-call_kind-good : (words : List (List ℕ)) → Reads (call_kind words) IsGoodCall
-call_kind-good [] = refl
+call_kind-good : (words : List (List ℕ)) → IfOk (call_kind words) IsGoodCall
+call_kind-good [] = tt
 call_kind-good (word ∷ words) =
-    either IsGoodCall (bytes_eq word (codes "create")) (create_path words) _ (create_path-good words)
-    (either IsGoodCall (bytes_eq word (codes "stat")) (stat_path words) bad_word (stat_path-good words) refl)
+    if_both (λ r. IfOk r IsGoodCall) (bytes_eq word (codes "create")) (create_path words) (if bytes_eq word (codes "stat") then stat_path words else bad_word) (λ _. create_path-good words) (λ _.
+    if_read IsGoodCall (bytes_eq word (codes "stat")) (stat_path words) why.BadWord (λ _. stat_path-good words))
 
-call_client-good : (name : List ℕ) (words : List (List ℕ)) → Reads (call_client name words) IsGoodCall
-call_client-good name [] = refl
-call_client-good name (word ∷ words) = either IsGoodCall (bytes_eq word name) (call_kind words) bad_word (call_kind-good words) refl
+calling-valid : (place : ℕ) (call : Call) → is_valid_call call ≡ true → (xs : List ClientLine) → list_all is_valid_client xs ≡ true → list_all is_valid_client (calling place call xs) ≡ true
+calling-valid place call fits [] all = refl
+calling-valid zero call fits (x ∷ xs) all =
+    let first : is_valid_client x ≡ true = and_left _ _ all in
+    let named : is_client_name x.name ≡ true = and_left _ _ first in
+    let more : list_all is_valid_call (x.calls ++ call ∷ []) ≡ true = list_all-append is_valid_call x.calls (call ∷ []) ∙ rw (and_right (is_client_name x.name) (list_all is_valid_call x.calls) first, fits) refl in
+    rw (named, more, and_right (is_valid_client x) (list_all is_valid_client xs) all) refl
+calling-valid (suc place) call fits (x ∷ xs) all =
+    rw (and_left (is_valid_client x) (list_all is_valid_client xs) all, calling-valid place call fits xs (and_right (is_valid_client x) (list_all is_valid_client xs) all)) refl
 
-version-good : (words : List (List ℕ)) → Reads (version words) IsGoodStage
-version-good [] = refl
-version-good (word ∷ words) = either IsGoodStage (bytes_eq word (codes "1")) (no_more stage.Client words) bad_word (no_more-good IsGoodStage stage.Client tt words) refl
+calling-built : (place : ℕ) (call : Call) → IsBuiltCall call → (xs : List ClientLine) → All IsBuiltClient xs → All IsBuiltClient (calling place call xs)
+calling-built place call fits [] all = all
+calling-built zero call fits (x ∷ xs) all =
+    let first : IsBuiltClient x = All-head IsBuiltClient x xs all in
+    All-cons IsBuiltClient (record x { calls = x.calls ++ call ∷ [] }) xs (record { user = first.user; group = first.group; calls = All-push IsBuiltCall x.calls call first.calls fits }) (All-tail IsBuiltClient x xs all)
+calling-built (suc place) call fits (x ∷ xs) all =
+    All-cons IsBuiltClient x (calling place call xs) (All-head IsBuiltClient x xs all) (calling-built place call fits xs (All-tail IsBuiltClient x xs all))
 
-first_line-good : (words : List (List ℕ)) → Reads (first_line words) IsGoodStage
-first_line-good [] = refl
-first_line-good (word ∷ words) = either IsGoodStage (bytes_eq word (codes "infinifs")) (version words) bad_word (version-good words) refl
+-- a client's number is below how many there are
+place-within : (name : List ℕ) (clients : List ClientLine) → IfSome (place_of name clients) (λ place. nat_lt place (length clients) ≡ true)
+place-within name clients = by_test (nat_lt (position_or_len (bytes_eq name) (names_of clients)) (length (names_of clients))) refl where
+  by_test : (b : Bool) → nat_lt (position_or_len (bytes_eq name) (names_of clients)) (length (names_of clients)) ≡ b → IfSome (cond b (Some (position_or_len (bytes_eq name) (names_of clients))) None) (λ place. nat_lt place (length clients) ≡ true)
+  by_test true within = subst (λ (n : ℕ). nat_lt (position_or_len (bytes_eq name) (names_of clients)) n ≡ true) (length-map clients (λ (c : ClientLine). c.name)) within
+  by_test false past = tt
 
-client_group-good : (name : List ℕ) → is_client_name name ≡ true → (words : List (List ℕ)) → Reads (client_group name words) IsGoodStage
-client_group-good name named [] = refl
-client_group-good name named (word ∷ words) =
-    either IsGoodStage (bytes_eq word (codes "0")) (no_more (stage.Calls (new_client name)) words) bad_word
-    (no_more-good IsGoodStage (stage.Calls (new_client name)) (record {
-      name = named;
-      user = refl;
-      group = refl;
-      valid = refl;
-      built = All-nil IsBuiltCall;
-      count = omega arith;
-    }) words) refl
+with_call-good : (draft : Draft) → IsGoodDraft draft → draft.moves ≡ [] → (client : ℕ) → client < length draft.clients → (r : Result Call Why) → IfOk r IsGoodCall → IfOk (with_call draft client r) IsGoodDraft
+with_call-good draft good none client known (Err reason) read = tt
+with_call-good draft good none client known (Ok call) read =
+    if_read IsGoodDraft (nat_lt (call_count draft.clients) MOST_CALLS) (Ok (record draft { reached = section.Calls; clients = calling client call draft.clients })) why.TooMany (λ room.
+    let below = ltb-true (call_count draft.clients) MOST_CALLS room in
+    let counted = call_count-calling client call draft.clients known in
+    record {
+      servers = good.servers;
+      clients = rw (length-calling client call draft.clients) good.clients;
+      calls = omega arith;
+      names = subst (IsDistinct bytes_eq) (sym (names_of-calling client call draft.clients)) good.names;
+      lines = calling-valid client call read.valid draft.clients good.lines;
+      built = calling-built client call read.built draft.clients good.built;
+      moves = rw none refl;
+      none_yet = λ _. none;
+    })
 
-client_user-good : (name : List ℕ) → is_client_name name ≡ true → (words : List (List ℕ)) → Reads (client_user name words) IsGoodStage
-client_user-good name named [] = refl
-client_user-good name named (word ∷ words) = either IsGoodStage (bytes_eq word (codes "0")) (client_group name words) bad_word (client_group-good name named words) refl
+call_of-good : (draft : Draft) → IsGoodDraft draft → draft.moves ≡ [] → (client : Option ℕ) → IfSome client (λ place. nat_lt place (length draft.clients) ≡ true) → (words : List (List ℕ)) → IfOk (call_of draft client words) IsGoodDraft
+call_of-good draft good none None within words = tt
+call_of-good draft good none (Some client) within words = with_call-good draft good none client (ltb-true _ _ within) (call_kind words) (call_kind-good words)
 
-client_name-good : (words : List (List ℕ)) → Reads (client_name words) IsGoodStage
-client_name-good [] = refl
-client_name-good (name ∷ words) = if_true (λ r. Reads r IsGoodStage) (is_client_name name) (client_user name words) bad_word (λ named. client_user-good name named words) refl
+call_client-good : (draft : Draft) → IsGoodDraft draft → draft.moves ≡ [] → (words : List (List ℕ)) → IfOk (call_client draft words) IsGoodDraft
+call_client-good draft good none [] = tt
+call_client-good draft good none (name ∷ words) = call_of-good draft good none (place_of name draft.clients) (place-within name draft.clients) words
 
-client_line-good : (words : List (List ℕ)) → Reads (client_line words) IsGoodStage
-client_line-good [] = refl
-client_line-good (word ∷ words) = either IsGoodStage (bytes_eq word (codes "client")) (client_name words) bad_word (client_name-good words) refl
+call_line-good : (draft : Draft) → IsGoodDraft draft → (words : List (List ℕ)) → IfOk (call_line draft words) IsGoodDraft
+call_line-good draft good words = if_read IsGoodDraft (may_stand section.Calls draft.reached) (call_client draft words) why.BadWord (λ may.
+    let early = stands section.Calls draft.reached may in call_client-good draft good (good.none_yet (omega arith)) words)
 
-with_call-good : (client : ClientLine) → IsGoodClient client → (r : Result Call Why) → Reads r IsGoodCall → Reads (with_call client r) IsGoodStage
-with_call-good client good (Err reason) read = read
-with_call-good client good (Ok call) read = if_true (λ r. Reads r IsGoodStage) (nat_lt (length client.calls) MOST_CALLS) (Ok (stage.Calls (record client { calls = client.calls ++ call ∷ [] }))) bad_word (λ room. record {
-  name = good.name;
-  user = good.user;
-  group = good.group;
-  valid = list_all-append is_valid_call client.calls (call ∷ []) ∙ rw (good.valid, read.valid) refl;
-  built = All-push IsBuiltCall client.calls call good.built read.built;
-  count = let below = ltb-true (length client.calls) MOST_CALLS room in let longer = length-append client.calls (call ∷ []) in omega arith;
-}) refl
+-- an order line
 
-call_line-good : (client : ClientLine) → IsGoodClient client → (words : List (List ℕ)) → Reads (call_line client words) IsGoodStage
-call_line-good client good [] = refl
-call_line-good client good (word ∷ words) =
-    either IsGoodStage (bytes_eq word (codes "call")) (with_call client (call_client client.name words)) _
-    (with_call-good client good (call_client client.name words) (call_client-good client.name words))
-    (either IsGoodStage (bytes_eq word (codes "end")) (no_more (stage.Ended client) words) bad_word (no_more-good IsGoodStage (stage.Ended client) good words) refl)
+module _ (servers : ℕ) (clients : List ClientLine) where
+  abbrev IsGoodMove : Move → Type 0
+  IsGoodMove m = is_move_of servers (length clients) m ≡ true
 
-after_line-good : (stage : Stage) → IsGoodStage stage → (line : List ℕ) → Reads (after_line stage line) IsGoodStage
-after_line-good stage.First good line = first_line-good (words_of line)
-after_line-good stage.Client good line = client_line-good (words_of line)
-after_line-good (stage.Calls client) good line = call_line-good client good (words_of line)
-after_line-good (stage.Ended client) good line = refl
+  step_move-good : (client : Option ℕ) → IfSome client (λ place. nat_lt place (length clients) ≡ true) → IfOk (step_move client) IsGoodMove
+  step_move-good None within = tt
+  step_move-good (Some client) within = within
 
-read_line-good : (so_far : Result Stage Why) → Reads so_far IsGoodStage → (line : List ℕ) → Reads (read_line so_far line) IsGoodStage
-read_line-good (Err reason) good line = good
-read_line-good (Ok stage) good line = after_line-good stage good line
+  alone_move-good : (client : Option ℕ) → IfSome client (λ place. nat_lt place (length clients) ≡ true) → IfOk (alone_move client) IsGoodMove
+  alone_move-good None within = tt
+  alone_move-good (Some client) within = within
 
-setup_of-good : (client : ClientLine) → IsGoodClient client → IsGoodSetup (setup_of client)
-unfolding IsDistinct
-setup_of-good client good = record {
+  serve_client-good : (number : ℕ) → number ≤ servers → (client : Option ℕ) → IfSome client (λ place. nat_lt place (length clients) ≡ true) → IfOk (serve_client number client) IsGoodMove
+  serve_client-good number fits None within = tt
+  serve_client-good number fits (Some client) within = rw (le-leb number servers fits, within) refl
+
+  serve_move-good : (number : ℕ) → number ≤ servers → (name : Option (List ℕ)) → IfOk (serve_move clients number name) IsGoodMove
+  serve_move-good number fits None = rw (le-leb number servers fits) refl
+  serve_move-good number fits (Some name) = serve_client-good number fits (place_of name clients) (place-within name clients)
+
+  server_move-good : (r : Result ℕ Why) → IfOk r (λ number. number < servers) → (name : Option (List ℕ)) → IfOk (server_move clients r name) IsGoodMove
+  server_move-good (Err reason) below name = tt
+  server_move-good (Ok number) below name = serve_move-good number (omega arith) name
+
+  coordinator_move-good : (text : List ℕ) → IfOk (coordinator_move servers clients text) IsGoodMove
+  coordinator_move-good [] = serve_move-good servers (omega arith) None
+  coordinator_move-good (byte ∷ name) = if_read IsGoodMove (is_colon byte) (serve_move clients servers (Some name)) why.BadWord (λ _. serve_move-good servers (omega arith) (Some name))
+
+  rest_move-good : (text : List ℕ) → IfOk (rest_move text) IsGoodMove
+  rest_move-good [] = refl
+  rest_move-good (byte ∷ bytes) = tt
+
+  move_of-good : (word : List ℕ) → IfOk (move_of servers clients word) IsGoodMove
+  move_of-good [] = tt
+  move_of-good (sign ∷ text) =
+      if_both (λ r. IfOk r IsGoodMove) (nat_eq sign 43) (step_move (place_of text clients)) _ (λ _. step_move-good (place_of text clients) (place-within text clients)) (λ _.
+      if_both (λ r. IfOk r IsGoodMove) (nat_eq sign 61) (alone_move (place_of text clients)) _ (λ _. alone_move-good (place_of text clients) (place-within text clients)) (λ _.
+      if_both (λ r. IfOk r IsGoodMove) (nat_eq sign 115) (server_text servers clients text) _ (λ _. server_move-good (number_below servers (before (position is_colon text) text)) (number_below-good servers (before (position is_colon text) text)) (behind (position is_colon text) text)) (λ _.
+      if_both (λ r. IfOk r IsGoodMove) (nat_eq sign 99) (coordinator_move servers clients text) _ (λ _. coordinator_move-good text) (λ _.
+      if_read IsGoodMove (nat_eq sign 42) (rest_move text) why.BadWord (λ _. rest_move-good text)))))
+
+  abbrev AreGoodMoves : List Move → Type 0
+  AreGoodMoves moves = list_all (is_move_of servers (length clients)) moves ≡ true
+
+  with_move-good : (so_far : Result (List Move) Why) → IfOk so_far AreGoodMoves → (next : Result Move Why) → IfOk next IsGoodMove → IfOk (with_move so_far next) AreGoodMoves
+  with_move-good (Err reason) all next fits = tt
+  with_move-good (Ok moves) all (Err reason) fits = tt
+  with_move-good (Ok moves) all (Ok next) fits = list_all-append (is_move_of servers (length clients)) moves (next ∷ []) ∙ rw (all, fits) refl
+
+  moves_from-good : (so_far : Result (List Move) Why) → IfOk so_far AreGoodMoves → (words : List (List ℕ)) → IfOk (moves_from servers clients so_far words) AreGoodMoves
+  moves_from-good so_far all [] = all
+  moves_from-good so_far all (word ∷ words) = moves_from-good (with_move so_far (move_of servers clients word)) (with_move-good so_far all (move_of servers clients word) (move_of-good word)) words
+
+with_moves-good : (draft : Draft) → IsGoodDraft draft → (r : Result (List Move) Why) → IfOk r (λ moves. list_all (is_move_of (servers_of draft) (length draft.clients)) moves ≡ true) → IfOk (with_moves draft r) IsGoodDraft
+with_moves-good draft good (Err reason) all = tt
+with_moves-good draft good (Ok moves) all = if_read IsGoodDraft (nat_le (length moves) MOST_MOVES) (Ok (record draft { reached = section.Order; moves = moves })) why.TooMany (λ _.
+    record {
+      servers = good.servers;
+      clients = good.clients;
+      calls = good.calls;
+      names = good.names;
+      lines = good.lines;
+      built = good.built;
+      moves = all;
+      none_yet = λ early. absurd (omega arith);
+    })
+
+order_moves-good : (draft : Draft) → IsGoodDraft draft → (words : List (List ℕ)) → IfOk (order_moves draft words) IsGoodDraft
+order_moves-good draft good [] = tt
+order_moves-good draft good (word ∷ words) =
+    with_moves-good draft good (moves_from (servers_of draft) draft.clients (Ok draft.moves) (word ∷ words)) (moves_from-good (servers_of draft) draft.clients (Ok draft.moves) good.moves (word ∷ words))
+
+order_line-good : (draft : Draft) → IsGoodDraft draft → (words : List (List ℕ)) → IfOk (order_line draft words) IsGoodDraft
+order_line-good draft good words = if_read IsGoodDraft (may_stand section.Order draft.reached) (order_moves draft words) why.BadWord (λ _. order_moves-good draft good words)
+
+-- any line
+
+end_line-good : (draft : Draft) → IsGoodDraft draft → (words : List (List ℕ)) → IfOk (end_line draft words) IsGoodDraft
+end_line-good draft good words = if_read IsGoodDraft (may_stand section.Order draft.reached) (no_more (record draft { reached = section.Ended }) words) why.BadWord (λ _.
+    no_more-good IsGoodDraft (record draft { reached = section.Ended }) (record {
+      servers = good.servers;
+      clients = good.clients;
+      calls = good.calls;
+      names = good.names;
+      lines = good.lines;
+      built = good.built;
+      moves = good.moves;
+      none_yet = λ early. absurd (omega arith);
+    }) words)
+
+word_line-good : (draft : Draft) → IsGoodDraft draft → (word : List ℕ) (words : List (List ℕ)) → IfOk (word_line draft word words) IsGoodDraft
+word_line-good draft good word words =
+    if_both (λ r. IfOk r IsGoodDraft) (bytes_eq word (codes "infinifs")) (first_line draft words) _ (λ _. first_line-good draft good words) (λ _.
+    if_both (λ r. IfOk r IsGoodDraft) (bytes_eq word (codes "servers")) (servers_line draft words) _ (λ _. servers_line-good draft good words) (λ _.
+    if_both (λ r. IfOk r IsGoodDraft) (bytes_eq word (codes "client")) (client_line draft words) _ (λ _. client_line-good draft good words) (λ _.
+    if_both (λ r. IfOk r IsGoodDraft) (bytes_eq word (codes "call")) (call_line draft words) _ (λ _. call_line-good draft good words) (λ _.
+    if_both (λ r. IfOk r IsGoodDraft) (bytes_eq word (codes "order")) (order_line draft words) _ (λ _. order_line-good draft good words) (λ _.
+    if_read IsGoodDraft (bytes_eq word (codes "end")) (end_line draft words) why.BadWord (λ _. end_line-good draft good words))))))
+
+after_words-good : (draft : Draft) → IsGoodDraft draft → (words : List (List ℕ)) → IfOk (after_words draft words) IsGoodDraft
+after_words-good draft good [] = good
+after_words-good draft good (word ∷ words) =
+    if_both (λ r. IfOk r IsGoodDraft) (is_comment word) (Ok draft) (word_line draft word words) (λ _. good) (λ _. word_line-good draft good word words)
+
+after_line-good : (draft : Draft) → IsGoodDraft draft → (line : List ℕ) → IfOk (after_line draft line) IsGoodDraft
+after_line-good draft good line =
+    if_both (λ r. IfOk r IsGoodDraft) (nat_lt MOST_LINE_BYTES (length line)) (Err why.TooLong) (if is_utf8 line then after_words draft (words_of (without_return line)) else Err why.NotUtf8) (λ _. tt) (λ _.
+    if_read IsGoodDraft (is_utf8 line) (after_words draft (words_of (without_return line))) why.NotUtf8 (λ _. after_words-good draft good (words_of (without_return line))))
+
+-- the whole text
+
+at_line-good : {X : Type 0} (P : X → Type 0) (number : ℕ) (r : Result X Why) → IfOk r P → IfOk (at_line number r) P
+at_line-good P number (Ok value) good = good
+at_line-good P number (Err reason) good = tt
+
+read_line-good : (number : ℕ) (so_far : Result Draft ScriptRefusal) → IfOk so_far IsGoodDraft → (line : List ℕ) → IfOk (read_line number so_far line) IsGoodDraft
+read_line-good number (Err refusal) good line = tt
+read_line-good number (Ok draft) good line = at_line-good IsGoodDraft number (after_line draft line) (after_line-good draft good line)
+
+order_of-good : (servers clients : ℕ) (moves : List Move) → list_all (is_move_of servers clients) moves ≡ true → list_all (is_move_of servers clients) (order_of moves) ≡ true
+order_of-good servers clients [] all = refl
+order_of-good servers clients (first ∷ moves) all = all
+
+script_of-good : (draft : Draft) → IsGoodDraft draft → IsGoodScript (script_of draft)
+script_of-good draft good = record {
   valid = record {
-    servers = record { at_least = omega arith; at_most = omega arith };
+    servers = good.servers;
     digest_bytes = record { at_least = omega arith; at_most = omega arith };
     cache = record { at_least = omega arith; at_most = omega arith };
-    clients = omega arith;
-    calls = omega (arith, good.count);
-    names = (tt, tt);
-    lines = rw (good.name, good.valid) refl;
+    clients = good.clients;
+    calls = good.calls;
+    names = good.names;
+    lines = good.lines;
   };
-  built = record { client = client; only = refl; user = good.user; group = good.group; calls = good.built };
+  order = order_of-good (servers_of draft) (length draft.clients) draft.moves good.moves;
+  built = good.built;
 }
 
-at_end-good : (so_far : Result Stage Why) → Reads so_far IsGoodStage → Reads (at_end so_far) IsGoodSetup
-at_end-good (Err reason) good = good
-at_end-good (Ok stage.First) good = refl
-at_end-good (Ok stage.Client) good = refl
-at_end-good (Ok (stage.Calls client)) good = refl
-at_end-good (Ok (stage.Ended client)) good = setup_of-good client good
+at_end-good : (more : Bool) (number : ℕ) (so_far : Result Draft ScriptRefusal) → IfOk so_far IsGoodDraft → IfOk (at_end more number so_far) IsGoodScript
+at_end-good more number (Err refusal) good = tt
+at_end-good true number (Ok draft) good = tt
+at_end-good false number (Ok draft) good = at_line-good IsGoodScript number (ended draft) (if_read IsGoodScript (nat_eq (rank draft.reached) 5) (Ok (script_of draft)) why.BadWord (λ _. script_of-good draft good))
 
-read_from-good : (so_far : Result Stage Why) → Reads so_far IsGoodStage → (lines : List (List ℕ)) → Reads (read_from so_far lines) IsGoodSetup
-read_from-good so_far good [] = at_end-good so_far good
-read_from-good so_far good (line ∷ lines) = read_from-good (read_line so_far line) (read_line-good so_far good line) lines
+read_from-good : (more : Bool) (number : ℕ) (so_far : Result Draft ScriptRefusal) → IfOk so_far IsGoodDraft → (lines : List (List ℕ)) → IfOk (read_from more number so_far lines) IsGoodScript
+read_from-good more number so_far good [] = at_end-good more number so_far good
+read_from-good more number so_far good (line ∷ lines) = read_from-good more (number + 1) (read_line number so_far line) (read_line-good number so_far good line) lines
 
-setup_in-good : (bytes : List ℕ) (more : Bool) → Reads (setup_in bytes more) IsGoodSetup
-setup_in-good bytes true = refl
-setup_in-good bytes false =
-    either IsGoodSetup (is_utf8 bytes) (if ends_with nat_eq bytes (10 ∷ []) then read_from (Ok stage.First) (lines_of bytes) else bad_word) bad_word
-    (either IsGoodSetup (ends_with nat_eq bytes (10 ∷ [])) (read_from (Ok stage.First) (lines_of bytes)) bad_word (read_from-good (Ok stage.First) tt (lines_of bytes)) refl) refl
+start-good : IsGoodDraft start
+unfolding IsDistinct
+start-good = record {
+  servers = record { at_least = omega arith; at_most = omega arith };
+  clients = omega arith;
+  calls = omega arith;
+  names = tt;
+  lines = refl;
+  built = All-nil IsBuiltClient;
+  moves = refl;
+  none_yet = λ _. refl;
+}
 
-pub good_setup : (bytes : List ℕ) (more : Bool) (setup : Setup) → setup_in bytes more ≡ Ok setup → IsGoodSetup setup
-good_setup bytes more setup read = subst (λ (r : Result Setup Why). Reads r IsGoodSetup) read (setup_in-good bytes more)
+reading-good : (bytes : List ℕ) (more : Bool) → IfOk (reading bytes more) IsGoodScript
+reading-good bytes more = read_from-good more 1 (Ok start) start-good (lines_of more bytes)
 
-pub refused_setup : (bytes : List ℕ) (more : Bool) (reason : Why) → setup_in bytes more ≡ Err reason → reason ≡ why.BadWord
-refused_setup bytes more reason refused = subst (λ (r : Result Setup Why). Reads r IsGoodSetup) refused (setup_in-good bytes more)
+-- what follows of a good script holds of each that is read
+pub read-good : (P : Script → Type 0) → ((script : Script) → IsGoodScript script → P script) → (bytes : List ℕ) (more : Bool) (r : Result Script ScriptFault) → Gives cause r (reading bytes more) → IfOk r P
+read-good P holds bytes more (Ok script) read = holds script (subst (λ (r : Result Script ScriptRefusal). IfOk r IsGoodScript) read (reading-good bytes more))
+read-good P holds bytes more (Err fault) read = tt

@@ -1,4 +1,4 @@
--- What the scripts of today's form ask for.
+-- What a script may ask for today.
 use Rattle.std.specs.Prelude.{◌≡◌, ℕ, List, [], ◌∷◌, Ok, All}
 use Rattle.inf_base.specs.declared.call.Call.{Call}
 use Rattle.inf_base.specs.declared.call.Call.TheVariants as call
@@ -24,10 +24,11 @@ IsBuiltCall (call.Truncate path length) = ⊥
 IsBuiltCall (call.Chmod path mode) = ⊥
 IsBuiltCall (call.Rename old new) = ⊥
 
--- one client, of user 0 and group 0, and each of its calls is built
-pub record IsBuilt (setup : Setup) : Type 0 where
-  pub client : ClientLine
-  pub only : setup.clients ≡ client ∷ []
+-- a client of user 0 and group 0, each call of which is built
+pub record IsBuiltClient (client : ClientLine) : Type 0 where
   pub user : client.caller.uid ≡ 0
   pub group : client.caller.gid ≡ 0
   pub calls : All IsBuiltCall client.calls
+
+abbrev pub IsBuilt : Setup → Type 0
+IsBuilt setup = All IsBuiltClient setup.clients

@@ -1,16 +1,19 @@
 -- The words of a call line, from left to right.
-use Rattle.std.specs.Prelude.{ℕ, List, [], ◌∷◌, if◌then◌else◌, codes, Result, Ok, Err}
+use Rattle.std.specs.Prelude.{ℕ, nat_lt, zero, suc, if◌then◌else◌, codes, List, [], ◌∷◌, ◌++◌, Option, Some, None, Result, Ok, Err}
 use Rattle.std.specs.Str.{bytes_eq}
 use Rattle.inf_base.specs.declared.call.Call.{Call}
 use Rattle.inf_base.specs.declared.call.Call.TheVariants as call
+use Rattle.inf_base.specs.declared.setup.ClientLine.{ClientLine}
+use Rattle.inf_base.specs.declared.limits.TheConstants.{MOST_CALLS}
+use Rattle.inf_base.specs.Setup.{call_count}
 use Rattle.inf_script.specs.declared.refusal.Why.{Why}
+use Rattle.inf_script.specs.declared.refusal.Why.TheVariants as why
+use Rattle.inf_script.specs.declared.section.Section.TheVariants as section
+use Rattle.inf_script.specs.declared.draft.Draft.{Draft}
+use Rattle.inf_script.specs.Draft.{may_stand, place_of}
 use Rattle.inf_script.specs.Faults.{bad_word}
 use Rattle.inf_script.specs.Names.{is_single_path, mode_of}
-
--- the value that was read, where no word is left
-abbrev pub no_more : {X : Type 0} → X → List (List ℕ) → Result X Why
-no_more value [] = Ok value
-no_more value (word ∷ words) = bad_word
+use Rattle.inf_script.specs.Settings.{no_more}
 
 abbrev pub create_end : List ℕ → Result ℕ Why → List (List ℕ) → Result Call Why
 create_end path (Err reason) words = Err reason
@@ -34,7 +37,26 @@ call_kind (word ∷ words) =
     if bytes_eq word (codes "create") then create_path words
     else (if bytes_eq word (codes "stat") then stat_path words else bad_word)
 
--- the call that stands behind the word `call`: the name of the client, and what it calls
-abbrev pub call_client : List ℕ → List (List ℕ) → Result Call Why
-call_client name [] = bad_word
-call_client name (word ∷ words) = if bytes_eq word name then call_kind words else bad_word
+-- the client of this number calls this behind its other calls
+abbrev pub calling : ℕ → Call → List ClientLine → List ClientLine
+calling place call [] = []
+calling zero call (client ∷ clients) = record client { calls = client.calls ++ call ∷ [] } ∷ clients
+calling (suc place) call (client ∷ clients) = client ∷ calling place call clients
+
+-- one call more, of which there may be so many in all
+abbrev pub with_call : Draft → ℕ → Result Call Why → Result Draft Why
+with_call draft client (Err reason) = Err reason
+with_call draft client (Ok call) =
+    if nat_lt (call_count draft.clients) MOST_CALLS then Ok (record draft { reached = section.Calls; clients = calling client call draft.clients }) else Err why.TooMany
+
+abbrev pub call_of : Draft → Option ℕ → List (List ℕ) → Result Draft Why
+call_of draft None words = Err why.UnknownClient
+call_of draft (Some client) words = with_call draft client (call_kind words)
+
+abbrev pub call_client : Draft → List (List ℕ) → Result Draft Why
+call_client draft [] = bad_word
+call_client draft (name ∷ words) = call_of draft (place_of name draft.clients) words
+
+-- `call NAME create PATH MODE` or `call NAME stat PATH`
+abbrev pub call_line : Draft → List (List ℕ) → Result Draft Why
+call_line draft words = if may_stand section.Calls draft.reached then call_client draft words else bad_word

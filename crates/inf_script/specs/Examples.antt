@@ -1,95 +1,166 @@
--- Texts and what they say.
-use Rattle.std.specs.Prelude.{◌≡◌, ℕ, ◌<◌, true, false, List, [], ◌∷◌, ◌++◌, length, replicate, codes, Ok, Err}
+-- Texts and what they say, and what holds of every text.
+use Rattle.std.specs.Prelude.{◌≡◌, ℕ, ◌+◌, ◌<◌, ◌≤◌, true, false, List, [], ◌∷◌, ◌++◌, length, take, replicate, codes, Some, None, Ok, Err, IsErrAnd}
 use Rattle.std.specs.List.{flat_map}
+use Rattle.std.specs.Str.{is_utf8}
 use Rattle.inf_base.specs.declared.call.Call.{Call}
 use Rattle.inf_base.specs.declared.call.Call.TheVariants as call
-use Rattle.inf_base.specs.declared.setup.Setup.{Setup}
-use Rattle.inf_script.specs.declared.script.TheConstants.{MOST_SCRIPT_BYTES}
-use Rattle.inf_script.specs.Faults.{bad_word_at_1}
+use Rattle.inf_base.specs.declared.setup.ClientLine.{ClientLine}
+use Rattle.inf_base.specs.declared.limits.TheConstants.{MOST_CLIENTS, MOST_CALLS}
+use Rattle.inf_base.specs.Setup.{call_count}
+use Rattle.inf_order.specs.declared.moves.Move.{Move}
+use Rattle.inf_order.specs.declared.moves.Move.TheVariants as move
+use Rattle.inf_order.specs.declared.moves.TheConstants.{MOST_MOVES}
+use Rattle.inf_script.specs.declared.draft.Draft.{Draft}
+use Rattle.inf_script.specs.declared.refusal.Why.{Why}
+use Rattle.inf_script.specs.declared.refusal.Why.TheVariants as why
+use Rattle.inf_script.specs.declared.refusal.ScriptRefusal.{ScriptRefusal}
+use Rattle.inf_script.specs.declared.script.TheConstants.{MOST_LINE_BYTES, MOST_SCRIPT_BYTES}
+use Rattle.inf_script.specs.CallLine.{with_call}
+use Rattle.inf_script.specs.ClientLine.{with_client}
+use Rattle.inf_script.specs.Lines.{lines_of}
+use Rattle.inf_script.specs.OrderLine.{with_moves}
 use Rattle.inf_script.specs.Reading.{reading, meaning}
+use Rattle.inf_script.specs.Sections.{after_words, after_line}
+use Rattle.inf_script.specs.Words.{without_return, words_of}
 
 -- these lines, each with the newline that ends it
 abbrev pub text_of : List (List ℕ) → List ℕ
 text_of lines = flat_map (λ line. line ++ 10 ∷ []) lines
 
--- the client `a`, of user 0 and group 0, with these calls
-abbrev pub setup_with : List Call → Setup
-setup_with calls = record { servers = 1; digest_bytes = 32; cache = 256; clients = record { name = codes "a"; caller = record { uid = 0; gid = 0 }; calls = calls } ∷ [] }
+-- the same, but each line ends with a carriage return before its newline
+abbrev pub returns_of : List (List ℕ) → List ℕ
+returns_of lines = flat_map (λ line. line ++ 13 ∷ 10 ∷ []) lines
 
-abbrev pub Says : List ℕ → List Call → Type 0
-Says text calls = reading text false ≡ Ok (record { setup = setup_with calls })
+-- a client of user 0 and group 0, with these calls
+abbrev pub client_with : List ℕ → List Call → ClientLine
+client_with name calls = record { name = name; caller = record { uid = 0; gid = 0 }; calls = calls }
 
-abbrev pub IsRefused : List ℕ → Type 0
-IsRefused text = reading text false ≡ Err bad_word_at_1
+abbrev pub Says : List ℕ → ℕ → List ClientLine → List Move → Type 0
+Says text servers clients moves = reading text false ≡ Ok (record { setup = record { servers = servers; digest_bytes = 32; cache = 256; clients = clients }; order = moves })
 
--- a script whose one line behind the client's is this one
+abbrev pub IsRefused : ℕ → Why → List ℕ → Type 0
+IsRefused number reason text = reading text false ≡ Err (record { line = number; why = reason })
+
+-- a script with these lines behind its first
+abbrev pub with_lines : List (List ℕ) → List ℕ
+with_lines lines = text_of (codes "infinifs 1" ∷ lines)
+
+-- a script of the client `a` whose third line is this one
 abbrev pub with_line : List ℕ → List ℕ
-with_line line = text_of (codes "infinifs 1" ∷ codes "client a 0 0" ∷ line ∷ codes "end" ∷ [])
-
--- a script with this client line
-abbrev pub with_client : List ℕ → List ℕ
-with_client line = text_of (codes "infinifs 1" ∷ line ∷ codes "end" ∷ [])
+with_line line = with_lines (codes "client a 0 0" ∷ line ∷ codes "end" ∷ [])
 
 pub record ScriptsAreRead : Type 0 where
-  pub no_calls : Says (text_of (codes "infinifs 1" ∷ codes "client a 0 0" ∷ codes "end" ∷ [])) []
-  pub two_calls : Says
-      (text_of (codes "infinifs 1" ∷ codes "client a 0 0" ∷ codes "call a create /f 644" ∷ codes "call a stat /..f" ∷ codes "end" ∷ []))
-      (call.Create (codes "/f") 420 ∷ call.Stat (codes "/..f") ∷ [])
-  pub any_bytes : Says (with_line (codes "call a stat /" ++ 195 ∷ 164 ∷ 1 ∷ [])) (call.Stat (47 ∷ 195 ∷ 164 ∷ 1 ∷ []) ∷ [])
-  pub least_mode : Says (with_line (codes "call a create /f 000")) (call.Create (codes "/f") 0 ∷ [])
-  pub greatest_mode : Says (with_line (codes "call a create /f 777")) (call.Create (codes "/f") 511 ∷ [])
-  pub longest_name : Says (with_line (codes "call a stat /" ++ replicate 255 120)) (call.Stat (47 ∷ replicate 255 120) ∷ [])
+  pub shortest : Says (codes "infinifs 1" ++ 10 ∷ codes "end") 1 [] (move.Rest ∷ [])
+  pub all_lines : Says
+      (text_of (codes "# a comment" ∷ [] ∷ codes "infinifs 1" ∷ codes "servers 3" ∷ codes "client b 0 0" ∷ codes "client a1 0 0" ∷ codes "call a1 create /f 644" ∷ codes "call b stat /..f"
+      ∷ codes "  # another" ∷ codes "call a1 stat /f" ∷ codes "order +a1 =b s2 s0:a1" ∷ codes "order c c:b *" ∷ codes "end" ∷ codes "#" ∷ []))
+      3 (client_with (codes "b") (call.Stat (codes "/..f") ∷ []) ∷ client_with (codes "a1") (call.Create (codes "/f") 420 ∷ call.Stat (codes "/f") ∷ []) ∷ [])
+      (move.Step 1 ∷ move.Alone 0 ∷ move.Serve 2 None ∷ move.Serve 0 (Some 1) ∷ move.Serve 3 None ∷ move.Serve 3 (Some 0) ∷ move.Rest ∷ [])
+  pub blanks : Says (text_of ((9 ∷ codes " infinifs" ++ 32 ∷ 9 ∷ codes "1 " ++ 13 ∷ []) ∷ (13 ∷ []) ∷ codes "end  " ∷ [])) 1 [] (move.Rest ∷ [])
+  pub returns : Says (returns_of (codes "infinifs 1" ∷ codes "client a 0 0" ∷ [] ∷ codes "call a stat /f" ∷ codes "order +a" ∷ codes "end" ∷ [])) 1 (client_with (codes "a") (call.Stat (codes "/f") ∷ []) ∷ []) (move.Step 0 ∷ [])
+  pub any_bytes : Says (with_line (codes "call a stat /" ++ 195 ∷ 164 ∷ 13 ∷ 1 ∷ [])) 1 (client_with (codes "a") (call.Stat (47 ∷ 195 ∷ 164 ∷ 13 ∷ 1 ∷ []) ∷ []) ∷ []) (move.Rest ∷ [])
+  pub least_mode : Says (with_line (codes "call a create /f 000")) 1 (client_with (codes "a") (call.Create (codes "/f") 0 ∷ []) ∷ []) (move.Rest ∷ [])
+  pub greatest_mode : Says (with_line (codes "call a create /f 777")) 1 (client_with (codes "a") (call.Create (codes "/f") 511 ∷ []) ∷ []) (move.Rest ∷ [])
+  pub longest_name : Says (with_line (codes "call a stat /" ++ replicate 255 120)) 1 (client_with (codes "a") (call.Stat (47 ∷ replicate 255 120) ∷ []) ∷ []) (move.Rest ∷ [])
+  pub most_servers : Says (with_lines (codes "servers 64" ∷ codes "client abcdefghijklmn09 0 0" ∷ codes "order s63:abcdefghijklmn09" ∷ codes "end" ∷ [])) 64 (client_with (codes "abcdefghijklmn09") [] ∷ []) (move.Serve 63 (Some 0) ∷ [])
 
-pub record TextsAreRefused : Type 0 where
-  pub empty : IsRefused []
-  pub no_first_line : IsRefused (text_of (codes "client a 0 0" ∷ codes "end" ∷ []))
-  pub other_version : IsRefused (text_of (codes "infinifs 2" ∷ codes "client a 0 0" ∷ codes "end" ∷ []))
-  pub no_client : IsRefused (text_of (codes "infinifs 1" ∷ codes "end" ∷ []))
-  pub second_client : IsRefused (with_line (codes "client b 0 0"))
-  pub no_end : IsRefused (text_of (codes "infinifs 1" ∷ codes "client a 0 0" ∷ []))
-  pub line_behind_the_end : IsRefused (with_line (codes "end"))
-  pub bytes_behind_the_end : IsRefused (with_client (codes "client a 0 0") ++ codes "x")
-  pub empty_line_behind_the_end : IsRefused (with_client (codes "client a 0 0") ++ 10 ∷ [])
-  pub no_newline_at_the_end : IsRefused (codes "infinifs 1" ++ 10 ∷ codes "client a 0 0" ++ 10 ∷ codes "end")
-  pub carriage_return : IsRefused (text_of (codes "infinifs 1" ∷ codes "client a 0 0" ∷ (codes "end" ++ 13 ∷ []) ∷ []))
-  pub empty_line : IsRefused (with_line [])
-  pub comment : IsRefused (with_line (codes "# a comment"))
-  pub not_utf8 : IsRefused (with_line (codes "call a stat /" ++ 255 ∷ []))
-  pub goes_on : reading (with_client (codes "client a 0 0")) true ≡ Err bad_word_at_1
+pub record LinesAreRefused : Type 0 where
+  pub empty : IsRefused 1 why.BadWord []
+  pub no_first_line : IsRefused 1 why.BadWord (text_of (codes "end" ∷ []))
+  pub other_version : IsRefused 1 why.BadWord (text_of (codes "infinifs 2" ∷ codes "end" ∷ []))
+  pub zero_in_front : IsRefused 1 why.BadWord (text_of (codes "infinifs 01" ∷ codes "end" ∷ []))
+  pub no_end : IsRefused 2 why.BadWord (codes "infinifs 1")
+  pub no_end_behind_comments : IsRefused 4 why.BadWord (with_lines ([] ∷ codes "# end" ∷ []))
+  pub behind_a_comment : IsRefused 3 why.BadWord (text_of (codes "#" ∷ codes "infinifs 1" ∷ codes "x" ∷ codes "y" ∷ []))
+  pub first_line_again : IsRefused 2 why.BadWord (with_lines (codes "infinifs 1" ∷ codes "end" ∷ []))
+  pub end_again : IsRefused 3 why.BadWord (with_lines (codes "end" ∷ codes "end" ∷ []))
+  pub behind_the_end : IsRefused 4 why.BadWord (with_lines (codes "end" ∷ [] ∷ codes "client a 0 0" ∷ []))
+  pub servers_again : IsRefused 3 why.BadWord (with_lines (codes "servers 2" ∷ codes "servers x" ∷ codes "end" ∷ []))
+  pub servers_late : IsRefused 3 why.BadWord (with_line (codes "servers 2"))
+  pub client_late : IsRefused 4 why.BadWord (with_lines (codes "client a 0 0" ∷ codes "call a stat /f" ∷ codes "client b 0 0" ∷ codes "end" ∷ []))
+  pub call_late : IsRefused 4 why.BadWord (with_lines (codes "client a 0 0" ∷ codes "order *" ∷ codes "call a stat /f" ∷ codes "end" ∷ []))
+  pub digest_bytes : IsRefused 2 why.BadWord (with_lines (codes "digest-bytes 8" ∷ codes "end" ∷ []))
+  pub cache : IsRefused 2 why.BadWord (with_lines (codes "cache 8" ∷ codes "end" ∷ []))
+  pub return_before_blank : IsRefused 1 why.BadWord (text_of ((codes "infinifs 1" ++ 13 ∷ 32 ∷ []) ∷ codes "end" ∷ []))
+  pub two_returns : IsRefused 1 why.BadWord (text_of ((codes "infinifs 1" ++ 13 ∷ 13 ∷ []) ∷ codes "end" ∷ []))
+  pub not_utf8 : IsRefused 2 why.NotUtf8 (with_lines ((codes "# " ++ 255 ∷ []) ∷ codes "x" ∷ []))
+  pub goes_on : reading (codes "infinifs 1" ++ 10 ∷ codes "end") true ≡ Err (record { line = 2; why = why.TooLong })
+  pub goes_on_behind_a_newline : reading (with_lines (codes "end" ∷ [])) true ≡ Err (record { line = 3; why = why.TooLong })
+  pub fault_before_it_goes_on : reading (with_lines (codes "x" ∷ [])) true ≡ Err (record { line = 2; why = why.BadWord })
 
 pub record WordsAreRefused : Type 0 where
-  pub two_spaces : IsRefused (with_line (codes "call a  stat /f"))
-  pub space_in_front : IsRefused (with_line (codes " call a stat /f"))
-  pub space_behind : IsRefused (with_line (codes "call a stat /f "))
-  pub tab : IsRefused (with_line (codes "call a stat" ++ 9 ∷ codes "/f"))
-  pub other_user : IsRefused (with_client (codes "client a 1 0"))
-  pub other_group : IsRefused (with_client (codes "client a 0 1"))
-  pub two_zeros : IsRefused (with_client (codes "client a 00 0"))
-  pub no_group : IsRefused (with_client (codes "client a 0"))
-  pub word_too_many : IsRefused (with_client (codes "client a 0 0 0"))
-  pub digit_first : IsRefused (with_client (codes "client 1a 0 0"))
-  pub capital : IsRefused (with_client (codes "client A 0 0"))
-  pub long_client_name : IsRefused (with_client (codes "client abcdefghijklmnopq 0 0"))
-  pub other_client : IsRefused (with_line (codes "call b stat /f"))
-  pub other_call : IsRefused (with_line (codes "call a unlink /f"))
-  pub no_mode : IsRefused (with_line (codes "call a create /f"))
-  pub mode_of_two_digits : IsRefused (with_line (codes "call a create /f 77"))
-  pub mode_of_four_digits : IsRefused (with_line (codes "call a create /f 0644"))
-  pub mode_with_an_eight : IsRefused (with_line (codes "call a create /f 648"))
-  pub mode_of_a_stat : IsRefused (with_line (codes "call a stat /f 644"))
+  pub no_servers : IsRefused 2 why.BadNumber (with_lines (codes "servers 0" ∷ []))
+  pub servers_65 : IsRefused 2 why.BadNumber (with_lines (codes "servers 65" ∷ []))
+  pub servers_100 : IsRefused 2 why.BadNumber (with_lines (codes "servers 100" ∷ []))
+  pub servers_past_32_bits : IsRefused 2 why.BadNumber (with_lines (codes "servers 4294967298" ∷ []))
+  pub servers_past_64_bits : IsRefused 2 why.BadNumber (with_lines (codes "servers 18446744073709551618" ∷ []))
+  pub zero_in_front : IsRefused 2 why.BadNumber (with_lines (codes "servers 02" ∷ []))
+  pub sign_in_front : IsRefused 2 why.BadNumber (with_lines (codes "servers +2" ∷ []))
+  pub no_number : IsRefused 2 why.BadWord (with_lines (codes "servers" ∷ []))
+  pub two_numbers : IsRefused 2 why.BadWord (with_lines (codes "servers 2 2" ∷ []))
+  pub no_name : IsRefused 3 why.BadWord (with_line (codes "client"))
+  pub capital : IsRefused 3 why.BadWord (with_line (codes "client B x"))
+  pub digit_first : IsRefused 3 why.BadWord (with_line (codes "client 1b 0 0"))
+  pub long_client_name : IsRefused 3 why.BadWord (with_line (codes "client abcdefghijklmnopq 0 0"))
+  pub double_client : IsRefused 3 why.DoubleClient (with_line (codes "client a 0 x"))
+  pub bad_user : IsRefused 3 why.BadNumber (with_line (codes "client b x"))
+  pub other_user : IsRefused 3 why.BadNumber (with_line (codes "client b 1 0"))
+  pub other_group : IsRefused 3 why.BadNumber (with_line (codes "client b 0 1"))
+  pub no_group : IsRefused 3 why.BadWord (with_line (codes "client b 0"))
+  pub word_too_many : IsRefused 3 why.BadWord (with_line (codes "client b 0 0 0"))
+  pub no_caller : IsRefused 3 why.BadWord (with_line (codes "call"))
+  pub unknown_caller : IsRefused 3 why.UnknownClient (with_line (codes "call b fly"))
+  pub misspelt_caller : IsRefused 3 why.UnknownClient (with_line (codes "call A stat /f"))
+  pub no_call : IsRefused 3 why.BadWord (with_line (codes "call a"))
+  pub other_call : IsRefused 3 why.BadWord (with_line (codes "call a unlink /f"))
+  pub no_mode : IsRefused 3 why.BadWord (with_line (codes "call a create /f"))
+  pub mode_of_two_digits : IsRefused 3 why.BadNumber (with_line (codes "call a create /f 77"))
+  pub mode_of_four_digits : IsRefused 3 why.BadNumber (with_line (codes "call a create /f 0644"))
+  pub mode_with_an_eight : IsRefused 3 why.BadNumber (with_line (codes "call a create /f 648 x"))
+  pub mode_of_a_stat : IsRefused 3 why.BadWord (with_line (codes "call a stat /f 644"))
 
 pub record PathsAreRefused : Type 0 where
-  pub root : IsRefused (with_line (codes "call a stat /"))
-  pub no_slash : IsRefused (with_line (codes "call a stat f"))
-  pub two_names : IsRefused (with_line (codes "call a stat /f/g"))
-  pub slash_behind : IsRefused (with_line (codes "call a stat /f/"))
-  pub two_slashes : IsRefused (with_line (codes "call a stat //f"))
-  pub dot : IsRefused (with_line (codes "call a stat /."))
-  pub dot_dot : IsRefused (with_line (codes "call a stat /.."))
-  pub nul : IsRefused (with_line (codes "call a stat /f" ++ 0 ∷ []))
-  pub carriage_return : IsRefused (with_line (codes "call a stat /f" ++ 13 ∷ []))
-  pub long_name : IsRefused (with_line (codes "call a stat /" ++ replicate 256 120))
+  pub root : IsRefused 3 why.BadWord (with_line (codes "call a stat /"))
+  pub no_slash : IsRefused 3 why.BadWord (with_line (codes "call a stat f"))
+  pub two_names : IsRefused 3 why.BadWord (with_line (codes "call a stat /f/g"))
+  pub slash_behind : IsRefused 3 why.BadWord (with_line (codes "call a stat /f/"))
+  pub two_slashes : IsRefused 3 why.BadWord (with_line (codes "call a stat //f"))
+  pub dot : IsRefused 3 why.BadWord (with_line (codes "call a stat /."))
+  pub dot_dot : IsRefused 3 why.BadWord (with_line (codes "call a stat /.."))
+  pub nul : IsRefused 3 why.BadWord (with_line (codes "call a stat /f" ++ 0 ∷ []))
+  pub long_name : IsRefused 3 why.BadWord (with_line (codes "call a stat /" ++ replicate 256 120))
 
--- a text of more bytes than a script may have
+pub record MovesAreRefused : Type 0 where
+  pub none : IsRefused 3 why.BadWord (with_line (codes "order"))
+  pub unknown_step : IsRefused 3 why.UnknownClient (with_line (codes "order +a +b"))
+  pub empty_step : IsRefused 3 why.UnknownClient (with_line (codes "order +"))
+  pub unknown_alone : IsRefused 3 why.UnknownClient (with_line (codes "order =A"))
+  pub no_number : IsRefused 3 why.BadNumber (with_line (codes "order s"))
+  pub no_number_before_a_colon : IsRefused 3 why.BadNumber (with_line (codes "order s:a"))
+  pub step : IsRefused 3 why.BadNumber (with_line (codes "order step"))
+  pub one_server : IsRefused 3 why.BadNumber (with_line (codes "order s1:b"))
+  pub unknown_behind_a_server : IsRefused 3 why.UnknownClient (with_line (codes "order s0:b"))
+  pub two_colons : IsRefused 3 why.UnknownClient (with_line (codes "order s0:a:a"))
+  pub empty_behind_a_server : IsRefused 3 why.UnknownClient (with_line (codes "order s0:"))
+  pub unknown_behind_the_coordinator : IsRefused 3 why.UnknownClient (with_line (codes "order c:b"))
+  pub not_the_coordinator : IsRefused 3 why.BadWord (with_line (codes "order ca"))
+  pub two_stars : IsRefused 3 why.BadWord (with_line (codes "order **"))
+  pub other_word : IsRefused 3 why.BadWord (with_line (codes "order a"))
+  pub first_fault : IsRefused 3 why.BadNumber (with_line (codes "order +a s1 +b x"))
+
+-- refused in this line as too long, or in an earlier line
+pub record IsRefusedBy (last : ℕ) (refusal : ScriptRefusal) : Type 0 where
+  pub at_latest : refusal.line ≤ last
+  pub too_long : refusal.line ≡ last → refusal.why ≡ why.TooLong
+
+-- how long a line may be, and how many clients, calls and moves there may be
+pub record LimitsHold : Type 0 where
+  pub long_line : (draft : Draft) (line : List ℕ) → MOST_LINE_BYTES < length line → after_line draft line ≡ Err why.TooLong
+  pub short_line : (draft : Draft) (line : List ℕ) → length line ≤ MOST_LINE_BYTES → is_utf8 line ≡ true → after_line draft line ≡ after_words draft (words_of (without_return line))
+  pub clients : (draft : Draft) (name : List ℕ) → MOST_CLIENTS ≤ length draft.clients → with_client draft name ≡ Err why.TooMany
+  pub calls : (draft : Draft) (client : ℕ) (called : Call) → MOST_CALLS ≤ call_count draft.clients → with_call draft client (Ok called) ≡ Err why.TooMany
+  pub moves : (draft : Draft) (moves : List Move) → MOST_MOVES < length moves → with_moves draft (Ok moves) ≡ Err why.TooMany
+
+-- a text of more bytes than a script may have is refused in the line that holds the byte behind them, or before
 abbrev pub TooLongIsRefused : Type 0
-TooLongIsRefused = (text : List ℕ) → MOST_SCRIPT_BYTES < length text → meaning text ≡ Err bad_word_at_1
+TooLongIsRefused = (text : List ℕ) → MOST_SCRIPT_BYTES < length text → IsErrAnd (meaning text) (IsRefusedBy (length (lines_of true (take MOST_SCRIPT_BYTES text)) + 1))

@@ -1,5 +1,5 @@
 -- What a reader answers where the text is at fault.
-use Rattle.std.specs.Prelude.{Option, Some, None, Result, Err}
+use Rattle.std.specs.Prelude.{ℕ, Option, Some, None, Result, Err}
 use Rattle.inf_script.specs.declared.refusal.Why.{Why}
 use Rattle.inf_script.specs.declared.refusal.Why.TheVariants as why
 use Rattle.inf_script.specs.declared.refusal.ScriptRefusal.{ScriptRefusal}
@@ -17,10 +17,15 @@ abbrev pub line_cause : LineFault → Option Why
 line_cause (line_fault.Refused reason) = Some reason
 line_cause line_fault.NoMemory = None
 
--- a line that does not fit the form
+-- a word that is not accepted where it stands, one that is missing, or one too many
 abbrev pub bad_word : {X : Type 0} → Result X Why
 bad_word = Err why.BadWord
 
--- the one refusal that a script of today's form meets
-abbrev pub bad_word_at_1 : ScriptRefusal
-bad_word_at_1 = record { line = 1; why = why.BadWord }
+-- a number or a mode that is misspelt or out of range
+abbrev pub bad_number : {X : Type 0} → Result X Why
+bad_number = Err why.BadNumber
+
+-- the fault of a line, with the line's number
+abbrev pub fault_at : ℕ → LineFault → ScriptFault
+fault_at number (line_fault.Refused reason) = script_fault.Refused (record { line = number; why = reason })
+fault_at number line_fault.NoMemory = script_fault.NoMemory

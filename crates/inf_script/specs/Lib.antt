@@ -1,8 +1,14 @@
 pub mod Faults
+pub mod Cuts
 pub mod Lines
 pub mod Words
 pub mod Names
+pub mod ClientTable
+pub mod Draft
+pub mod Settings
+pub mod ClientLine
 pub mod CallLine
+pub mod OrderLine
 pub mod Sections
 pub mod Reading
 pub mod Built

@@ -1,26 +1,18 @@
--- The parts of a text between separators, and its lines.
-use Rattle.std.specs.Prelude.{ℕ, ◌+◌, Bool, ◌==◌, List, [], ◌∷◌, length, Option, Some, None}
+-- The lines of a text.
+use Rattle.std.specs.Prelude.{ℕ, Bool, ◌||◌, not, ◌==◌, if◌then◌else◌, List, [], ◌∷◌}
 use Rattle.std.specs.List.{slice_split}
-
--- the parts of what stands behind a separator, where there was one
-abbrev pub parts_behind : (ℕ → Bool) → Option (List ℕ) → List (List ℕ)
-parts_behind is_separator None = []
-parts_behind is_separator (Some rest) = slice_split is_separator rest
-
--- how many bytes a separator and what stands behind it have
-abbrev pub bytes_behind : Option (List ℕ) → ℕ
-bytes_behind None = 0
-bytes_behind (Some rest) = length rest + 1
+use Rattle.inf_base.specs.Path.{is_piece}
 
 abbrev pub is_newline : ℕ → Bool
 is_newline byte = byte == 10
 
-abbrev pub without_empty_end : List (List ℕ) → List (List ℕ)
-without_empty_end (part ∷ next ∷ parts) = part ∷ without_empty_end (next ∷ parts)
-without_empty_end ([] ∷ []) = []
-without_empty_end ((byte ∷ bytes) ∷ []) = (byte ∷ bytes) ∷ []
-without_empty_end [] = []
+-- without the last part, where it is empty or where the text goes on behind it
+abbrev pub whole_parts : Bool → List (List ℕ) → List (List ℕ)
+whole_parts more (part ∷ next ∷ parts) = part ∷ whole_parts more (next ∷ parts)
+whole_parts more (part ∷ []) = if more || not (is_piece part) then [] else part ∷ []
+whole_parts more [] = []
 
--- the lines of a text: what stands between newlines, and what stands behind the last one unless it is empty
-abbrev pub lines_of : List ℕ → List (List ℕ)
-lines_of text = without_empty_end (slice_split is_newline text)
+-- the lines that can be read whole: what stands between newlines, and what stands behind the last one unless it is empty
+-- or the text goes on there
+abbrev pub lines_of : Bool → List ℕ → List (List ℕ)
+lines_of more text = whole_parts more (slice_split is_newline text)

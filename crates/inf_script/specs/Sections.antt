@@ -1,63 +1,40 @@
--- The lines of a script, section by section: the stage after a line, by its words from left to right.
-use Rattle.std.specs.Prelude.{ℕ, nat_lt, List, [], ◌∷◌, ◌++◌, length, if◌then◌else◌, codes, Result, Ok, Err}
-use Rattle.std.specs.Str.{bytes_eq}
-use Rattle.inf_base.specs.declared.call.Call.{Call}
-use Rattle.inf_base.specs.declared.setup.ClientLine.{ClientLine}
-use Rattle.inf_base.specs.declared.limits.TheConstants.{MOST_CALLS}
-use Rattle.inf_base.specs.Setup.{is_client_name}
+-- The lines of a script, by their first words.
+use Rattle.std.specs.Prelude.{ℕ, nat_lt, List, [], ◌∷◌, length, if◌then◌else◌, codes, Result, Ok, Err}
+use Rattle.std.specs.Str.{bytes_eq, is_utf8}
 use Rattle.inf_script.specs.declared.refusal.Why.{Why}
-use Rattle.inf_script.specs.declared.stage.Stage.{Stage}
-use Rattle.inf_script.specs.declared.stage.Stage.TheVariants as stage
+use Rattle.inf_script.specs.declared.refusal.Why.TheVariants as why
+use Rattle.inf_script.specs.declared.script.TheConstants.{MOST_LINE_BYTES}
+use Rattle.inf_script.specs.declared.section.Section.TheVariants as section
+use Rattle.inf_script.specs.declared.draft.Draft.{Draft}
+use Rattle.inf_script.specs.Draft.{may_stand}
 use Rattle.inf_script.specs.Faults.{bad_word}
-use Rattle.inf_script.specs.Words.{words_of}
-use Rattle.inf_script.specs.CallLine.{no_more, call_client}
+use Rattle.inf_script.specs.Words.{without_return, words_of, is_comment}
+use Rattle.inf_script.specs.Settings.{no_more, first_line, servers_line}
+use Rattle.inf_script.specs.ClientLine.{client_line}
+use Rattle.inf_script.specs.CallLine.{call_line}
+use Rattle.inf_script.specs.OrderLine.{order_line}
 
--- `infinifs 1`
-abbrev pub version : List (List ℕ) → Result Stage Why
-version [] = bad_word
-version (word ∷ words) = if bytes_eq word (codes "1") then no_more stage.Client words else bad_word
+-- `end`
+abbrev pub end_line : Draft → List (List ℕ) → Result Draft Why
+end_line draft words = if may_stand section.Order draft.reached then no_more (record draft { reached = section.Ended }) words else bad_word
 
-abbrev pub first_line : List (List ℕ) → Result Stage Why
-first_line [] = bad_word
-first_line (word ∷ words) = if bytes_eq word (codes "infinifs") then version words else bad_word
+-- a line by its first word and the words behind it
+abbrev pub word_line : Draft → List ℕ → List (List ℕ) → Result Draft Why
+word_line draft word words =
+    if bytes_eq word (codes "infinifs") then first_line draft words
+    else (if bytes_eq word (codes "servers") then servers_line draft words
+    else (if bytes_eq word (codes "client") then client_line draft words
+    else (if bytes_eq word (codes "call") then call_line draft words
+    else (if bytes_eq word (codes "order") then order_line draft words
+    else (if bytes_eq word (codes "end") then end_line draft words else bad_word)))))
 
--- a client of user 0 and group 0 that has called nothing yet
-abbrev pub new_client : List ℕ → ClientLine
-new_client name = record { name = name; caller = record { uid = 0; gid = 0 }; calls = [] }
+-- empty lines and comments are passed over
+abbrev pub after_words : Draft → List (List ℕ) → Result Draft Why
+after_words draft [] = Ok draft
+after_words draft (word ∷ words) = if is_comment word then Ok draft else word_line draft word words
 
--- `client NAME 0 0`
-abbrev pub client_group : List ℕ → List (List ℕ) → Result Stage Why
-client_group name [] = bad_word
-client_group name (word ∷ words) = if bytes_eq word (codes "0") then no_more (stage.Calls (new_client name)) words else bad_word
-
-abbrev pub client_user : List ℕ → List (List ℕ) → Result Stage Why
-client_user name [] = bad_word
-client_user name (word ∷ words) = if bytes_eq word (codes "0") then client_group name words else bad_word
-
-abbrev pub client_name : List (List ℕ) → Result Stage Why
-client_name [] = bad_word
-client_name (name ∷ words) = if is_client_name name then client_user name words else bad_word
-
-abbrev pub client_line : List (List ℕ) → Result Stage Why
-client_line [] = bad_word
-client_line (word ∷ words) = if bytes_eq word (codes "client") then client_name words else bad_word
-
--- the call joins those of its client, of which there may be so many
-abbrev pub with_call : ClientLine → Result Call Why → Result Stage Why
-with_call client (Err reason) = Err reason
-with_call client (Ok call) =
-    if nat_lt (length client.calls) MOST_CALLS then Ok (stage.Calls (record client { calls = client.calls ++ call ∷ [] })) else bad_word
-
--- `call NAME ..` of the client, or `end`
-abbrev pub call_line : ClientLine → List (List ℕ) → Result Stage Why
-call_line client [] = bad_word
-call_line client (word ∷ words) =
-    if bytes_eq word (codes "call") then with_call client (call_client client.name words)
-    else (if bytes_eq word (codes "end") then no_more (stage.Ended client) words else bad_word)
-
--- the stage after one more line
-abbrev pub after_line : Stage → List ℕ → Result Stage Why
-after_line stage.First line = first_line (words_of line)
-after_line stage.Client line = client_line (words_of line)
-after_line (stage.Calls client) line = call_line client (words_of line)
-after_line (stage.Ended client) line = bad_word
+-- what was read when one more line is read
+abbrev pub after_line : Draft → List ℕ → Result Draft Why
+after_line draft line =
+    if nat_lt MOST_LINE_BYTES (length line) then Err why.TooLong
+    else (if is_utf8 line then after_words draft (words_of (without_return line)) else Err why.NotUtf8)

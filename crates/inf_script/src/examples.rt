@@ -1,15 +1,15 @@
-//! What some texts say, and a law of all of them. These functions do nothing: their contracts are what is proved.
+//! What some texts say, and laws of all of them. These functions do nothing: their contracts are what is proved.
 
-ghost use Rattle.inf_script.specs.Examples.{ScriptsAreRead, TextsAreRefused, WordsAreRefused, PathsAreRefused, TooLongIsRefused};
+ghost use Rattle.inf_script.specs.Examples.{ScriptsAreRead, LinesAreRefused, WordsAreRefused, PathsAreRefused, MovesAreRefused, LimitsHold, TooLongIsRefused};
 
-/// Scripts with no call, with each kind of call, and with the least and the greatest of what a word may be.
+/// Scripts with each kind of line, and with the least and the greatest of what a word may be.
 pub fn scripts_are_read()
     ensures { ScriptsAreRead }
 {}
 
 /// A text for each fault of the lines.
-pub fn texts_are_refused()
-    ensures { TextsAreRefused }
+pub fn lines_are_refused()
+    ensures { LinesAreRefused }
 {}
 
 /// A text for each fault of the words.
@@ -20,6 +20,16 @@ pub fn words_are_refused()
 /// A text for each fault of a path.
 pub fn paths_are_refused()
     ensures { PathsAreRefused }
+{}
+
+/// A text for each fault of a move.
+pub fn moves_are_refused()
+    ensures { MovesAreRefused }
+{}
+
+/// What is too long a line, and what is too many.
+pub fn limits_hold()
+    ensures { LimitsHold }
 {}
 
 /// A text that is longer than a script may be is refused, whatever it begins with.

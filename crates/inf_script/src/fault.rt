@@ -37,5 +37,14 @@ impl<T: Drop> From<AllocFailed<T>> for LineFault {
     }
 }
 
-/// The one refusal of a line that does not fit the form.
+/// A word that is not accepted where it stands, one that is missing, or one too many.
 pub const BAD_WORD: LineFault = LineFault::Refused(Why::BadWord);
+
+/// A number or a mode that is misspelt or out of range.
+pub const BAD_NUMBER: LineFault = LineFault::Refused(Why::BadNumber);
+
+/// A name that no client line has.
+pub const UNKNOWN_CLIENT: LineFault = LineFault::Refused(Why::UnknownClient);
+
+/// More clients, calls or moves than a script may have.
+pub const TOO_MANY: LineFault = LineFault::Refused(Why::TooMany);

@@ -1,15 +1,15 @@
-//! The words that are names, paths and modes.
+//! The words that are names, paths, modes and numbers.
 
-ghost use Rattle.std.specs.Prelude.{◌≡◌, ◌<◌, ◌≤◌, ◌==◌, ◌||◌, length, IsTrue};
+ghost use Rattle.std.specs.Prelude.{◌≡◌, ◌+◌, ◌^◌, ◌<◌, ◌≤◌, ◌==◌, ◌||◌, length, IsTrue};
 ghost use Rattle.std.specs.List.{list_all, list_any};
 ghost use Rattle.inf_base.specs.Memory.{Gives};
 ghost use Rattle.inf_base.specs.Path.{is_reserved};
 ghost use Rattle.inf_base.specs.Setup.{is_letter, is_digit, ends_word, is_client_name};
 ghost use Rattle.inf_base.specs.declared.limits.TheConstants.{MOST_NAME_BYTES};
 ghost use Rattle.inf_script.specs.Faults.{line_cause};
-ghost use Rattle.inf_script.specs.Names.{is_plain, is_entry_name, is_single_path, is_octal, mode_of};
+ghost use Rattle.inf_script.specs.Names.{is_plain, is_entry_name, is_single_path, is_octal, mode_of, is_number, value_from, if_below, number_below, number_within};
 
-use crate::fault::{BAD_WORD, LineFault};
+use crate::fault::{BAD_NUMBER, LineFault};
 use inf_base::MOST_NAME_BYTES;
 
 fn is_letter(byte: u8) -> bool
@@ -51,7 +51,7 @@ fn ends_word(byte: u8) -> bool
 fn is_plain(byte: u8) -> bool
     ensures { result ≡ is_plain byte }
 {
-    !(byte == b'/' || ends_word(byte) || byte == b'\r')
+    !(byte == b'/' || ends_word(byte))
 }
 
 fn are_plain(bytes: &[u8]) -> bool
@@ -99,11 +99,69 @@ pub fn mode_of(word: &[u8]) -> Result<u16, LineFault>
     ensures { Gives line_cause result (mode_of word.now) }
 {
     let [a, b, c] = word else {
-        return Err(BAD_WORD);
+        return Err(BAD_NUMBER);
     };
     if is_octal(*a) && is_octal(*b) && is_octal(*c) {
         Ok(u16::from(*a - b'0') * 64 + u16::from(*b - b'0') * 8 + u16::from(*c - b'0'))
     } else {
-        Err(BAD_WORD)
+        Err(BAD_NUMBER)
     }
+}
+
+fn are_digits(bytes: &[u8]) -> bool
+    ensures { result ≡ list_all is_digit bytes.now }
+{
+    bytes.iter().all(|b| is_digit(*b))
+}
+
+fn is_number(word: &[u8]) -> bool
+    ensures { result ≡ is_number word.now }
+{
+    match word {
+        [] => false,
+        [first] => is_digit(*first),
+        [first, _, ..] => *first != b'0' && are_digits(word),
+    }
+}
+
+/// The number below the bound that digits spell.
+fn value_below(bound: u32, digits: &[u8]) -> Result<u32, LineFault>
+    ensures { Gives line_cause result (if_below bound (value_from 0 digits.now)) }
+{
+    let mut value: u64 = 0;
+    let mut rest = digits;
+    while let Some((digit, others)) = rest.split_first() {
+        // More digits would only make it greater.
+        if value >= u64::from(bound) {
+            return Err(BAD_NUMBER);
+        }
+        value = value * 10 + u64::from(digit.saturating_sub(b'0'));
+        rest = others;
+    }
+    if value >= u64::from(bound) {
+        return Err(BAD_NUMBER);
+    }
+    Ok(value as u32)
+}
+
+/// The number that a word spells, of those below a bound.
+pub fn number_below(bound: u32, word: &[u8]) -> Result<u32, LineFault>
+    ensures { Gives line_cause result (number_below bound word.now) }
+{
+    if !is_number(word) {
+        return Err(BAD_NUMBER);
+    }
+    value_below(bound, word)
+}
+
+/// The number that a word spells, from `low` to `high`.
+pub fn number_within(low: u32, high: u32, word: &[u8]) -> Result<u32, LineFault>
+    requires { high + 1 < 2 ^ 32 }
+    ensures { Gives line_cause result (number_within low high word.now) }
+{
+    let number = number_below(high + 1, word)?;
+    if number < low {
+        return Err(BAD_NUMBER);
+    }
+    Ok(number)
 }

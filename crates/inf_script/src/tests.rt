@@ -2,15 +2,11 @@
 
 use super::*;
 use inf_base::{Call, Caller, Calls, ClientLine, Clients, MOST_CALLS, Name, NoMemory, Setup, Text};
+use inf_order::{MOST_MOVES, Move, Moves};
 use std::alloc::{AllocError, Global};
 use std::test::Fail;
 
-const BAD_WORD: ScriptFault = ScriptFault::Refused(ScriptRefusal {
-    line: 1,
-    why: Why::BadWord,
-});
-
-fn expected(alloc: Global) -> Result<Script, NoMemory> {
+fn expected_clients(alloc: Global) -> Result<Clients, NoMemory> {
     let mut calls = Vec::new(alloc);
     calls.push(Call::Create {
         path: Text::from_slice(alloc, b"/f")?,
@@ -21,79 +17,137 @@ fn expected(alloc: Global) -> Result<Script, NoMemory> {
     })?;
     let mut clients = Vec::new(alloc);
     clients.push(ClientLine {
+        name: Name::from_slice(alloc, b"b")?,
+        caller: Caller { uid: 0, gid: 0 },
+        calls: Calls::new(Vec::new(alloc)),
+    })?;
+    clients.push(ClientLine {
         name: Name::from_slice(alloc, b"a1")?,
         caller: Caller { uid: 0, gid: 0 },
         calls: Calls::new(calls),
     })?;
-    Ok(Script {
-        setup: Setup {
-            servers: 1,
-            digest_bytes: 32,
-            cache: 256,
-            clients: Clients::new(clients),
-        },
-    })
+    Ok(Clients::new(clients))
+}
+
+fn expected_order(alloc: Global) -> Result<Moves, NoMemory> {
+    Ok(Moves::new(Vec::from_slice(
+        alloc,
+        &[
+            Move::Step(1),
+            Move::Alone(0),
+            Move::Serve {
+                number: 2,
+                client: None,
+            },
+            Move::Serve {
+                number: 3,
+                client: Some(1),
+            },
+            Move::Rest,
+        ],
+    )?))
 }
 
 #[test]
 fn a_script_is_read(rt: HostRuntime) -> Result<(), Fail> {
-    let text = b"infinifs 1\nclient a1 0 0\ncall a1 create /f 644\ncall a1 stat /..g\nend\n";
+    let text =
+        "# all kinds of lines\r\ninfinifs 1\nservers 3\n\nclient b 0 0\nclient  a1\t0 0 \ncall a1 create /f 644\ncall a1 stat /..g\norder +a1 =b s2\norder c:a1 *\nend";
+    let expected = Script {
+        setup: Setup {
+            servers: 3,
+            digest_bytes: 32,
+            cache: 256,
+            clients: expected_clients(rt.alloc())?,
+        },
+        order: expected_order(rt.alloc())?,
+    };
     assert_eq!(rt;
-        read_script(rt.alloc(), text, false),
-        Ok(expected(rt.alloc())?)
+        read_script(rt.alloc(), text.as_bytes(), false),
+        Ok(expected)
     );
     Ok(())
 }
 
 #[test]
 fn other_texts_are_refused(rt: HostRuntime) {
-    for text in [
-        "",
-        "end\n",
-        "infinifs 1\nend\n",
-        "infinifs 1\nclient a 0 0\n",
-        "infinifs 1\nclient a 0 0\nend",
-        "infinifs 1\nclient a 0 0\nend\nend\n",
-        "infinifs 1\r\nclient a 0 0\r\nend\r\n",
-        "infinifs 1\n\nclient a 0 0\nend\n",
-        "infinifs 1\nclient a 0 0\nclient a 0 0\nend\n",
-        "infinifs 1\nclient a 0 1\nend\n",
-        "infinifs 1\nclient a 1 0\nend\n",
-        "infinifs 1\nclient aaaaaaaaaaaaaaaaa 0 0\nend\n",
-        "infinifs 1\nclient a 0 0\ncall b stat /f\nend\n",
-        "infinifs 1\nclient a 0 0\ncall a stat  /f\nend\n",
-        "infinifs 1\nclient a 0 0\ncall a list /f\nend\n",
-        "infinifs 1\nclient a 0 0\ncall a stat /\nend\n",
-        "infinifs 1\nclient a 0 0\ncall a stat /f/g\nend\n",
-        "infinifs 1\nclient a 0 0\ncall a stat /..\nend\n",
-        "infinifs 1\nclient a 0 0\ncall a create /f 888\nend\n",
-        "infinifs 1\nclient a 0 0\ncall a create /f 77\nend\n",
+    for (text, line, why) in [
+        ("", 1, Why::BadWord),
+        ("# only\n\n", 3, Why::BadWord),
+        ("infinifs 1\n", 2, Why::BadWord),
+        ("infinifs 1\nend\nend\n", 3, Why::BadWord),
+        ("infinifs 1\nservers 65\nend\n", 2, Why::BadNumber),
+        ("infinifs 1\nservers 2\nservers x\nend\n", 3, Why::BadWord),
+        (
+            "infinifs 1\n#\nclient a 0 0\nclient a x\n",
+            4,
+            Why::DoubleClient,
+        ),
+        ("infinifs 1\nclient a 1 0\nend\n", 2, Why::BadNumber),
+        (
+            "infinifs 1\nclient a 0 0\ncall b stat /f\n",
+            3,
+            Why::UnknownClient,
+        ),
+        (
+            "infinifs 1\nclient a 0 0\ncall a list /f\n",
+            3,
+            Why::BadWord,
+        ),
+        (
+            "infinifs 1\nclient a 0 0\ncall a create /f 888\n",
+            3,
+            Why::BadNumber,
+        ),
+        (
+            "infinifs 1\nclient a 0 0\norder +a +b s9\n",
+            3,
+            Why::UnknownClient,
+        ),
+        (
+            "infinifs 1\nclient a 0 0\norder s1\nend\n",
+            3,
+            Why::BadNumber,
+        ),
     ] {
         assert_eq!(rt;
             read_script(rt.alloc(), text.as_bytes(), false),
-            Err(BAD_WORD),
+            Err(ScriptFault::Refused(ScriptRefusal { line, why })),
             "at {text:?}"
         );
     }
 }
 
-fn with_calls(alloc: Global, count: usize) -> Result<String, AllocError> {
+fn repeated(alloc: Global, line: &str, count: usize) -> Result<String, AllocError> {
     let mut text = String::from_str(alloc, "infinifs 1\nclient a 0 0\n")?;
     for _ in 0..count {
-        text.push_str("call a create /f 644\n")?;
+        text.push_str(line)?;
     }
-    text.push_str("end\n")?;
     Ok(text)
 }
 
+fn refusal_of(alloc: Global, line: &str, count: usize) -> Result<Option<ScriptRefusal>, NoMemory> {
+    let text = repeated(alloc, line, count)?;
+    Ok(match read_script(alloc, text.as_bytes(), false) {
+        Err(ScriptFault::Refused(refusal)) => Some(refusal),
+        _ => None,
+    })
+}
+
 #[test]
-fn the_most_calls_are_read(rt: HostRuntime) -> Result<(), Fail> {
-    let most = with_calls(rt.alloc(), MOST_CALLS)?;
-    assert!(rt; read_script(rt.alloc(), most.as_bytes(), false).is_ok());
-    let over = with_calls(rt.alloc(), MOST_CALLS + 1)?;
-    assert_eq!(rt;
-        read_script(rt.alloc(), over.as_bytes(), false),
-        Err(BAD_WORD)
-    );
+fn the_most_are_read(rt: HostRuntime) -> Result<(), Fail> {
+    for (line, most) in [
+        ("call a create /f 644\n", MOST_CALLS),
+        ("order +a =a s0 s0:a c c:a * +a +a +a\n", MOST_MOVES / 10),
+    ] {
+        for (count, why) in [(most, Why::BadWord), (most + 1, Why::TooMany)] {
+            assert_eq!(rt;
+                refusal_of(rt.alloc(), line, count)?,
+                Some(ScriptRefusal {
+                    line: most as u64 + 3,
+                    why
+                })
+            );
+        }
+    }
     Ok(())
 }

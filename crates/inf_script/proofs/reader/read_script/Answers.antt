@@ -1,14 +1,16 @@
-use Rattle.std.proofs.Common.{refl}
-use Rattle.inf_script.proofs.Soundness.{good_setup, refused_setup}
+use Rattle.std.proofs.Common.{◌≡◌, true, length}
+use Rattle.std.specs.List.{list_all}
+use Rattle.inf_base.specs.Setup.{IsValid}
+use Rattle.inf_order.specs.Order.{is_move_of}
+use Rattle.inf_script.specs.Built.{IsBuilt}
+use Rattle.inf_script.proofs.Soundness.{read-good}
 use Rattle.inf_script.proofs.reader.read_script.Goals as goal
 
-pub returns-in-Ok-clause-valid : goal.returns-in-Ok-clause-valid
-returns-in-Ok-clause-valid c = (good_setup _ _ _ c.in-Ok.ensures).valid
+pub returns-clause-valid : goal.returns-clause-valid
+returns-clause-valid c = read-good (λ script. IsValid script.setup) (λ script good. good.valid) c.args.bytes.now c.args.more c.read_lines.result c.read_lines.ensures
 
-pub returns-in-Ok-clause-built : goal.returns-in-Ok-clause-built
-returns-in-Ok-clause-built c = (good_setup _ _ _ c.in-Ok.ensures).built
+pub returns-clause-order : goal.returns-clause-order
+returns-clause-order c = read-good (λ script. list_all (is_move_of script.setup.servers (length script.setup.clients)) script.order ≡ true) (λ script good. good.order) c.args.bytes.now c.args.more c.read_lines.result c.read_lines.ensures
 
-pub returns-in-Err-Refused-clause-refused : goal.returns-in-Err-Refused-clause-refused
-returns-in-Err-Refused-clause-refused c =
-    let refused = rw c.in-Err-Refused.field-0-is at c.in-Err-Refused.ensures in
-    rw (refused_setup c.args.bytes.now c.args.more c.in-Err-Refused.why refused) refl
+pub returns-clause-built : goal.returns-clause-built
+returns-clause-built c = read-good (λ script. IsBuilt script.setup) (λ script good. good.built) c.args.bytes.now c.args.more c.read_lines.result c.read_lines.ensures
