@@ -1,0 +1,7 @@
+pub mod Calls
+pub mod Identifiers
+pub mod Numbers
+pub mod Replies
+pub mod Report
+pub mod Requests
+pub mod Writing
