@@ -27,5 +27,5 @@ positions_from zero position bits = []
 positions_from (suc count) position bits = (if bits % 2 == 1 then position ∷ [] else []) ++ positions_from count (position + 1) (bits / 2)
 
 -- the positions of the set bits of a number of 128 bits, ascending from 0
-abbrev pub set_positions : ℕ → List ℕ
+unfoldable pub set_positions : ℕ → List ℕ
 set_positions bits = positions_from 128 0 bits

@@ -1,5 +1,5 @@
 -- What writing a report does: its text waits in a buffer and goes to a sink in pieces.
-use Rattle.std.specs.Prelude.{◌≡◌, ℕ, ◌+◌, ◌<◌, ◌≤◌, List, [], ◌++◌, length, filter, take, slice_get, All, Option, Some, None, Result, Ok, Err, IfSome}
+use Rattle.std.specs.Prelude.{◌≡◌, ℕ, ◌+◌, ◌-◌, ◌<◌, ◌≤◌, List, [], ◌++◌, length, filter, take, slice_get, slice_set, All, Option, Some, None, Result, Ok, Err, IfSome}
 use Rattle.std.specs.Option.{option_to_list}
 use Rattle.std.specs.Io.KnownBytes.{Appends}
 use Rattle.inf_core.specs.Outcome.{stands_at}
@@ -49,6 +49,11 @@ abbrev pub picked : List CallResult → Option (Option ℕ) → List CallResult
 picked results (Some (Some i)) = option_to_list (slice_get results i)
 picked results (Some None) = []
 picked results None = []
+
+-- the index of a result stands in the slot of its place, if it has one
+abbrev pub noted : List (Option ℕ) → Option ℕ → ℕ → List (Option ℕ)
+noted slots None i = slots
+noted slots (Some place) i = slice_set slots (place - 1) (Some i)
 
 -- each slot has the result that stands at its place, of as many places as there are events
 pub record ShowPlaces (events : ℕ) (results : List CallResult) (slots : List (Option ℕ)) : Type 0 where
