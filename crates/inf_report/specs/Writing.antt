@@ -33,11 +33,15 @@ pub record Moves (before after : Output) (text : List ℕ) : Type 0 where
 abbrev pub WritesFront : Output → Output → List ℕ → Type 0
 WritesFront before after text = AppendsFront before.held after.held (before.waiting ++ text)
 
+-- what a fault leaves of putting this text
+abbrev pub FailsToPut : ReportFault → Output → Output → List ℕ → Type 0
+FailsToPut fault.Write before after text = Rose before.faults after.faults × WritesFront before after text
+FailsToPut fault.NoMemory before after text = WritesFront before after text
+
 -- what putting this text does
 abbrev pub Puts : {T : Type 0} → Result T ReportFault → Output → Output → List ℕ → Type 0
 Puts (Ok done) before after text = Moves before after text
-Puts (Err fault.Write) before after text = Rose before.faults after.faults × WritesFront before after text
-Puts (Err fault.NoMemory) before after text = WritesFront before after text
+Puts (Err fault) before after text = FailsToPut fault before after text
 
 -- the results that have a place have one of the history's, and each its own
 pub record HaveOwnPlaces (events : ℕ) (results : List CallResult) : Type 0 where

@@ -34,7 +34,8 @@ pub fn push_setup_lines(out: &mut Vec<u8>, setup: &Setup) -> Result<(), NoMemory
     push_line(out, b"infinifs report 1")?;
     push_count_line(out, b"servers", u64::from(setup.servers))?;
     push_count_line(out, b"digest-bytes", u64::from(setup.digest_bytes))?;
-    push_count_line(out, b"cache", u64::from(setup.cache))
+    push_count_line(out, b"cache", u64::from(setup.cache))?;
+    Ok(())
 }
 
 pub fn push_client_line(out: &mut Vec<u8>, client: &ClientLine) -> Result<(), NoMemory>
@@ -113,7 +114,8 @@ pub fn push_call_line(
     push_span(out, call)?;
     push_counts(out, call)?;
     push_open_mark(out, call.place, call.last)?;
-    push_word(out, b"\n")
+    push_word(out, b"\n")?;
+    Ok(())
 }
 
 /// The name of a server, or of the coordinator.

@@ -119,6 +119,20 @@ fn push_rename(
     push_aim(out, aim)
 }
 
+fn push_admit(
+    out: &mut Vec<u8>,
+    dir: &DirRef,
+    old: &Chain,
+    new: &Chain,
+) -> Result<(), NoMemory>
+    ensures { OnOk result (out.new.items ≡ out.old.items ++ codes "admit " ++ dir_text dir.now
+        ++ codes " " ++ chain_text old.now ++ codes " " ++ chain_text new.now) }
+{
+    push_on_dir(out, b"admit ", dir)?;
+    push_on_chain(out, b" ", old)?;
+    push_on_chain(out, b" ", new)
+}
+
 pub fn push_request(out: &mut Vec<u8>, request: &Request) -> Result<(), NoMemory>
     ensures { OnOk result (out.new.items ≡ out.old.items ++ request_text request.now) }
 {
@@ -187,11 +201,7 @@ pub fn push_request(out: &mut Vec<u8>, request: &Request) -> Result<(), NoMemory
         }
         Request::Release => push_word(out, b"release"),
         Request::Unmark => push_word(out, b"unmark"),
-        Request::Admit { dir, old, new } => {
-            push_on_dir(out, b"admit ", dir)?;
-            push_on_chain(out, b" ", old)?;
-            push_on_chain(out, b" ", new)
-        }
+        Request::Admit { dir, old, new } => push_admit(out, dir, old, new),
         Request::Quit => push_word(out, b"quit"),
     }
 }
