@@ -1,5 +1,5 @@
 -- How directories, keys, triples and chains are printed.
-use Rattle.std.specs.Prelude.{ℕ, List, [], ◌∷◌, ◌++◌, codes, map}
+use Rattle.std.specs.Prelude.{ℕ, List, ◌++◌, codes, map}
 use Rattle.std.specs.Fmt.{decimal}
 use Rattle.hex.specs.Hex.{encode_lower}
 use Rattle.inf_base.specs.declared.access.Access.{Access}

@@ -1,4 +1,5 @@
 pub mod Calls
+pub mod Examples
 pub mod Identifiers
 pub mod Numbers
 pub mod Replies

@@ -2,6 +2,7 @@
 #![tactic(auto)]
 
 mod calls;
+mod examples;
 mod fault;
 mod identifiers;
 mod lines;
@@ -11,6 +12,11 @@ mod replies;
 mod report;
 mod requests;
 mod slots;
+#[cfg(test)]
+mod tests;
 
+pub use examples::{
+    example_of_calls, example_of_lines, example_of_positions, example_of_the_empty_report,
+};
 pub use fault::ReportFault;
 pub use report::write_report;

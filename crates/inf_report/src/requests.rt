@@ -119,12 +119,7 @@ fn push_rename(
     push_aim(out, aim)
 }
 
-fn push_admit(
-    out: &mut Vec<u8>,
-    dir: &DirRef,
-    old: &Chain,
-    new: &Chain,
-) -> Result<(), NoMemory>
+fn push_admit(out: &mut Vec<u8>, dir: &DirRef, old: &Chain, new: &Chain) -> Result<(), NoMemory>
     ensures { OnOk result (out.new.items ≡ out.old.items ++ codes "admit " ++ dir_text dir.now
         ++ codes " " ++ chain_text old.now ++ codes " " ++ chain_text new.now) }
 {
