@@ -3,4 +3,3 @@ pub mod LineFacts
 pub mod NumberFacts
 pub mod PutFacts
 pub mod SlotFacts
-pub mod TestFacts

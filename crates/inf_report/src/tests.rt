@@ -355,27 +355,38 @@ const REPLIES: [&[u8]; 7] = [
     b"refused ENOENT",
 ];
 
-fn request_text(alloc: Global, request: &Request) -> Result<Vec<u8>, Fail> {
+fn chained_text(alloc: Global, kind: usize) -> Result<Vec<u8>, Fail> {
+    let request = chained(alloc, kind)?;
     let mut out = Vec::new(alloc);
-    push_request(&mut out, request)?;
+    push_request(&mut out, &request)?;
     Ok(out)
 }
 
-fn reply_text(alloc: Global, reply: &Reply) -> Result<Vec<u8>, Fail> {
+fn bare_text(alloc: Global, kind: usize) -> Result<Vec<u8>, Fail> {
+    let request = bare(alloc, kind)?;
+    let mut out = Vec::new(alloc);
+    push_request(&mut out, &request)?;
+    Ok(out)
+}
+
+fn text_of_reply(alloc: Global, reply: &Reply) -> Result<Vec<u8>, Fail> {
     let setup = setup(alloc)?;
     let mut out = Vec::new(alloc);
     push_reply(&mut out, setup.clients.as_slice(), reply)?;
     Ok(out)
 }
 
+fn reply_text(alloc: Global, kind: usize) -> Result<Vec<u8>, Fail> {
+    let reply = reply(alloc, kind)?;
+    text_of_reply(alloc, &reply)
+}
+
 #[test]
 fn requests_have_their_texts(rt: HostRuntime) -> Result<(), Fail> {
     for kind in 0..6 {
-        let request = chained(rt.alloc(), kind)?;
-        let text = request_text(rt.alloc(), &request)?;
+        let text = chained_text(rt.alloc(), kind)?;
         assert_eq!(rt; text.as_slice(), CHAINED[kind]);
-        let request = bare(rt.alloc(), kind)?;
-        let text = request_text(rt.alloc(), &request)?;
+        let text = bare_text(rt.alloc(), kind)?;
         assert_eq!(rt; text.as_slice(), BARE[kind]);
     }
     Ok(())
@@ -384,8 +395,7 @@ fn requests_have_their_texts(rt: HostRuntime) -> Result<(), Fail> {
 #[test]
 fn replies_have_their_texts(rt: HostRuntime) -> Result<(), Fail> {
     for kind in 0..7 {
-        let reply = reply(rt.alloc(), kind)?;
-        let text = reply_text(rt.alloc(), &reply)?;
+        let text = reply_text(rt.alloc(), kind)?;
         assert_eq!(rt; text.as_slice(), REPLIES[kind]);
     }
     Ok(())
