@@ -1,13 +1,15 @@
 -- What a run keeps as its clients ask and its servers serve.
-use Rattle.std.proofs.Common.{◌≡◌, ◌≢◌, ℕ, suc, ◌+◌, ◌≤◌, ◌<◌, Bool, true, false, cond, eqb, not, ◌&&◌, ◌||◌, List, [], ◌∷◌, ◌++◌, length, map, slice_get, slice_set, Option, None, Some, All, refl, sym, ap, ap₂, subst, ◌∙◌, arith}
+use Rattle.std.proofs.Common.{◌≡◌, ◌≢◌, ℕ, zero, suc, ◌+◌, ◌≤◌, ◌<◌, Bool, true, false, cond, eqb, not, ◌&&◌, ◌||◌, List, [], ◌∷◌, ◌++◌, length, map, slice_get, slice_set, Option, None, Some, IfSome, All, get_or, refl, sym, ap, ap₂, subst, ◌∙◌, arith, inl, inr}
 use Rattle.std.specs.List.{find}
-use Rattle.std.specs.Option.{option_or}
+use Rattle.std.specs.Option.{option_map, option_or}
 use Rattle.std.proofs.lemmas.List.{length-set, map-set}
 use Rattle.std.proofs.lemmas.List.Elements.{All-head, All-nil, All-push, All-tail, All-weaker}
 use Rattle.std.proofs.lemmas.List.Folds.{find-append}
-use Rattle.std.proofs.lemmas.Option.{slice_get-map, slice_get_within}
+use Rattle.std.proofs.lemmas.Option.{slice_get-get_or, slice_get-map, slice_get_within}
+use Rattle.inf_base.specs.declared.id.Id.{Id}
 use Rattle.inf_core.specs.Client.{Client}
-use Rattle.inf_core.specs.Duty.{asked}
+use Rattle.inf_core.specs.Core.{world_in}
+use Rattle.inf_core.specs.Duty.{asked, next_step}
 use Rattle.inf_core.specs.Legal.{Legal, MayAsk, MayServe, client_after}
 use Rattle.inf_core.specs.World.{World}
 use Rattle.inf_core.proofs.CoreFacts.{got_apart, got_set}
@@ -20,8 +22,10 @@ use Rattle.inf_message.specs.declared.event.Event.TheVariants as event
 use Rattle.inf_message.specs.declared.reply.Reply.{Reply}
 use Rattle.inf_message.specs.History.{Posted, asked_at, is_served, posted_ask}
 use Rattle.inf_message.proofs.HistoryLaws.{asked_newest, asked_stays, asked_within}
-use Rattle.inf_sched.specs.Actor.{Actor}
-use Rattle.inf_sched.specs.Run.{AreActors, AreQueues, Asked, HasGivenUp, HasServed, IsActor, IsKept, gone_of}
+use Rattle.inf_sched.specs.Actor.{Actor, wants_to_ask}
+use Rattle.inf_sched.specs.Moves.{HasNoAsk}
+use Rattle.inf_sched.specs.Scene.{Asks, MakesServe, Scene, can_ask, is_ask, is_gone, is_set, planned}
+use Rattle.inf_sched.specs.Run.{AreActors, AreQueues, Asked, HasGivenUp, HasRested, HasServed, IsActor, IsKept, IsStateOf, Playing, gone_of, scene_of}
 use Rattle.inf_sched.specs.Waiting.{IsFrontLeft, IsQueue, IsWaiting, IsWithin, Posting, is_by, is_for, is_open, is_to, oldest, posting, postings}
 
 -- ---- a queue
@@ -342,3 +346,117 @@ pub oldest_of_is : (h : List Event) (number client : ℕ) (queue : List Posting)
     → find (λ p. is_to number p && is_open h p) queue ≡ oldest (is_for number (Some client)) h
 oldest_of_is h number client queue is =
     is.finds (is_to number) ∙ find_same _ _ (postings h) (λ p. both (is_to number p) (is_by client p) (is_open h p))
+
+pub got_there : {X : Type 0} (xs : List X) (i : ℕ) (got : X) → got ≡ get_or xs i got → i < length xs → slice_get xs i ≡ Some got
+got_there xs i got is within = slice_get-get_or xs i got within ∙ ap Some (sym is)
+
+pub if_waiting : (fits : Posting → Bool) (h : List Event) (o : Option Posting) → o ≡ oldest fits h → IfSome o (λ p. IsWaiting h p)
+if_waiting fits h None is = tt
+if_waiting fits h (Some p) is = waiting_found fits h p (sym is)
+
+-- ---- scenes
+
+abbrev pub scene : List Event → List Actor → Scene
+scene h actors = record { history = h; gone = gone_of actors }
+
+gone_same : (actors : List Actor) (i : ℕ) (a b : Actor) → slice_get actors i ≡ Some a → b.gone ≡ a.gone → gone_of (slice_set actors i b) ≡ gone_of actors
+gone_same [] i a b at same = absurd (cc)
+gone_same (x ∷ actors) zero a b at same = let this : x ≡ a = cc in ap (λ g. g ∷ gone_of actors) (same ∙ ap (λ (y : Actor). y.gone) (sym this))
+gone_same (x ∷ actors) (suc i) a b at same = ap (λ gs. x.gone ∷ gs) (gone_same actors i a b at same)
+
+set_same : {X : Type 0} (xs : List X) (i : ℕ) (x : X) → slice_get xs i ≡ Some x → slice_set xs i x ≡ xs
+set_same [] i x at = absurd (cc)
+set_same (y ∷ xs) zero x at = let this : y ≡ x = cc in ap (λ z. z ∷ xs) (sym this)
+set_same (y ∷ xs) (suc i) x at = ap (λ zs. y ∷ zs) (set_same xs i x at)
+
+gone_at : (h : List Event) (actors : List Actor) (client : ℕ) (a : Actor) → slice_get actors client ≡ Some a → is_gone (scene h actors) client ≡ a.gone
+gone_at h actors client a at = ap is_set (slice_get-map (λ (x : Actor). x.gone) actors client ∙ ap (option_map (λ (x : Actor). x.gone)) at)
+
+state_here : (s : Client) (a : Actor) → IsActor s a → a.gone ≡ false → a.state ≡ s
+state_here s a is here = by a.gone here is
+  where
+    by : (g : Bool) → g ≡ false → IsStateOf g s a.state → a.state ≡ s
+    by true no_more same = absurd (cc)
+    by false no_more same = same
+
+wants_same : (world : World) (h : List Event) (actors : List Actor) (client : ℕ) (a : Actor) → slice_get actors client ≡ Some a
+    → IsActor (client_after world client h) a → can_ask world (scene h actors) client ≡ wants_to_ask a
+wants_same world h actors client a at is = ap (λ g. not g && is_ask (next_step (planned (client_after world client h)))) (gone_at h actors client a at) ∙ by a.gone refl
+  where
+    by : (g : Bool) → a.gone ≡ g → (not g && is_ask (next_step (planned (client_after world client h)))) ≡ (not a.gone && is_ask (next_step (planned a.state)))
+    by true gone = rw gone refl
+    by false here = rw (state_here (client_after world client h) a is here, here) refl
+
+pub makes_ask : (world : World) (h after : List Event) (client : ℕ) (p : Posting) (actors : List Actor) (a b : Actor) → slice_get actors client ≡ Some a
+    → Asked world client p h after a b → Asks world client (record { history = h; gone = gone_of actors }) (record { history = after; gone = gone_of (slice_set actors client b) })
+makes_ask world h after client p actors a b at did = inl (record {
+  number = did.number;
+  ask = did.ask;
+  here = gone_at h actors client a at ∙ did.here;
+  own = did.own;
+  may = did.may;
+  joins = ap₂ (λ g gs. record { history = g; gone = gs }) did.joins (gone_same actors client a b at (did.still_here ∙ sym did.here));
+})
+
+pub gives_up : (world : World) (h after : List Event) (client : ℕ) (actors : List Actor) (a b : Actor) → slice_get actors client ≡ Some a → IsActor (client_after world client h) a
+    → HasGivenUp world client h after a b → Asks world client (record { history = h; gone = gone_of actors }) (record { history = after; gone = gone_of (slice_set actors client b) })
+gives_up world h after client actors a b at is did = inr (record {
+  can = wants_same world h actors client a at is ∙ did.asking;
+  between = ap (λ (s : Client). s.sent) (sym (state_here (client_after world client h) a is did.here)) ∙ did.between;
+  gone = ap₂ (λ g gs. record { history = g; gone = gs }) did.same
+    (map-set (λ (x : Actor). x.gone) actors client b ∙ ap (λ g. slice_set (gone_of actors) client g) did.gone);
+})
+
+pub has_no_ask : (world : World) (h after : List Event) (client : ℕ) (actors : List Actor) (a b : Actor) → slice_get actors client ≡ Some a → IsActor (client_after world client h) a
+    → HasRested h after a b → HasNoAsk world client (record { history = h; gone = gone_of actors })
+has_no_ask world h after client actors a b at is did = record { idle = wants_same world h actors client a at is ∙ did.idle }
+
+pub rests_same : (h after : List Event) (client : ℕ) (actors : List Actor) (a b : Actor) → slice_get actors client ≡ Some a
+    → HasRested h after a b → record { history = after; gone = gone_of (slice_set actors client b) } ≡ scene h actors
+rests_same h after client actors a b at did =
+    ap₂ (λ g gs. record { history = g; gone = gs }) did.same (gone_same actors client a b at (ap (λ (x : Actor). x.gone) did.actor))
+
+pub kept_rested : (world : World) (h after : List Event) (client : ℕ) (actors : List Actor) (to by : List (List Posting)) (a b : Actor)
+    → IsKept world h actors to by → slice_get actors client ≡ Some a → HasRested h after a b
+    → IsKept world after (slice_set actors client b) to by
+kept_rested world h after client actors to by a b kept at did =
+    subst (λ g. IsKept world g (slice_set actors client b) to by) (sym did.same)
+    (subst (λ xs. IsKept world h xs to by) (sym (ap (slice_set actors client) did.actor ∙ set_same actors client a at)) kept)
+
+pub makes_serve : (world : World) (h after : List Event) (p : Posting) (actors : List Actor) (a b : Actor) → slice_get actors p.client ≡ Some a
+    → HasServed world p h after a b
+    → MakesServe world p.number p.place (record { history = h; gone = gone_of actors }) (record { history = after; gone = gone_of (slice_set actors p.client b) })
+makes_serve world h after p actors a b at did = record {
+  given = did.given;
+  may = did.may;
+  joins = ap₂ (λ g gs. record { history = g; gone = gs }) did.joins (gone_same actors p.client a b at did.same_gone);
+}
+
+pub kept_pushed : (world : World) (h after : List Event) (client : ℕ) (p : Posting) (actors : List Actor) (to by : List (List Posting)) (a b : Actor) (q r s t : List Posting)
+    → IsKept world h actors to by → slice_get actors client ≡ Some a → Asked world client p h after a b
+    → slice_get to p.number ≡ Some q → slice_get by client ≡ Some r → s ≡ q ++ p ∷ [] → t ≡ r ++ p ∷ []
+    → IsKept world after (slice_set actors client b) (slice_set to p.number s) (slice_set by client t)
+kept_pushed world h after client p actors to by a b q r s t kept at did at_to at_by pushed pushed_by =
+    subst (λ x. IsKept world after (slice_set actors client b) (slice_set to p.number x) (slice_set by client t)) (sym pushed)
+    (subst (λ x. IsKept world after (slice_set actors client b) (slice_set to p.number (q ++ p ∷ [])) (slice_set by client x)) (sym pushed_by)
+    (kept_asked world h after client p actors to by a b q r kept at did at_to at_by))
+
+-- ---- the same in the words of a run
+
+pub kept_in : (v w : World) (h : List Event) (actors : List Actor) (to by : List (List Posting)) → v ≡ w → IsKept w h actors to by → IsKept v h actors to by
+kept_in v w h actors to by same kept = subst (λ x. IsKept x h actors to by) (sym same) kept
+
+pub asks_in : {R : Type 0} (digest_of : R → List ℕ → Id) (client : ℕ) (u v : Playing R) (new : Scene) → u ≡ v
+    → Asks (world_in digest_of u.core) client (scene_of u) new → Asks (world_in digest_of v.core) client (scene_of v) new
+asks_in digest_of client u v new same made = subst (λ x. Asks (world_in digest_of x.core) client (scene_of x) new) same made
+
+pub rests_in : {R : Type 0} (digest_of : R → List ℕ → Id) (client : ℕ) (u v : Playing R) (new : Scene) → u ≡ v
+    → HasNoAsk (world_in digest_of u.core) client (scene_of u) → new ≡ scene_of u → HasNoAsk (world_in digest_of v.core) client (scene_of v) × (new ≡ scene_of v)
+rests_in digest_of client u v new is idle same = subst (λ x. HasNoAsk (world_in digest_of x.core) client (scene_of x) × (new ≡ scene_of x)) is (idle, same)
+
+pub serves_in : {R : Type 0} (digest_of : R → List ℕ → Id) (number place : ℕ) (u v : Playing R) (new : Scene) → u ≡ v
+    → MakesServe (world_in digest_of u.core) number place (scene_of u) new → MakesServe (world_in digest_of v.core) number place (scene_of v) new
+serves_in digest_of number place u v new same made = subst (λ x. MakesServe (world_in digest_of x.core) number place (scene_of x) new) same made
+
+pub waits_in : {R : Type 0} (p : Posting) (u v : Playing R) → u ≡ v → IsWaiting v.core.history p → IsWaiting u.core.history p
+waits_in p u v same waits = subst (λ x. IsWaiting x.core.history p) (sym same) waits

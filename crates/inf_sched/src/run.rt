@@ -57,19 +57,40 @@ impl<R: IdRule> Run<R> {
             mut to_server,
             mut by_client,
         } = self;
-        let stepped = let_ask(alloc, &mut core, &mut clients[client as usize], client)?;
-        if let Stepped::Asked(posting) = stepped {
-            to_server[posting.number as usize].push(posting)?;
-            by_client[client as usize].push(posting)?;
+        match let_ask(alloc, &mut core, &mut clients[client as usize], client)? {
+            Stepped::Asked(posting) => {
+                to_server[posting.number as usize].push(posting)?;
+                by_client[client as usize].push(posting)?;
+                let run = Run {
+                    alloc,
+                    core,
+                    clients,
+                    to_server,
+                    by_client,
+                };
+                Ok((run, true))
+            }
+            Stepped::GaveUp => {
+                let run = Run {
+                    alloc,
+                    core,
+                    clients,
+                    to_server,
+                    by_client,
+                };
+                Ok((run, true))
+            }
+            Stepped::Rested => {
+                let run = Run {
+                    alloc,
+                    core,
+                    clients,
+                    to_server,
+                    by_client,
+                };
+                Ok((run, false))
+            }
         }
-        let run = Run {
-            alloc,
-            core,
-            clients,
-            to_server,
-            by_client,
-        };
-        Ok((run, stepped != Stepped::Rested))
     }
 
     /// Serves an Ask that waits.

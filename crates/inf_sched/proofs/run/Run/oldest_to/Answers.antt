@@ -1,0 +1,15 @@
+use Rattle.std.proofs.Common.{◌≡◌, ◌<◌, ℕ, List, length, None, Some, IfSome, subst, ◌∙◌, sym, rules, arith}
+use Rattle.std.specs.List.{find}
+use Rattle.inf_sched.specs.Run.{Playing}
+use Rattle.inf_sched.specs.Waiting.{IsWaiting, Posting, is_by, is_for, is_open, is_to, oldest}
+use Rattle.inf_sched.proofs.RunFacts.{got_there, if_waiting, oldest_to_is}
+use Rattle.inf_sched.proofs.run.Run.oldest_to.Goals as goal
+
+pub returns-clause-oldest : goal.returns-clause-oldest
+returns-clause-oldest g c =
+    let at = got_there _ c.args.number c.index_mut.result.now c.index_mut.ensures.value (search (rules, arith)) in
+    subst (λ (v : Playing _). c.oldest.result ≡ oldest (is_for c.args.number None) v.core.history) c.self.view_is
+    (c.oldest.ensures.oldest ∙ oldest_to_is c.self.inside.core.history c.args.number c.index_mut.result.now (c.self.invariant.servers.each c.args.number c.index_mut.result.now at))
+
+pub returns-clause-waits : goal.returns-clause-waits
+returns-clause-waits g c = if_waiting (is_for c.args.number None) c.args.self.now.core.history c.oldest.result (returns-clause-oldest g c)
