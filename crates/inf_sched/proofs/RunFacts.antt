@@ -369,10 +369,10 @@ set_same [] i x at = absurd (cc)
 set_same (y ∷ xs) zero x at = let this : y ≡ x = cc in ap (λ z. z ∷ xs) (sym this)
 set_same (y ∷ xs) (suc i) x at = ap (λ zs. y ∷ zs) (set_same xs i x at)
 
-gone_at : (h : List Event) (actors : List Actor) (client : ℕ) (a : Actor) → slice_get actors client ≡ Some a → is_gone (scene h actors) client ≡ a.gone
+pub gone_at : (h : List Event) (actors : List Actor) (client : ℕ) (a : Actor) → slice_get actors client ≡ Some a → is_gone (scene h actors) client ≡ a.gone
 gone_at h actors client a at = ap is_set (slice_get-map (λ (x : Actor). x.gone) actors client ∙ ap (option_map (λ (x : Actor). x.gone)) at)
 
-state_here : (s : Client) (a : Actor) → IsActor s a → a.gone ≡ false → a.state ≡ s
+pub state_here : (s : Client) (a : Actor) → IsActor s a → a.gone ≡ false → a.state ≡ s
 state_here s a is here = by a.gone here is
   where
     by : (g : Bool) → g ≡ false → IsStateOf g s a.state → a.state ≡ s

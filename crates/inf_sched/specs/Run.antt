@@ -1,20 +1,21 @@
 -- What contracts see of a run, and what it keeps behind that.
-use Rattle.std.specs.Prelude.{◌≡◌, ℕ, suc, ◌+◌, Bool, true, false, List, [], ◌∷◌, length, map, slice_get, Some}
-use Rattle.inf_core.specs.Client.{Client}
+use Rattle.std.specs.Prelude.{◌≡◌, ◌⊎◌, ℕ, zero, suc, ◌+◌, Bool, true, false, List, [], ◌∷◌, length, map, slice_get, Some, None}
+use Rattle.inf_core.specs.Client.{Client, start}
 use Rattle.inf_core.specs.Core.{Running}
 use Rattle.inf_core.specs.Legal.{Legal, MayAsk, MayServe, client_after}
-use Rattle.inf_core.specs.Outcome.{all_given_up}
+use Rattle.inf_core.specs.Outcome.{all_given_up, results_of}
 use Rattle.inf_core.specs.World.{World}
 use Rattle.inf_message.specs.declared.ask.Ask.{Ask}
+use Rattle.inf_message.specs.declared.call_result.CallResult.{CallResult}
 use Rattle.inf_message.specs.declared.event.Event.{Event}
 use Rattle.inf_message.specs.declared.event.Event.TheVariants as event
-use Rattle.inf_sched.specs.Actor.{Actor, wants_to_ask}
+use Rattle.inf_sched.specs.Actor.{Actor, actor, wants_to_ask}
 use Rattle.inf_sched.specs.declared.stepping.Stepped.{Stepped}
 use Rattle.inf_sched.specs.declared.stepping.Stepped.TheVariants as stepped
 use Rattle.inf_message.specs.declared.reply.Reply.{Reply}
-use Rattle.inf_sched.specs.Moves.{HasNoAsk}
-use Rattle.inf_sched.specs.Scene.{Asks, Scene}
-use Rattle.inf_sched.specs.Waiting.{IsQueue, Posting, is_by, is_to, posting}
+use Rattle.inf_sched.specs.Moves.{ByCall, HasNoAsk}
+use Rattle.inf_sched.specs.Scene.{Asks, MakesServe, Scene, has_calls, has_ended, number_in}
+use Rattle.inf_sched.specs.Waiting.{IsQueue, Posting, is_by, is_to, oldest, posting}
 
 -- a run by its core, and for each client whether it gave up what it had left
 pub record Playing (R : Type 0) : Type 0 where
@@ -116,3 +117,55 @@ pub record HasServed (world : World) (p : Posting) (h after : List Event) (a b :
 abbrev pub HasStepped : Bool → World → ℕ → Scene → Scene → Type 0
 HasStepped true world client old new = Asks world client old new
 HasStepped false world client old new = HasNoAsk world client old × (new ≡ old)
+
+-- ---- the beginning and the end of a run
+
+abbrev pub unset : ℕ → List Bool
+unset zero = []
+unset (suc many) = false ∷ unset many
+
+-- the first so many clients before anything has happened
+pub record AreOpening (world : World) (many : ℕ) (actors : List Actor) : Type 0 where
+  pub count : length actors ≡ many
+  pub each : (client : ℕ) (a : Actor) → slice_get actors client ≡ Some a → a ≡ actor (start world client) false
+  pub gone : gone_of actors ≡ unset many
+
+pub record AreEmpty (many : ℕ) (queues : List (List Posting)) : Type 0 where
+  pub count : length queues ≡ many
+  pub each : (index : ℕ) (queue : List Posting) → slice_get queues index ≡ Some queue → queue ≡ []
+
+abbrev pub results_of_actor : Actor → List CallResult
+results_of_actor a = results_of a.state
+
+-- ---- a client that goes on alone
+
+-- its oldest waiting Ask is served, since it has no ask to make
+pub record HasOldestServed (world : World) (client : ℕ) (old new : Scene) : Type 0 where
+  pub idle : HasNoAsk world client old
+  pub posting : Posting
+  pub found : oldest (is_by client) old.history ≡ Some posting
+  pub serves : MakesServe world posting.number posting.place old new
+
+-- there is neither an ask to make nor one to serve
+pub record HasNothingLeft (world : World) (client : ℕ) (old new : Scene) : Type 0 where
+  pub idle : HasNoAsk world client old
+  pub none : oldest (is_by client) old.history ≡ None
+  pub same : new ≡ old
+
+abbrev pub HasAdvanced : Bool → World → ℕ → Scene → Scene → Type 0
+HasAdvanced true world client old new = Asks world client old new ⊎ HasOldestServed world client old new
+HasAdvanced false world client old new = HasNothingLeft world client old new
+
+-- it has gone on alone once more, and that call ended or not; or it has no call left
+pub record HasCalledOnce (ended : Bool) (world : World) (client : ℕ) (old new : Scene) : Type 0 where
+  pub some : has_calls world old client ≡ true
+  pub call : ByCall world client old new
+  pub ends : has_ended world client (number_in world old client) new ≡ ended
+
+pub record HasNoCall (world : World) (client : ℕ) (old new : Scene) : Type 0 where
+  pub none : has_calls world old client ≡ false
+  pub same : new ≡ old
+
+abbrev pub HasCalled : Bool → World → ℕ → Scene → Scene → Type 0
+HasCalled true world client old new = HasCalledOnce true world client old new
+HasCalled false world client old new = HasCalledOnce false world client old new ⊎ HasNoCall world client old new

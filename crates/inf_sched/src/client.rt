@@ -1,6 +1,6 @@
 //! A client of a run: it is told what to do next, and gives calls up where memory is wanting.
 
-ghost use Rattle.std.specs.Prelude.{◌≡◌, ◌+◌, ◌<◌, ◌≤◌, ◌^◌, ◌&&◌, not, nat_lt, true, false, [], length, Some, None, IfOk, IfSome, is_some};
+ghost use Rattle.std.specs.Prelude.{◌≡◌, ◌+◌, ◌<◌, ◌≤◌, ◌^◌, true, false, [], length, Some, None, IfOk, IfSome, is_some};
 ghost use Rattle.inf_base.specs.declared.limits.TheConstants.{MOST_CALLS};
 ghost use Rattle.inf_base.specs.Setup.{call_count};
 ghost use Rattle.inf_core.specs.Client.{placed, start};
@@ -111,11 +111,11 @@ impl Client {
         self.machine.number()
     }
 
-    /// Whether the client has a call left.
-    pub fn has_calls(&self) -> bool
-        ensures { result ≡ (not self.now.gone && nat_lt 0 (length self.now.state.left)) }
+    /// How many calls are left, the one under way among them.
+    pub fn calls_left(&self) -> usize
+        ensures { result ≡ length self.now.state.left }
     {
-        !self.has_given_up && !self.machine.is_over()
+        self.machine.calls_left()
     }
 
     /// One result for each call; those that have not ended are unanswered.

@@ -2,9 +2,12 @@
 #![tactic(auto)]
 
 mod client;
+mod ending;
 mod examples;
 mod laws;
 mod limits;
+mod moving;
+mod opening;
 mod posting;
 mod queue;
 

@@ -1,21 +1,26 @@
 //! A run: the core, the clients, and the Asks that wait.
 
-ghost use Rattle.std.specs.Prelude.{◌≡◌, ◌+◌, ◌<◌, ◌≤◌, [], true, false, length, map, Some, None, IfOk, IfSome};
+ghost use Rattle.std.specs.Prelude.{◌≡◌, ◌<◌, ◌≤◌, [], false, length, reverse, Some, None, IfOk, IfSome};
 ghost use Rattle.inf_base.specs.declared.limits.TheConstants.{MOST_CALLS, MOST_CLIENTS};
 ghost use Rattle.inf_base.specs.Setup.{call_count};
 ghost use Rattle.inf_core.specs.Core.{IsSameRun, world_in};
-ghost use Rattle.inf_sched.specs.Run.{HasStepped, playing, scene_of};
-ghost use Rattle.inf_sched.specs.Scene.{MakesServe};
+ghost use Rattle.inf_core.specs.Kept.{world_by};
+ghost use Rattle.inf_core.specs.Legal.{Legal};
+ghost use Rattle.inf_sched.specs.Order.{results_in};
+ghost use Rattle.inf_sched.specs.Run.{HasStepped, scene_of};
+ghost use Rattle.inf_sched.specs.Scene.{MakesServe, calls_left, has_ended, is_gone, number_in, opening};
 ghost use Rattle.inf_sched.specs.Waiting.{IsWaiting, is_by, is_for, oldest};
 
 use crate::client::Client;
+use crate::ending::all_results;
+use crate::opening::{open_clients, open_queues};
 use crate::posting::Posting;
 use crate::queue::Queue;
 use crate::serving::serve;
 use crate::stepping::{Stepped, let_ask};
 use inf_base::{NoMemory, Setup};
 use inf_birth::IdRule;
-use inf_core::Core;
+use inf_core::{Core, Outcome, Results};
 use std::alloc::Global;
 use std::marker::Model;
 
@@ -43,6 +48,28 @@ impl<R: IdRule> Model for Run<R> {
 }
 
 impl<R: IdRule> Run<R> {
+    #[tactic(auto, using(crate::proofs::OpeningFacts::kept_opening, crate::proofs::OpeningFacts::opening_scene))]
+    /// The run before anything has happened.
+    pub fn new(alloc: Global, setup: Setup, rule: R) -> Result<Self, NoMemory>
+        requires some_servers { 1 ≤ setup.servers }
+        requires few_calls { call_count setup.clients ≤ MOST_CALLS }
+        requires few_clients { length setup.clients ≤ MOST_CLIENTS }
+        ensures core { IfOk result (λ run. run.core ≡ record { rule = rule; setup = setup; history = [] }) }
+        ensures opening { IfOk result (λ run. scene_of run ≡ opening (world_by (R.digest_of rule) setup)) }
+    {
+        let clients = open_clients(alloc, &rule, &setup)?;
+        let to_server = open_queues(alloc, setup.servers as usize + 1)?;
+        let by_client = open_queues(alloc, setup.clients.len())?;
+        let core = Core::new(alloc, setup, rule)?;
+        Ok(Run {
+            alloc,
+            core,
+            clients,
+            to_server,
+            by_client,
+        })
+    }
+
     /// Lets a client make its next ask, and tells whether it did anything.
     pub fn step(self, client: u32) -> Result<(Self, bool), NoMemory>
         requires there { client < length self.core.setup.clients }
@@ -144,5 +171,68 @@ impl<R: IdRule> Run<R> {
         ensures unchanged { self.new ≡ self.old }
     {
         self.by_client[client as usize].oldest(&self.core)
+    }
+
+    /// Whether the client's call of this number has ended.
+    pub fn has_ended(&self, client: u32, number: u32) -> bool
+        requires there { client < length self.now.core.setup.clients }
+        ensures { result ≡ has_ended (world_in R.digest_of self.now.core) client number (scene_of self.now) }
+    {
+        let actor = &self.clients[client as usize];
+        actor.has_given_up() || number < actor.number()
+    }
+
+    /// Whether the client gave up all that it had left.
+    pub fn is_gone(&self, client: u32) -> bool
+        requires there { client < length self.now.core.setup.clients }
+        ensures { result ≡ is_gone (scene_of self.now) client }
+    {
+        self.clients[client as usize].has_given_up()
+    }
+
+    /// The number of the client's call under way, or of the next one where none is.
+    pub fn number(&self, client: u32) -> u32
+        requires there { client < length self.now.core.setup.clients }
+        requires here { is_gone (scene_of self.now) client ≡ false }
+        ensures { result ≡ number_in (world_in R.digest_of self.now.core) (scene_of self.now) client }
+    {
+        self.clients[client as usize].number()
+    }
+
+    /// How many calls the client has left.
+    pub fn calls_left(&self, client: u32) -> usize
+        requires there { client < length self.now.core.setup.clients }
+        requires here { is_gone (scene_of self.now) client ≡ false }
+        ensures { result ≡ calls_left (world_in R.digest_of self.now.core) (scene_of self.now) client }
+    {
+        self.clients[client as usize].calls_left()
+    }
+
+    pub fn client_count(&self) -> u32
+        requires { length self.now.core.setup.clients ≤ MOST_CLIENTS }
+        ensures { result ≡ length self.now.core.setup.clients }
+    {
+        self.clients.len() as u32
+    }
+
+    #[tactic(auto, using(crate::proofs::OpeningFacts::results_same))]
+    /// The history, and one result for each call.
+    pub fn into_outcome(self) -> Result<Outcome, NoMemory>
+        ensures history { IfOk result (λ outcome. outcome.history ≡ reverse self.core.history) }
+        ensures results { IfOk result (λ outcome. outcome.results
+            ≡ results_in (world_in R.digest_of self.core) (scene_of self)) }
+        ensures legal { IfOk result (λ outcome. Legal (world_in R.digest_of self.core) (reverse outcome.history)) }
+    {
+        let Run {
+            alloc,
+            core,
+            clients,
+            ..
+        } = self;
+        let results = all_results(alloc, clients)?;
+        Ok(Outcome {
+            history: core.into_history(),
+            results: Results::new(results),
+        })
     }
 }

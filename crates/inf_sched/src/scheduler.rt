@@ -11,7 +11,10 @@ ghost use Rattle.inf_sched.specs.Order.{ByOrder};
 ghost use Rattle.inf_tree.specs.Replay.{Replays};
 ghost use Rattle.inf_tree.specs.Tree.{opening_tree};
 
-use inf_base::{NoMemory, Setup};
+use crate::moving::all;
+use crate::run::Run;
+use inf_base::{NoMemory, Setup, TryClone};
+use inf_birth::ShaRule;
 use inf_core::Outcome;
 use inf_order::Move;
 use std::alloc::Global;
@@ -28,6 +31,7 @@ pub fn schedule(alloc: Global, setup: &Setup, order: &[Move]) -> Result<Outcome,
     ensures replays { IfOk result (λ outcome. Replays opening_tree
         (decisions (world_of setup.now) (reverse outcome.history) outcome.results)) }
 {
-    let _ = (alloc, setup, order);
-    Err(NoMemory)
+    let rule = ShaRule::new(setup.digest_bytes);
+    let run = Run::new(alloc, setup.try_clone(alloc)?, rule)?;
+    all(run, order)?.into_outcome()
 }

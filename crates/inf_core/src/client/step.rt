@@ -33,6 +33,13 @@ impl ClientMachine {
         self.left.is_empty()
     }
 
+    /// How many calls are left, the one under way among them.
+    pub fn calls_left(&self) -> usize
+        ensures { result ≡ length self.now.left }
+    {
+        self.left.len()
+    }
+
     /// Whether the call under way is of a kind that is built. Between two groups there is an ask to make for it.
     #[tactic(auto, using(crate::proofs::StepFacts::built_asks))]
     pub fn is_built(&self) -> bool

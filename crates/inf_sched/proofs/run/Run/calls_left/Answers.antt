@@ -1,0 +1,15 @@
+use Rattle.std.proofs.Common.{◌≡◌, ◌<◌, ◌||◌, ℕ, false, nat_lt, length, subst, ◌∙◌, sym, rules, arith}
+use Rattle.inf_core.specs.Core.{world_in}
+use Rattle.inf_sched.specs.Run.{Playing, scene_of}
+use Rattle.inf_sched.specs.Scene.{calls_left, has_ended, is_gone, number_in}
+use Rattle.inf_sched.proofs.OpeningFacts.{ended_same, gone_same_as, left_same, number_same}
+use Rattle.inf_sched.proofs.RunFacts.{got_there}
+use Rattle.inf_sched.proofs.run.Run.calls_left.Goals as goal
+
+pub returns : goal.returns
+returns g c =
+    let at = got_there c.self.inside.clients.items c.args.client c.index.result.now c.index.ensures (search (rules, arith)) in
+    let is = c.self.invariant.clients.each c.args.client c.index.result.now at in
+    let here = subst (λ (v : Playing _). is_gone (scene_of v) c.args.client ≡ false) (sym c.self.view_is) c.requires.here in
+    subst (λ (v : Playing _). c.calls_left.result ≡ calls_left (world_in g.R.IdRule.digest_of v.core) (scene_of v) c.args.client) c.self.view_is
+    (c.calls_left.ensures ∙ left_same (world_in g.R.IdRule.digest_of c.self.inside.core) c.self.inside.core.history c.self.inside.clients.items c.args.client c.index.result.now at is here)
