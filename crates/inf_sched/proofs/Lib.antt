@@ -14,3 +14,4 @@ pub mod RunMoves
 pub mod ServeFacts
 pub mod RunFacts
 pub mod OpeningFacts
+pub mod UnansweredFacts

@@ -3,6 +3,7 @@
 
 mod client;
 mod ending;
+mod endings;
 mod examples;
 mod laws;
 mod limits;
@@ -17,6 +18,7 @@ mod serving;
 mod stepping;
 
 pub use client::Client;
+pub use endings::unanswered_calls_are_left;
 pub use examples::{ended_calls, lone_clients, single_moves, wanting};
 pub use inf_core::{ClientStep, Outcome, Results};
 pub use inf_order::{MOST_MOVES, Move, Moves};

@@ -31,7 +31,9 @@ pub fn schedule(alloc: Global, setup: &Setup, order: &[Move]) -> Result<Outcome,
     ensures replays { IfOk result (λ outcome. Replays opening_tree
         (decisions (world_of setup.now) (reverse outcome.history) outcome.results)) }
 {
-    let rule = ShaRule::new(setup.digest_bytes);
+    let rule = ShaRule {
+        bytes: setup.digest_bytes,
+    };
     let run = Run::new(alloc, setup.try_clone(alloc)?, rule)?;
     all(run, order)?.into_outcome()
 }
