@@ -15,3 +15,4 @@ pub mod ServeFacts
 pub mod RunFacts
 pub mod OpeningFacts
 pub mod UnansweredFacts
+pub mod MovingFacts

@@ -1,7 +1,7 @@
 -- What contracts see of a run, and what it keeps behind that.
 use Rattle.std.specs.Prelude.{◌≡◌, ◌⊎◌, ℕ, zero, suc, ◌+◌, Bool, true, false, List, [], ◌∷◌, length, map, slice_get, Some, None}
 use Rattle.inf_core.specs.Client.{Client, start}
-use Rattle.inf_core.specs.Core.{Running}
+use Rattle.inf_core.specs.Core.{IsSameRun, Running}
 use Rattle.inf_core.specs.Legal.{Legal, MayAsk, MayServe, client_after}
 use Rattle.inf_core.specs.Outcome.{all_given_up, results_of}
 use Rattle.inf_core.specs.World.{World}
@@ -169,3 +169,15 @@ pub record HasNoCall (world : World) (client : ℕ) (old new : Scene) : Type 0 w
 abbrev pub HasCalled : Bool → World → ℕ → Scene → Scene → Type 0
 HasCalled true world client old new = HasCalledOnce true world client old new
 HasCalled false world client old new = HasCalledOnce false world client old new ⊎ HasNoCall world client old new
+
+-- ---- runs on their way
+
+-- wherever what is left of a move leads from here, the whole of it leads from the entry
+pub record IsAlong {R : Type 0} (Left Whole : Scene → Scene → Type 0) (entry now : Playing R) : Type 0 where
+  pub same : IsSameRun entry.core now.core
+  pub leads : (last : Scene) → Left (scene_of now) last → Whole (scene_of entry) last
+
+-- these moves led here
+pub record IsMoved {R : Type 0} (Made : Scene → Scene → Type 0) (entry now : Playing R) : Type 0 where
+  pub same : IsSameRun entry.core now.core
+  pub made : Made (scene_of entry) (scene_of now)

@@ -10,7 +10,7 @@ ghost use Rattle.inf_sched.specs.Moves.{ByAlone, ByCall, ByCalls, ByMove, ByRest
 ghost use Rattle.inf_sched.specs.Order.{ByMoves};
 ghost use Rattle.inf_sched.specs.Run.{HasAdvanced, HasCalled, scene_of};
 ghost use Rattle.inf_sched.specs.Scene.{calls_left};
-ghost use Rattle.inf_sched.specs.Waiting.{IsWaiting};
+ghost use Rattle.inf_sched.specs.Waiting.{IsWaiting, is_for, oldest};
 
 use crate::limits::MOST_EVENTS;
 use crate::posting::Posting;
@@ -39,6 +39,19 @@ fn serve_found<R: IdRule>(run: Run<R>, found: Option<Posting>) -> Result<Run<R>,
     }
 }
 
+fn oldest_for<R: IdRule>(run: &mut Run<R>, number: u32, client: Option<u32>) -> Option<Posting>
+    requires server { number ≤ run.old.core.setup.servers }
+    requires client { is_client_of (length run.old.core.setup.clients) client ≡ true }
+    ensures oldest { result ≡ oldest (is_for number client) run.old.core.history }
+    ensures waits { IfSome result (λ p. IsWaiting run.old.core.history p) }
+    ensures unchanged { run.new ≡ run.old }
+{
+    match client {
+        None => run.oldest_to(number),
+        Some(client) => run.oldest_of(number, client),
+    }
+}
+
 fn serve<R: IdRule>(run: Run<R>, number: u32, client: Option<u32>) -> Result<Run<R>, NoMemory>
     requires server { number ≤ run.core.setup.servers }
     requires client { is_client_of (length run.core.setup.clients) client ≡ true }
@@ -46,16 +59,8 @@ fn serve<R: IdRule>(run: Run<R>, number: u32, client: Option<u32>) -> Result<Run
     ensures same { IfOk result (λ after. IsSameRun run.core after.core) }
 {
     let mut run = run;
-    match client {
-        None => {
-            let found = run.oldest_to(number);
-            serve_found(run, found)
-        }
-        Some(client) => {
-            let found = run.oldest_of(number, client);
-            serve_found(run, found)
-        }
-    }
+    let found = oldest_for(&mut run, number, client);
+    serve_found(run, found)
 }
 
 /// The client makes its next ask; where it has none, its oldest waiting Ask is served. Whether there was anything to
@@ -185,8 +190,8 @@ pub fn all<R: IdRule>(run: Run<R>, order: &[Move]) -> Result<Run<R>, NoMemory>
     ensures same { IfOk result (λ after. IsSameRun run.core after.core) }
 {
     let mut now = run;
-    for next in order {
-        now = one(now, *next)?;
+    for index in 0..order.len() {
+        now = one(now, order[index])?;
     }
     Ok(now)
 }
