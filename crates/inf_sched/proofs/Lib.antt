@@ -16,3 +16,4 @@ pub mod RunFacts
 pub mod OpeningFacts
 pub mod UnansweredFacts
 pub mod MovingFacts
+pub mod ScheduleFacts

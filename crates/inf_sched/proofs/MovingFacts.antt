@@ -265,3 +265,8 @@ named_at test (first ∷ order) (suc index) move all within is = named_at test o
     later_of : (a b : Bool) → (a && b) ≡ true → b ≡ true
     later_of true b both = both
     later_of false b both = absurd (cc)
+
+pub got_again : (order : List Move) (index : ℕ) (other : Move) → index < length order → get_or order index other ≡ get_or order index (get_or order index other)
+got_again [] index other within = absurd (omega arith)
+got_again (first ∷ order) zero other within = refl
+got_again (first ∷ order) (suc index) other within = got_again order index other (omega arith)

@@ -191,7 +191,8 @@ pub fn all<R: IdRule>(run: Run<R>, order: &[Move]) -> Result<Run<R>, NoMemory>
 {
     let mut now = run;
     for index in 0..order.len() {
-        now = one(now, order[index])?;
+        let next = order[index];
+        now = one(now, next)?;
     }
     Ok(now)
 }

@@ -35,5 +35,7 @@ pub fn schedule(alloc: Global, setup: &Setup, order: &[Move]) -> Result<Outcome,
         bytes: setup.digest_bytes,
     };
     let run = Run::new(alloc, setup.try_clone(alloc)?, rule)?;
-    all(run, order)?.into_outcome()
+    let run = all(run, order)?;
+    let outcome = run.into_outcome()?;
+    Ok(outcome)
 }

@@ -13,14 +13,19 @@ returns-then-is_gone-clause-calls g c =
 
 pub returns-then-not-has_ended-clause-calls : goal.returns-then-not-has_ended-clause-calls
 returns-then-not-has_ended-clause-calls g c =
+    let no_end : c.in_ok-after.has_ended ≡ false = search rules in
     subst (λ n. ByCalls (world_in g.R.IdRule.digest_of c.args.run.core) c.args.client n (scene_of c.args.run) (scene_of c.in_ok-after.after)) (search rules)
     (calls_along_stops g.R.IdRule.digest_of c.args.client c.calls_left-most.result c.loop.counter c.args.run c.loop.now c.in_ok-after.after c.loop.invariant
-      (search (rules, arith)) (search rules))
+      (search (rules, arith))
+      (subst (λ b. HasCalled b (world_in g.R.IdRule.digest_of c.loop.now.core) c.args.client (scene_of c.loop.now) (scene_of c.in_ok-after.after)) no_end c.in_ok-after.ensures.next))
 
 pub loop-preserved : goal.loop-preserved
 loop-preserved g c =
+    let ended : c.in_ok-after.has_ended ≡ true = search rules in
     calls_along_goes g.R.IdRule.digest_of c.args.client c.calls_left-most.result c.loop.counter c.args.run c.loop.now c.in_ok-after.after c.loop.invariant
-      (search (rules, arith)) (search rules) (search rules)
+      (search (rules, arith))
+      (subst (λ b. HasCalled b (world_in g.R.IdRule.digest_of c.loop.now.core) c.args.client (scene_of c.loop.now) (scene_of c.in_ok-after.after)) ended c.in_ok-after.ensures.next)
+      (search rules)
 
 pub returns-clause-calls : goal.returns-clause-calls
 returns-clause-calls g c =
