@@ -8,7 +8,6 @@ mod limits;
 mod posting;
 mod queue;
 
-mod run;
 mod scheduler;
 mod serving;
 mod stepping;
