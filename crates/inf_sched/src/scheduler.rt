@@ -28,6 +28,8 @@ pub fn schedule(alloc: Global, setup: &Setup, order: &[Move]) -> Result<Outcome,
     ensures replays { IfOk result (λ outcome. Replays opening_tree
         (decisions (world_of setup.now) (reverse outcome.history) outcome.results)) }
 {
-    let _ = (alloc, setup, order);
+    let _ = alloc;
+    let _ = setup.servers;
+    let _ = order.len();
     Err(NoMemory)
 }
