@@ -142,34 +142,34 @@ of_any_text P None each = tt
 of_any_text P (Some t) each = each t
 
 -- a refused text is no script
-refused_no_script : {X : Type 0} (text old new : Option (List ℕ)) → IfSome text (λ t. RefusedScript t old new) → IfSome text (λ t. OnOk (meaning t) X)
-refused_no_script None old new did = tt
-refused_no_script (Some t) old new did = rw did.refuses.read tt
+refused_no_script : (X : Type 0) (text old new : Option (List ℕ)) → IfSome text (λ t. RefusedScript t old new) → IfSome text (λ t. OnOk (meaning t) X)
+refused_no_script X None old new did = tt
+refused_no_script X (Some t) old new did = rw did.refuses.read tt
 
 -- a text whose report was written is refused by nothing
-reported_no_refusal : {X : Type 0} (text old new : Option (List ℕ)) → IfSome text (λ t. Reported t old new) → IfSome text (λ t. OnErr (meaning t) X)
-reported_no_refusal None old new did = tt
-reported_no_refusal (Some t) old new did = rw did.reports.read tt
+reported_no_refusal : (X : Type 0) (text old new : Option (List ℕ)) → IfSome text (λ t. Reported t old new) → IfSome text (λ t. OnErr (meaning t) X)
+reported_no_refusal X None old new did = tt
+reported_no_refusal X (Some t) old new did = rw did.reports.read tt
 
 complete_by : (run : Run) (s : Status) → SchedDid s run
     → ¬ Rose run.source_before run.source_after → ¬ Rose run.sink_before run.sink_after
     → IfSome run.text (λ t. OnOk (meaning t) (Contains (0 ∷ 5 ∷ []) (code_of s)))
-complete_by run status.Done did calm_source calm_sink = of_any_text _ run.text (λ t. on_ok (meaning t) (0, arith, refl))
+complete_by run status.Done did calm_source calm_sink = of_any_text _ run.text (λ t. on_ok (meaning t) (0, omega arith, refl))
 complete_by run status.WordsRefused did calm_source calm_sink = absurd did
 complete_by run status.ReadFault did calm_source calm_sink = absurd (calm_source did.0)
-complete_by run status.ScriptRefused did calm_source calm_sink = refused_no_script run.text run.held_before run.held_after did
+complete_by run status.ScriptRefused did calm_source calm_sink = refused_no_script _ run.text run.held_before run.held_after did
 complete_by run status.WriteFault did calm_source calm_sink = absurd (calm_sink did.0)
-complete_by run status.NoMemory did calm_source calm_sink = of_any_text _ run.text (λ t. on_ok (meaning t) (1, arith, refl))
+complete_by run status.NoMemory did calm_source calm_sink = of_any_text _ run.text (λ t. on_ok (meaning t) (1, omega arith, refl))
 
 refusal_told_by : (run : Run) (s : Status) → SchedDid s run
     → ¬ Rose run.source_before run.source_after → ¬ Rose run.sink_before run.sink_after
     → IfSome run.text (λ t. OnErr (meaning t) (Contains (3 ∷ 5 ∷ []) (code_of s)))
-refusal_told_by run status.Done did calm_source calm_sink = reported_no_refusal run.text run.held_before run.held_after did
+refusal_told_by run status.Done did calm_source calm_sink = reported_no_refusal _ run.text run.held_before run.held_after did
 refusal_told_by run status.WordsRefused did calm_source calm_sink = absurd did
 refusal_told_by run status.ReadFault did calm_source calm_sink = absurd (calm_source did.0)
-refusal_told_by run status.ScriptRefused did calm_source calm_sink = of_any_text _ run.text (λ t. on_err (meaning t) (0, arith, refl))
+refusal_told_by run status.ScriptRefused did calm_source calm_sink = of_any_text _ run.text (λ t. on_err (meaning t) (0, omega arith, refl))
 refusal_told_by run status.WriteFault did calm_source calm_sink = absurd (calm_sink did.0)
-refusal_told_by run status.NoMemory did calm_source calm_sink = of_any_text _ run.text (λ t. on_err (meaning t) (1, arith, refl))
+refusal_told_by run status.NoMemory did calm_source calm_sink = of_any_text _ run.text (λ t. on_err (meaning t) (1, omega arith, refl))
 
 pub sched_complete : (run : Run) (s : Status) (code : ℕ) → code ≡ code_of s → SchedDid s run
     → ¬ Rose run.source_before run.source_after → ¬ Rose run.sink_before run.sink_after

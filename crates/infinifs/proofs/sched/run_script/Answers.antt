@@ -1,6 +1,7 @@
-use Rattle.std.proofs.Common.{inl}
+use Rattle.std.proofs.Common.{inl, reverse, subst}
 use Rattle.std.proofs.KnownBytes.{Keeps-refl}
 use Rattle.inf_core.specs.World.{world_of}
+use Rattle.inf_sched.specs.Order.{ByOrder}
 use Rattle.infinifs.proofs.CommandFacts.{outcome_did}
 use Rattle.infinifs.proofs.PlacesFacts.{own_places-reverse}
 use Rattle.infinifs.proofs.sched.run_script.Goals as goal
@@ -14,8 +15,10 @@ pub returns-in-Ok : goal.returns-in-Ok
 returns-in-Ok g c =
     let made = c.in-Ok.outcome in
     let is_made = c.in-Ok.ensures in
+    let setup = c.args.script.now.setup in
+    let by_order = subst (λ order. ByOrder (world_of setup) order (reverse made.history) made.results) c.as_slice.ensures is_made.by_order in
     outcome_did c.args.script.now made.history made.results
-        c.requires.valid is_made.legal is_made.outcome is_made.by_order is_made.replays
+        c.requires.valid is_made.legal is_made.outcome by_order is_made.replays
         c.write_outcome.result _ _ _ _ c.write_outcome.ensures
 
 pub returns-in-Err : goal.returns-in-Err
