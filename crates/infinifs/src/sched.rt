@@ -87,12 +87,7 @@ fn run_script<K: Sink>(alloc: Global, script: &Script, sink: &mut K) -> Status
     }
 }
 
-fn write_outcome<K: Sink>(
-    alloc: Global,
-    setup: &Setup,
-    outcome: &Outcome,
-    sink: &mut K,
-) -> Status
+fn write_outcome<K: Sink>(alloc: Global, setup: &Setup, outcome: &Outcome, sink: &mut K) -> Status
     requires { HaveOwnPlaces (length outcome.now.history) outcome.now.results }
     ensures { WriteDid status.Done (report setup.now outcome.now.history outcome.now.results) result
         (K.faults sink.old) (K.faults sink.new) (K.held sink.old) (K.held sink.new) }

@@ -18,8 +18,8 @@ returns-in-Ok g c =
     let setup = c.args.script.now.setup in
     let by_order = subst (λ order. ByOrder (world_of setup) order (reverse made.history) made.results) c.as_slice.ensures is_made.by_order in
     outcome_did c.args.script.now made.history made.results
-        c.requires.valid is_made.legal is_made.outcome by_order is_made.replays
-        c.write_outcome.result _ _ _ _ c.write_outcome.ensures
+    c.requires.valid is_made.legal is_made.outcome by_order is_made.replays
+    c.write_outcome.result _ _ _ _ c.write_outcome.ensures
 
 pub returns-in-Err : goal.returns-in-Err
 returns-in-Err g c = inl (Keeps-refl _)
