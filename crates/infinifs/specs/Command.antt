@@ -55,9 +55,8 @@ refusal_line refusal = line (codes "script " ++ decimal refusal.line ++ codes " 
 
 -- ---- what a text comes to
 
--- the text is a script, and the bytes are the report of a history that its order makes. The history is legal, the
--- results agree with it, and the calls, in order of place, are answered as the plain tree answers them from the opening
--- tree on. The history stands with the newest event first.
+-- the text is a script, and the bytes are the report of an outcome that its order makes: a legal history, with the newest
+-- event first, and results that agree with it and whose calls, by place, are answered as on the plain tree
 pub record IsReportOf (text bytes : List ℕ) : Type 0 where
   pub setup : Setup
   pub order : List Move

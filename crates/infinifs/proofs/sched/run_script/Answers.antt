@@ -13,13 +13,12 @@ write_outcome-requires g c =
 
 pub returns-in-Ok : goal.returns-in-Ok
 returns-in-Ok g c =
+    let setup = c.args.script.now.setup in
     let made = c.in-Ok.outcome in
     let is_made = c.in-Ok.ensures in
-    let setup = c.args.script.now.setup in
     let by_order = subst (λ order. ByOrder (world_of setup) order (reverse made.history) made.results) c.as_slice.ensures is_made.by_order in
-    outcome_did c.args.script.now made.history made.results
-    c.requires.valid is_made.legal is_made.outcome by_order is_made.replays
-    c.write_outcome.result _ _ _ _ c.write_outcome.ensures
+    let did = outcome_did c.args.script.now made.history made.results c.requires.valid is_made.legal is_made.outcome by_order is_made.replays in
+    did c.write_outcome.result _ _ _ _ c.write_outcome.ensures
 
 pub returns-in-Err : goal.returns-in-Err
 returns-in-Err g c = inl (Keeps-refl _)
