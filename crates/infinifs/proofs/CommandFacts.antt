@@ -1,5 +1,5 @@
 -- What the parts of a command did, taken together.
-use Rattle.std.proofs.Common.{◌≡◌, ◌⊎◌, ℕ, ◌≤◌, false, nat_lt, List, [], ◌∷◌, ◌++◌, length, reverse, take, Contains, inl, inr, Option, None, Some, Result, Ok, Err, IfSome, OnErr, OnOk, sym, ap, ◌∙◌, refl, subst, arith}
+use Rattle.std.proofs.Common.{◌≡◌, ◌⊎◌, ℕ, ◌≤◌, false, nat_lt, List, [], ◌∷◌, length, reverse, take, Contains, inl, inr, Option, None, Some, Result, Ok, Err, IfSome, OnErr, OnOk, sym, ap, ◌∙◌, refl, subst, arith}
 use Rattle.std.proofs.lemmas.Bool.{le-ltb}
 use Rattle.std.proofs.lemmas.List.{reverse-reverse, take_all}
 use Rattle.std.specs.Io.KnownBytes.{Appends, Keeps}
