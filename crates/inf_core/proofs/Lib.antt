@@ -25,3 +25,4 @@ pub mod OwnFacts
 pub mod OwnHistory
 pub mod StepFacts
 pub mod Driven
+pub mod OwnPlaces

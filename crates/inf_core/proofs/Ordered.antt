@@ -56,7 +56,7 @@ abbrev pub shown : World → List Event → ℕ → List ClientLine → List Cal
 shown world h client [] = []
 shown world h client (line ∷ lines) = (client_after world client h).results ++ shown world h (client + 1) lines
 
-outcome_at : (place : ℕ) (world : World) (h : List Event) (client : ℕ) (lines : List ClientLine) (results : List CallResult) → OutcomeFrom world h client lines results → filter (stands_at place) results ≡ filter (stands_at place) (shown world h client lines)
+pub outcome_at : (place : ℕ) (world : World) (h : List Event) (client : ℕ) (lines : List ClientLine) (results : List CallResult) → OutcomeFrom world h client lines results → filter (stands_at place) results ≡ filter (stands_at place) (shown world h client lines)
 outcome_at place world h client [] results out = ap (filter (stands_at place)) out
 outcome_at place world h client (line ∷ lines) results out =
     ap (filter (stands_at place)) out.all
@@ -64,14 +64,14 @@ outcome_at place world h client (line ∷ lines) results out =
     ∙ ap₂ (λ a b. a ++ b) (agrees_at place (client_after world client h) out.mine out.agrees) (outcome_at place world h (client + 1) lines out.others out.later)
     ∙ sym (filter-append (stands_at place) (client_after world client h).results _)
 
-shown_same : (place : ℕ) (world : World) (now before : List Event) → ((c : ℕ) → filter (stands_at place) (client_after world c now).results ≡ filter (stands_at place) (client_after world c before).results) → (client : ℕ) (lines : List ClientLine) → filter (stands_at place) (shown world now client lines) ≡ filter (stands_at place) (shown world before client lines)
+pub shown_same : (place : ℕ) (world : World) (now before : List Event) → ((c : ℕ) → filter (stands_at place) (client_after world c now).results ≡ filter (stands_at place) (client_after world c before).results) → (client : ℕ) (lines : List ClientLine) → filter (stands_at place) (shown world now client lines) ≡ filter (stands_at place) (shown world before client lines)
 shown_same place world now before each client [] = refl
 shown_same place world now before each client (line ∷ lines) =
     filter-append (stands_at place) (client_after world client now).results _
     ∙ ap₂ (λ a b. a ++ b) (each client) (shown_same place world now before each (client + 1) lines)
     ∙ sym (filter-append (stands_at place) (client_after world client before).results _)
 
-shown_later : (place : ℕ) (world : World) (h : List Event) → length h < place → (client : ℕ) (lines : List ClientLine) → filter (stands_at place) (shown world h client lines) ≡ []
+pub shown_later : (place : ℕ) (world : World) (h : List Event) → length h < place → (client : ℕ) (lines : List ClientLine) → filter (stands_at place) (shown world h client lines) ≡ []
 shown_later place world h past client [] = refl
 shown_later place world h past client (line ∷ lines) =
     filter-append (stands_at place) (client_after world client h).results _
@@ -79,13 +79,13 @@ shown_later place world h past client (line ∷ lines) =
 
 -- ---- one event more
 
-ask_shows : (place : ℕ) (world : World) (number : ℕ) (ask : Ask) (h : List Event) (c : ℕ) → filter (stands_at place) (client_after world c (event.Ask number ask ∷ h)).results ≡ filter (stands_at place) (client_after world c h).results
+pub ask_shows : (place : ℕ) (world : World) (number : ℕ) (ask : Ask) (h : List Event) (c : ℕ) → filter (stands_at place) (client_after world c (event.Ask number ask ∷ h)).results ≡ filter (stands_at place) (client_after world c h).results
 ask_shows place world number ask h c =
     if_both (λ (t : Client). filter (stands_at place) t.results ≡ filter (stands_at place) (client_after world c h).results) (eqb ask.from.client c) _ _
     (asked_shows (suc (length h)) place ask (client_after world c h))
     refl
 
-serve_shows : (place : ℕ) (world : World) (number ask_place : ℕ) (given : Reply) (h : List Event) → place ≢ suc (length h) → (c : ℕ) → filter (stands_at place) (client_after world c (event.Serve number ask_place given ∷ h)).results ≡ filter (stands_at place) (client_after world c h).results
+pub serve_shows : (place : ℕ) (world : World) (number ask_place : ℕ) (given : Reply) (h : List Event) → place ≢ suc (length h) → (c : ℕ) → filter (stands_at place) (client_after world c (event.Serve number ask_place given ∷ h)).results ≡ filter (stands_at place) (client_after world c h).results
 serve_shows place world number ask_place given h apart c =
     served_before place ask_place (told_reply (suc (length h)) given) (client_after world c h) (ready world c h) apart
 

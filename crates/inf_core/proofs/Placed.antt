@@ -173,7 +173,7 @@ served_newly world client line ask_place told s found is reads none =
     (λ here going. ap (filter_map (decided_of world)) none)
     (λ here complete. turned_newly world client line told.serve_place _ (recorded ask_place told s) found now (turn_told ask_place told s is here complete) none)
 
-starting_shows : (world : World) (client place : ℕ) (line : Option ClientLine) → filter (stands_at place) (starting world client line).results ≡ []
+pub starting_shows : (world : World) (client place : ℕ) (line : Option ClientLine) → filter (stands_at place) (starting world client line).results ≡ []
 starting_shows world client place None = refl
 starting_shows world client place (Some line) = refl
 

@@ -18,3 +18,4 @@ pub mod Course
 pub mod ClientStep
 pub mod Kept
 pub mod Own
+pub mod Places

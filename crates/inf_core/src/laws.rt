@@ -5,6 +5,7 @@ ghost use Rattle.inf_core.specs.Client.{has_place};
 ghost use Rattle.inf_core.specs.Decisions.{decided_in};
 ghost use Rattle.inf_core.specs.Legal.{Legal, client_after};
 ghost use Rattle.inf_core.specs.Outcome.{AllReplay, Outcome, decisions};
+ghost use Rattle.inf_core.specs.Places.{HaveOwnPlaces};
 ghost use Rattle.inf_core.specs.World.{World};
 ghost use Rattle.inf_message.specs.declared.call_result.CallResult.{CallResult};
 ghost use Rattle.inf_message.specs.declared.event.Event.{Event};
@@ -31,6 +32,12 @@ pub fn serves_replay()
 pub fn outcomes_are_decided()
     ensures { (world : World) (h : List Event) (results : List CallResult) → Outcome world h results
         → decisions world h results ≡ decided_in world h }
+{}
+
+/// Each result of a legal history that has a place has one of the history's events, and no two have the same.
+pub fn results_have_own_places()
+    ensures { (world : World) (h : List Event) (results : List CallResult) → Legal world h → Outcome world h results
+        → HaveOwnPlaces (length h) results }
 {}
 
 /// A Serve changes no client but the one that asked.

@@ -1,5 +1,5 @@
 -- What writing a report does: its text waits in a buffer and goes to a sink in pieces.
-use Rattle.std.specs.Prelude.{◌≡◌, ℕ, ◌+◌, ◌-◌, ◌<◌, ◌≤◌, List, [], ◌++◌, length, filter, take, slice_get, slice_set, All, Option, Some, None, Result, Ok, Err, IfSome}
+use Rattle.std.specs.Prelude.{◌≡◌, ℕ, ◌+◌, ◌-◌, ◌<◌, ◌≤◌, List, [], ◌++◌, length, filter, take, slice_get, slice_set, Option, Some, None, Result, Ok, Err}
 use Rattle.std.specs.Option.{option_to_list}
 use Rattle.std.specs.Io.KnownBytes.{Appends}
 use Rattle.inf_core.specs.Outcome.{stands_at}
@@ -42,11 +42,6 @@ FailsToPut fault.NoMemory before after text = WritesFront before after text
 abbrev pub Puts : {T : Type 0} → Result T ReportFault → Output → Output → List ℕ → Type 0
 Puts (Ok done) before after text = Moves before after text
 Puts (Err fault) before after text = FailsToPut fault before after text
-
--- the results that have a place have one of the history's, and each its own
-pub record HaveOwnPlaces (events : ℕ) (results : List CallResult) : Type 0 where
-  pub within : All (λ result. IfSome result.place (λ place. (1 ≤ place) × (place ≤ events))) results
-  pub own : (place : ℕ) → length (filter (stands_at place) results) ≤ 1
 
 -- the result whose index a slot has
 abbrev pub picked : List CallResult → Option (Option ℕ) → List CallResult

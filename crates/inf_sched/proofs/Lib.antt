@@ -13,3 +13,4 @@ pub mod RunSteps
 pub mod RunMoves
 pub mod ServeFacts
 pub mod RunFacts
+pub mod UnansweredFacts

@@ -7,3 +7,4 @@ pub mod Run
 pub mod Straight
 pub mod Laws
 pub mod Examples
+pub mod Endings

@@ -2,6 +2,7 @@
 #![tactic(auto)]
 
 mod client;
+mod endings;
 mod examples;
 mod laws;
 mod limits;
@@ -13,6 +14,7 @@ mod serving;
 mod stepping;
 
 pub use client::Client;
+pub use endings::unanswered_calls_are_left;
 pub use examples::{ended_calls, lone_clients, single_moves, wanting};
 pub use inf_core::{ClientStep, Outcome, Results};
 pub use inf_order::{MOST_MOVES, Move, Moves};
