@@ -4,10 +4,10 @@ ghost use Rattle.std.specs.Prelude.{◌≡◌, Contains, true, [], ◌∷◌, le
 ghost use Rattle.std.specs.List.{list_all};
 ghost use Rattle.std.specs.Io.KnownBytes.{Keeps};
 ghost use Rattle.inf_base.specs.Setup.{IsValid};
+ghost use Rattle.inf_core.specs.Places.{HaveOwnPlaces};
 ghost use Rattle.inf_io.specs.Faults.{Rose};
 ghost use Rattle.inf_order.specs.Order.{is_move_of};
 ghost use Rattle.inf_report.specs.Report.{report};
-ghost use Rattle.inf_report.specs.Writing.{HaveOwnPlaces};
 ghost use Rattle.inf_script.specs.Reading.{meaning};
 ghost use Rattle.infinifs.specs.declared.status.Status.TheVariants as status;
 ghost use Rattle.infinifs.specs.Command.{BreaksOff, Reported, RefusedScript, SchedDid, ScriptDid, WriteDid, WritesWhole, refusal_line, why_text};
