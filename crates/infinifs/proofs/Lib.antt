@@ -1,2 +1,2 @@
 pub mod CommandFacts
-pub mod RunFacts
+pub mod PlacesFacts

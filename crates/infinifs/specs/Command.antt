@@ -1,28 +1,35 @@
 -- What the program does with its words, its input and its output, by the status that it ends with.
-use Rattle.std.specs.Prelude.{◌≡◌, ℕ, ◌+◌, ◌-◌, ◌^◌, ◌<◌, Bool, true, false, ◌≤◌, nat_lt, if◌then◌else◌, List, [], ◌∷◌, ◌++◌, length, take, Option, Some, option_map, Result, Ok, Err, IfSome, codes}
+use Rattle.std.specs.Prelude.{◌≡◌, ◌⊎◌, ℕ, Bool, true, false, ◌≤◌, nat_lt, List, [], ◌∷◌, ◌++◌, length, reverse, take, Option, Result, Ok, Err, IfSome, codes}
 use Rattle.std.specs.Fmt.{decimal}
+use Rattle.std.specs.List.{list_all}
 use Rattle.std.specs.Str.{bytes_eq}
 use Rattle.std.specs.Io.KnownBytes.{Appends, Keeps}
-use Rattle.inf_base.specs.declared.answer.Answer.{Answer}
-use Rattle.inf_base.specs.declared.setup.ClientLine.{ClientLine}
 use Rattle.inf_base.specs.declared.setup.Setup.{Setup}
+use Rattle.inf_base.specs.Setup.{IsValid}
+use Rattle.inf_core.specs.Legal.{Legal}
+use Rattle.inf_core.specs.Outcome.{Outcome, decisions}
+use Rattle.inf_core.specs.World.{world_of}
 use Rattle.inf_io.specs.Faults.{Rose}
+use Rattle.inf_message.specs.declared.call_result.CallResult.{CallResult}
+use Rattle.inf_message.specs.declared.event.Event.{Event}
+use Rattle.inf_order.specs.declared.moves.Move.{Move}
+use Rattle.inf_order.specs.Order.{is_move_of}
+use Rattle.inf_report.specs.Report.{line, report}
+use Rattle.inf_report.specs.Writing.{AppendsFront}
+use Rattle.inf_sched.specs.Order.{ByOrder}
 use Rattle.inf_script.specs.declared.refusal.ScriptRefusal.{ScriptRefusal}
 use Rattle.inf_script.specs.declared.refusal.Why.{Why}
 use Rattle.inf_script.specs.declared.refusal.Why.TheVariants as why
 use Rattle.inf_script.specs.declared.script.Script.{Script}
 use Rattle.inf_script.specs.Reading.{meaning}
 use Rattle.inf_script.specs.declared.script.TheConstants.{MOST_SCRIPT_BYTES}
+use Rattle.inf_tree.specs.Replay.{Replays}
 use Rattle.inf_tree.specs.Tree.{opening_tree}
-use Rattle.inf_tree.specs.Replay.{Replays, answers_of, decided, requests_of}
-use Rattle.inf_script.specs.Built.{IsBuilt}
-use Rattle.inf_base.specs.Setup.{IsValid}
 use Rattle.infinifs.specs.declared.input.Text.{Text}
 use Rattle.infinifs.specs.declared.input.InputFault.{InputFault}
 use Rattle.infinifs.specs.declared.input.InputFault.TheVariants as fault
 use Rattle.infinifs.specs.declared.status.Status.{Status}
 use Rattle.infinifs.specs.declared.status.Status.TheVariants as status
-use Rattle.infinifs.specs.Report.{line, report}
 
 -- the one word that is accepted
 abbrev pub are_accepted : List (List ℕ) → Bool
@@ -46,23 +53,52 @@ why_text why.NotUtf8 = codes "not-utf8"
 abbrev pub refusal_line : ScriptRefusal → List ℕ
 refusal_line refusal = line (codes "script " ++ decimal refusal.line ++ codes " " ++ why_text refusal.why)
 
--- the calls of the first client, each answered in turn on one tree
-abbrev pub run_report : List ClientLine → List ℕ
-run_report [] = report [] [] []
-run_report (client ∷ others) = report (client ∷ others) client.calls (answers_of opening_tree client.caller client.calls)
+-- ---- what a text comes to
 
-abbrev pub output_of : Result Script ScriptRefusal → List ℕ
-output_of (Ok script) = run_report script.setup.clients
-output_of (Err refusal) = refusal_line refusal
+-- the text is a script, and the bytes are the report of an outcome that its order makes: a legal history, with the newest
+-- event first, and results that agree with it and whose calls, by place, are answered as on the plain tree
+pub record IsReportOf (text bytes : List ℕ) : Type 0 where
+  pub setup : Setup
+  pub order : List Move
+  pub h : List Event
+  pub results : List CallResult
+  pub read : meaning text ≡ Ok (record { setup = setup; order = order })
+  pub valid : IsValid setup
+  pub legal : Legal (world_of setup) h
+  pub outcome : Outcome (world_of setup) h results
+  pub by_order : ByOrder (world_of setup) order h results
+  pub replays : Replays opening_tree (decisions (world_of setup) h results)
+  pub told : bytes ≡ report setup (reverse h) results
 
--- what `sched` writes for a text: the report of its script, or the line of its refusal
-abbrev pub sched_output : List ℕ → List ℕ
-sched_output text = output_of (meaning text)
+-- the text is no script, and the bytes are the line of its refusal
+pub record IsRefusalOf (text bytes : List ℕ) : Type 0 where
+  pub refusal : ScriptRefusal
+  pub read : meaning text ≡ Err refusal
+  pub told : bytes ≡ refusal_line refusal
 
--- a front of these bytes was written, all of them or not
-pub record AppendsFront (old new : Option (List ℕ)) (bytes : List ℕ) : Type 0 where
-  pub count : ℕ
-  pub front : Appends old new (take count bytes)
+-- the report of an outcome of the script that the text is was written
+pub record Reported (text : List ℕ) (old new : Option (List ℕ)) : Type 0 where
+  pub bytes : List ℕ
+  pub reports : IsReportOf text bytes
+  pub written : Appends old new bytes
+
+-- the line of the text's refusal was written
+pub record RefusedScript (text : List ℕ) (old new : Option (List ℕ)) : Type 0 where
+  pub bytes : List ℕ
+  pub refuses : IsRefusalOf text bytes
+  pub written : Appends old new bytes
+
+-- a front of a report or of a refusal's line was written, all of it or not
+pub record PartWritten (text : List ℕ) (old new : Option (List ℕ)) : Type 0 where
+  pub bytes : List ℕ
+  pub is_output : IsReportOf text bytes ⊎ IsRefusalOf text bytes
+  pub front : AppendsFront old new bytes
+
+-- nothing was written, or a front of what was to be written
+abbrev pub BreaksOff : Option (List ℕ) → Option (List ℕ) → Option (List ℕ) → Type 0
+BreaksOff text old new = Keeps old new ⊎ IfSome text (λ t. PartWritten t old new)
+
+-- ---- what the parts of a run do
 
 -- what reading the source did: it gave as much of the text as a script may have, and whether there is more
 abbrev pub TextDid : Result Text InputFault → Option (List ℕ) → ℕ → ℕ → Type 0
@@ -72,9 +108,15 @@ TextDid (Err fault.Read) text before after = Rose before after
 TextDid (Err (fault.Refused refusal)) text before after = ⊥
 TextDid (Err fault.NoMemory) text before after = Unit {0}
 
--- what reading the script did: it gave the setup that the text says, or a refusal, or the source failed
-abbrev pub InputDid : Result Setup InputFault → Option (List ℕ) → ℕ → ℕ → Type 0
-InputDid (Ok setup) text before after = IfSome text (λ t. meaning t ≡ Ok (record { setup = setup })) × IsValid setup × IsBuilt setup
+-- the script is what the text says, and may be run
+pub record IsScriptOf (text : Option (List ℕ)) (script : Script) : Type 0 where
+  pub read : IfSome text (λ t. meaning t ≡ Ok script)
+  pub valid : IsValid script.setup
+  pub moves : list_all (is_move_of script.setup.servers (length script.setup.clients)) script.order ≡ true
+
+-- what reading the script did: it gave the script that the text is, or a refusal, or the source failed
+abbrev pub InputDid : Result Script InputFault → Option (List ℕ) → ℕ → ℕ → Type 0
+InputDid (Ok script) text before after = IsScriptOf text script
 InputDid (Err fault.Read) text before after = Rose before after
 InputDid (Err (fault.Refused refusal)) text before after = IfSome text (λ t. meaning t ≡ Err refusal)
 InputDid (Err fault.NoMemory) text before after = Unit {0}
@@ -94,23 +136,16 @@ WriteDid whole text status.WriteFault before after old new = Rose before after �
 WriteDid whole text status.NoMemory before after old new = AppendsFront old new text
 WriteDid whole text status before after old new = (status ≡ whole) × Appends old new text
 
--- the text was a script; its calls were answered in turn, as the plain tree answers them from the opening tree on, and
--- the report of these answers was written
-pub record Reported (text : List ℕ) (old new : Option (List ℕ)) : Type 0 where
-  pub setup : Setup
-  pub client : ClientLine
-  pub answers : List Answer
-  pub read : meaning text ≡ Ok (record { setup = setup })
-  pub only_client : setup.clients ≡ client ∷ []
-  pub answered : answers ≡ answers_of opening_tree client.caller client.calls
-  pub replays : Replays opening_tree (decided (requests_of client.caller client.calls) answers)
-  pub written : Appends old new (report setup.clients client.calls answers)
-
--- the text was no script, and the line of its refusal was written
-pub record RefusedScript (text : List ℕ) (old new : Option (List ℕ)) : Type 0 where
-  pub refusal : ScriptRefusal
-  pub read : meaning text ≡ Err refusal
-  pub written : Appends old new (refusal_line refusal)
+-- what running a script did, whatever text it was read from
+abbrev pub ScriptDid : Script → Status → ℕ → ℕ → Option (List ℕ) → Option (List ℕ) → Type 0
+ScriptDid script status.Done before after old new = (text : List ℕ) → meaning text ≡ Ok script → Reported text old new
+ScriptDid script status.WordsRefused before after old new = ⊥
+ScriptDid script status.ReadFault before after old new = ⊥
+ScriptDid script status.ScriptRefused before after old new = ⊥
+ScriptDid script status.WriteFault before after old new =
+    Rose before after × ((text : List ℕ) → meaning text ≡ Ok script → PartWritten text old new)
+ScriptDid script status.NoMemory before after old new =
+    Keeps old new ⊎ ((text : List ℕ) → meaning text ≡ Ok script → PartWritten text old new)
 
 -- the bytes that the source had left, the counts of faults of source and sink, and the bytes that the sink held
 pub record Run : Type 0 where
@@ -128,8 +163,8 @@ SchedDid status.Done run = IfSome run.text (λ text. Reported text run.held_befo
 SchedDid status.WordsRefused run = ⊥
 SchedDid status.ReadFault run = Rose run.source_before run.source_after × Keeps run.held_before run.held_after
 SchedDid status.ScriptRefused run = IfSome run.text (λ text. RefusedScript text run.held_before run.held_after)
-SchedDid status.WriteFault run = Rose run.sink_before run.sink_after × IfSome run.text (λ text. AppendsFront run.held_before run.held_after (sched_output text))
-SchedDid status.NoMemory run = IfSome run.text (λ text. AppendsFront run.held_before run.held_after (sched_output text))
+SchedDid status.WriteFault run = Rose run.sink_before run.sink_after × BreaksOff run.text run.held_before run.held_after
+SchedDid status.NoMemory run = BreaksOff run.text run.held_before run.held_after
 
 abbrev pub code_of : Status → ℕ
 code_of status.Done = 0
@@ -138,7 +173,3 @@ code_of status.ReadFault = 2
 code_of status.ScriptRefused = 3
 code_of status.WriteFault = 4
 code_of status.NoMemory = 5
-
--- what the program writes for its words and its text
-abbrev pub output : List (List ℕ) → Option (List ℕ) → Option (List ℕ)
-output words text = if are_accepted words then option_map sched_output text else Some usage_line

@@ -1,3 +1,1 @@
 pub mod Command
-pub mod Report
-pub mod Texts

@@ -5,7 +5,6 @@ ghost use Rattle.inf_io.specs.Faults.{Rose};
 ghost use Rattle.inf_script.specs.declared.script.TheConstants.{MOST_SCRIPT_BYTES};
 ghost use Rattle.infinifs.specs.Command.{InputDid, TextDid};
 
-use inf_base::Setup;
 use inf_io::{ReadFault, Source, read_all};
 use inf_script::{MOST_SCRIPT_BYTES, Script, ScriptFault, ScriptRefusal, read_script};
 use std::alloc::Global;
@@ -39,8 +38,8 @@ fn text_of<S: Source>(alloc: Global, source: &mut S) -> Result<Text, InputFault>
     }
 }
 
-/// The setup of the script that all bytes of the source spell.
-pub fn setup_of<S: Source>(alloc: Global, source: &mut S) -> Result<Setup, InputFault>
+/// The script that all bytes of the source spell.
+pub fn script_of<S: Source>(alloc: Global, source: &mut S) -> Result<Script, InputFault>
     ensures { InputDid result (S.left source.old) (S.faults source.old) (S.faults source.new) }
 {
     let text = match text_of(alloc, source) {
@@ -48,7 +47,7 @@ pub fn setup_of<S: Source>(alloc: Global, source: &mut S) -> Result<Setup, Input
         Err(fault) => return Err(fault),
     };
     match read_script(alloc, &text.bytes, text.more) {
-        Ok(Script { setup }) => Ok(setup),
+        Ok(script) => Ok(script),
         Err(ScriptFault::Refused(refusal)) => Err(InputFault::Refused(refusal)),
         Err(ScriptFault::NoMemory) => Err(InputFault::NoMemory),
     }

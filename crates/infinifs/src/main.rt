@@ -2,13 +2,10 @@
 #![tactic(auto)]
 
 mod input;
-mod report;
-mod run;
 mod sched;
 mod status;
 #[cfg(test)]
 mod tests;
-mod texts;
 mod top;
 
 use inf_io::{ReadSource, WriteSink};

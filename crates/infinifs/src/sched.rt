@@ -1,29 +1,35 @@
-//! The command `sched`: a script in, the report of its calls out.
+//! The command `sched`: a script in, the report of its run out.
 
-ghost use Rattle.std.specs.Prelude.{◌≡◌, Contains, [], ◌∷◌, IfOk, IfSome};
+ghost use Rattle.std.specs.Prelude.{◌≡◌, Contains, true, [], ◌∷◌, length, IfOk, IfSome, OnErr, OnOk};
+ghost use Rattle.std.specs.List.{list_all};
 ghost use Rattle.std.specs.Io.KnownBytes.{Keeps};
 ghost use Rattle.inf_base.specs.Setup.{IsValid};
+ghost use Rattle.inf_core.specs.Places.{HaveOwnPlaces};
 ghost use Rattle.inf_io.specs.Faults.{Rose};
-ghost use Rattle.inf_script.specs.Built.{IsBuilt};
+ghost use Rattle.inf_order.specs.Order.{is_move_of};
+ghost use Rattle.inf_report.specs.Report.{report};
+ghost use Rattle.inf_script.specs.Reading.{meaning};
 ghost use Rattle.infinifs.specs.declared.status.Status.TheVariants as status;
-ghost use Rattle.infinifs.specs.Command.{AppendsFront, Reported, RefusedScript, SchedDid, WriteDid, WritesWhole, sched_output, run_report, refusal_line, why_text};
+ghost use Rattle.infinifs.specs.Command.{BreaksOff, Reported, RefusedScript, SchedDid, ScriptDid, WriteDid, WritesWhole, refusal_line, why_text};
 
-use crate::input::{InputFault, setup_of};
+use crate::input::{InputFault, script_of};
 use crate::status::Status;
-use crate::{report, run};
 use inf_base::{NoMemory, Setup};
+use inf_core::Outcome;
 use inf_io::{Sink, Source, write_all};
-use inf_script::{ScriptRefusal, Why};
+use inf_report::{ReportFault, write_report};
+use inf_sched::schedule;
+use inf_script::{Script, ScriptRefusal, Why};
 use std::alloc::Global;
 
-/// Runs the script that all bytes of the source spell, and writes the report of its calls. A text that is no script is
-/// answered by the line that says why. The statuses are 0 for a report, 2 for a fault of the source, 3 for a refused
+/// Runs the script that all bytes of the source spell, under its order, and writes the report. A text that is no script
+/// is answered by the line that says why. The statuses are 0 for a report, 2 for a fault of the source, 3 for a refused
 /// script, 4 for a fault of the sink and 5 for want of memory. Where source and sink do not tell their bytes, as
 /// standard input and output do not, nothing is said of them.
 pub fn sched_command<S: Source, K: Sink>(alloc: Global, source: &mut S, sink: &mut K) -> u8
     ensures statuses { Contains (0 ∷ 2 ∷ 3 ∷ 4 ∷ 5 ∷ []) result }
 
-    // The report of the script was written, in which each call has the answer of the plain tree.
+    // The report of an outcome that the script's order makes was written.
     ensures reported { result ≡ 0 → IfSome (S.left source.old)
         (λ text. Reported text (K.held sink.old) (K.held sink.new)) }
     ensures refused_script { result ≡ 3 → IfSome (S.left source.old)
@@ -35,13 +41,21 @@ pub fn sched_command<S: Source, K: Sink>(alloc: Global, source: &mut S, sink: &m
 
     // The sink failed in this call, and a front of what was to be written is there.
     ensures sink_failed { result ≡ 4 → Rose (K.faults sink.old) (K.faults sink.new) }
-    ensures part_written { Contains (4 ∷ 5 ∷ []) result → IfSome (S.left source.old)
-        (λ text. AppendsFront (K.held sink.old) (K.held sink.new) (sched_output text)) }
+    ensures part_written { Contains (4 ∷ 5 ∷ []) result →
+        BreaksOff (S.left source.old) (K.held sink.old) (K.held sink.new) }
+
+    // Without a fault a script is reported and a text that is none is refused, or memory was wanting.
+    ensures complete { ¬ Rose (S.faults source.old) (S.faults source.new) →
+        ¬ Rose (K.faults sink.old) (K.faults sink.new) →
+        IfSome (S.left source.old) (λ text. OnOk (meaning text) (Contains (0 ∷ 5 ∷ []) result)) }
+    ensures refusal_told { ¬ Rose (S.faults source.old) (S.faults source.new) →
+        ¬ Rose (K.faults sink.old) (K.faults sink.new) →
+        IfSome (S.left source.old) (λ text. OnErr (meaning text) (Contains (3 ∷ 5 ∷ []) result)) }
 {
-    run_script(alloc, source, sink).code()
+    run_text(alloc, source, sink).code()
 }
 
-fn run_script<S: Source, K: Sink>(alloc: Global, source: &mut S, sink: &mut K) -> Status
+fn run_text<S: Source, K: Sink>(alloc: Global, source: &mut S, sink: &mut K) -> Status
     ensures { SchedDid result (record {
       text = S.left source.old;
       source_before = S.faults source.old;
@@ -52,23 +66,38 @@ fn run_script<S: Source, K: Sink>(alloc: Global, source: &mut S, sink: &mut K) -
       held_after = K.held sink.new;
     }) }
 {
-    match setup_of(alloc, source) {
-        Ok(setup) => write_report(alloc, &setup, sink),
+    match script_of(alloc, source) {
+        Ok(script) => run_script(alloc, &script, sink),
         Err(InputFault::Refused(refusal)) => write_refusal(alloc, refusal, sink),
         Err(InputFault::Read) => Status::ReadFault,
         Err(InputFault::NoMemory) => Status::NoMemory,
     }
 }
 
-fn write_report<K: Sink>(alloc: Global, setup: &Setup, sink: &mut K) -> Status
-    requires valid { IsValid setup.now }
-    requires built { IsBuilt setup.now }
-    ensures { WriteDid status.Done (run_report setup.now.clients) result
+fn run_script<K: Sink>(alloc: Global, script: &Script, sink: &mut K) -> Status
+    requires valid { IsValid script.now.setup }
+    requires moves { list_all (is_move_of script.now.setup.servers (length script.now.setup.clients))
+        script.now.order ≡ true }
+    ensures { ScriptDid script.now result
         (K.faults sink.old) (K.faults sink.new) (K.held sink.old) (K.held sink.new) }
 {
-    match report_of(alloc, setup) {
-        Ok(text) => write(&text, Status::Done, sink),
+    match schedule(alloc, &script.setup, script.order.as_slice()) {
+        Ok(outcome) => write_outcome(alloc, &script.setup, &outcome, sink),
         Err(NoMemory) => Status::NoMemory,
+    }
+}
+
+fn write_outcome<K: Sink>(alloc: Global, setup: &Setup, outcome: &Outcome, sink: &mut K) -> Status
+    requires { HaveOwnPlaces (length outcome.now.history) outcome.now.results }
+    ensures { WriteDid status.Done (report setup.now outcome.now.history outcome.now.results) result
+        (K.faults sink.old) (K.faults sink.new) (K.held sink.old) (K.held sink.new) }
+{
+    let events = outcome.history.as_slice();
+    let results = outcome.results.as_slice();
+    match write_report(alloc, sink, setup, events, results) {
+        Ok(()) => Status::Done,
+        Err(ReportFault::Write) => Status::WriteFault,
+        Err(ReportFault::NoMemory) => Status::NoMemory,
     }
 }
 
@@ -92,18 +121,6 @@ pub fn write<K: Sink>(text: &[u8], done: Status, sink: &mut K) -> Status
         Ok(()) => done,
         Err(_) => Status::WriteFault,
     }
-}
-
-fn report_of(alloc: Global, setup: &Setup) -> Result<Vec<u8>, NoMemory>
-    requires valid { IsValid setup.now }
-    requires built { IsBuilt setup.now }
-    ensures { IfOk result (λ text. text.items ≡ run_report setup.now.clients) }
-{
-    let clients = setup.clients.as_slice();
-    let [client] = clients else { unreachable!() };
-    let calls = client.calls.as_slice();
-    let answers = run::answers(alloc, client.caller, calls)?;
-    report::text(alloc, clients, calls, &answers)
 }
 
 fn why_word(why: Why) -> &'static [u8]

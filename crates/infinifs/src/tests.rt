@@ -6,15 +6,47 @@ use std::alloc::Global;
 use std::process::Abort;
 use std::test::Fail;
 
-const SCRIPT: &[u8] =
-    b"infinifs 1\nclient a 0 0\ncall a create /f 644\ncall a stat /f\ncall a create /f 600\ncall a stat /g\nend\n";
+const SCRIPT: &[u8] = b"infinifs 1\n\
+      servers 2\n\
+      client a 0 0\n\
+      client b 0 0\n\
+      call a create /f 644\n\
+      call b stat /f\n\
+      order +a +b s0 s0 +a +b s0:b s0\n\
+      end\n";
 
-const REPORT: &[u8] =
-    b"infinifs report 0\na.1 create /f 644 = done\na.2 stat /f = stat file 644 0 0 0\na.3 create /f 600 = refused EEXIST\na.4 stat /g = refused ENOENT\nend\n";
+/// Both clients look up the root, then the stat is served before the create.
+const REPORT: &[u8] = b"infinifs report 1\n\
+      servers 2\n\
+      digest-bytes 32\n\
+      cache 256\n\
+      client a 0 0\n\
+      client b 0 0\n\
+      calls 2\n\
+      7 b.1 stat /f = refused ENOENT first 2 last 7 attempts 1 rounds 1 messages 2\n\
+      8 a.1 create /f 644 = done first 1 last 8 attempts 1 rounds 1 messages 2\n\
+      events 8\n\
+      1 ask a.1 s0 lookup top\n\
+      2 ask b.1 s0 lookup top\n\
+      3 serve s0 1 found top e3b0c44298fc1c149afbf4c8996fb92427ae41e4649b934ca495991b7852b855#0 755 0 0 root\n\
+      4 serve s0 2 found top e3b0c44298fc1c149afbf4c8996fb92427ae41e4649b934ca495991b7852b855#0 755 0 0 root\n\
+      5 ask a.1 s0 finish 3 create f 644\n\
+      6 ask b.1 s0 finish 4 stat f\n\
+      7 serve s0 6 refused ENOENT\n\
+      8 serve s0 5 fine\n\
+      end\n";
+
+const EMPTY_SCRIPT: &[u8] = b"infinifs 1\nend\n";
+
+const EMPTY_REPORT: &[u8] = b"infinifs report 1\n\
+      servers 1\n\
+      digest-bytes 32\n\
+      cache 256\n\
+      calls 0\n\
+      events 0\n\
+      end\n";
 
 const USAGE: &[u8] = b"usage: infinifs sched | run | work START SIZE\n";
-
-const REFUSED: &[u8] = b"script 1 bad-word\n";
 
 /// A source of these bytes in pieces of `piece`, of whose calls those of the numbers in `fails` fail.
 fn source(alloc: Global, bytes: &[u8], piece: usize, fails: &[u64]) -> Result<MemSource, Fail>
@@ -55,32 +87,23 @@ fn expect_run(
 }
 
 #[test]
-fn creates_and_stats_are_reported(rt: HostRuntime) -> Result<(), Fail> {
-    expect_run(&rt, rt.alloc(), SCRIPT, 0, REPORT)?;
-    let empty = b"infinifs 1\nclient a 0 0\nend\n";
-    expect_run(&rt, rt.alloc(), empty, 0, b"infinifs report 0\nend\n")
+fn an_order_decides_which_call_comes_first(rt: HostRuntime) -> Result<(), Fail> {
+    expect_run(&rt, rt.alloc(), SCRIPT, 0, REPORT)
 }
 
 #[test]
-fn texts_of_another_form_are_refused(rt: HostRuntime) -> Result<(), Fail> {
-    let texts: [&[u8]; 12] = [
-        b"",
-        b"infinifs 1\n",
-        b"infinifs 2\nclient a 0 0\nend\n",
-        b"infinifs 1\nclient a 0 0\nend",
-        b"infinifs 1\nend\n",
-        b"infinifs 1\nclient a 0 0\nclient b 0 0\nend\n",
-        b"infinifs 1\nclient a 0 1\nend\n",
-        b"infinifs 1\nclient a 0 0\ncall b stat /f\nend\n",
-        b"infinifs 1\nclient a 0 0\ncall a stat /f/g\nend\n",
-        b"infinifs 1\nclient a 0 0\ncall a create /f 648\nend\n",
-        b"infinifs 1\nclient a 0 0\ncall a stat  /f\nend\n",
-        b"infinifs 1\nclient a 0 0\ncall a stat /\xff\nend\n",
-    ];
-    for text in texts {
-        expect_run(&rt, rt.alloc(), text, 3, REFUSED)?;
-    }
-    Ok(())
+fn the_empty_script_is_reported(rt: HostRuntime) -> Result<(), Fail> {
+    expect_run(&rt, rt.alloc(), EMPTY_SCRIPT, 0, EMPTY_REPORT)
+}
+
+#[test]
+fn refused_scripts_are_answered_by_a_line(rt: HostRuntime) -> Result<(), Fail> {
+    let alloc = rt.alloc();
+    expect_run(&rt, alloc, b"", 3, b"script 1 bad-word\n")?;
+    let text = b"infinifs 1\nclient a 0 0\ncall b stat /f\nend\n";
+    expect_run(&rt, alloc, text, 3, b"script 3 unknown-client\n")?;
+    let text = b"infinifs 1\nservers 1\nclient a 0 0\norder s1\nend\n";
+    expect_run(&rt, alloc, text, 3, b"script 4 bad-number\n")
 }
 
 #[test]
@@ -105,19 +128,23 @@ fn other_words_are_answered_by_the_usage_line(rt: HostRuntime) -> Result<(), Fai
 }
 
 #[test]
-fn faults_of_source_and_sink_end_the_run(rt: HostRuntime) -> Result<(), Fail> {
+fn a_fault_of_the_source_ends_the_run(rt: HostRuntime) -> Result<(), Fail> {
     let words = words_of(rt.alloc(), &["sched"])?;
-
-    let mut whole = source(rt.alloc(), SCRIPT, 7, &[])?;
-    let mut failing = sink(rt.alloc(), 10, &[2])?;
-    let answer = infinifs(rt.alloc(), &words, &mut whole, &mut failing);
-    assert_eq!(rt; answer, 4);
-    assert_eq!(rt; failing.held(), b"infinifs r".as_slice());
-
     let mut failing = source(rt.alloc(), SCRIPT, 4, &[2])?;
     let mut empty = sink(rt.alloc(), 11, &[])?;
     let answer = infinifs(rt.alloc(), &words, &mut failing, &mut empty);
     assert_eq!(rt; answer, 2);
     assert_eq!(rt; empty.held(), b"".as_slice());
+    Ok(())
+}
+
+#[test]
+fn a_fault_of_the_sink_leaves_a_front(rt: HostRuntime) -> Result<(), Fail> {
+    let words = words_of(rt.alloc(), &["sched"])?;
+    let mut whole = source(rt.alloc(), SCRIPT, 7, &[])?;
+    let mut failing = sink(rt.alloc(), 10, &[2])?;
+    let answer = infinifs(rt.alloc(), &words, &mut whole, &mut failing);
+    assert_eq!(rt; answer, 4);
+    assert_eq!(rt; failing.held(), b"infinifs r".as_slice());
     Ok(())
 }

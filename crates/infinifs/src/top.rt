@@ -1,9 +1,11 @@
 //! All that the program does, over its words, a source and a sink.
 
-ghost use Rattle.std.specs.Prelude.{◌≡◌, Contains, true, false, [], ◌∷◌, ◌≤◌, map, string_bytes, IfSome};
+ghost use Rattle.std.specs.Prelude.{◌≡◌, Contains, true, false, [], ◌∷◌, ◌≤◌, map, string_bytes, IfSome, OnErr, OnOk};
 ghost use Rattle.std.specs.Io.KnownBytes.{Appends, Keeps};
 ghost use Rattle.inf_io.specs.Faults.{Rose};
-ghost use Rattle.infinifs.specs.Command.{AppendsFront, Reported, RefusedScript, are_accepted, output, usage_line};
+ghost use Rattle.inf_report.specs.Writing.{AppendsFront};
+ghost use Rattle.inf_script.specs.Reading.{meaning};
+ghost use Rattle.infinifs.specs.Command.{BreaksOff, Reported, RefusedScript, are_accepted, usage_line};
 
 use crate::sched::{sched_command, write};
 use crate::status::Status;
@@ -36,7 +38,7 @@ pub fn infinifs<S: Source, K: Sink>(
     ensures refused { result ≡ 1 → are_accepted (map string_bytes words.now) ≡ false }
     ensures accepted { Contains (0 ∷ 2 ∷ 3 ∷ []) result → are_accepted (map string_bytes words.now) ≡ true }
 
-    // The report of the script was written, in which each call has the answer of the plain tree.
+    // The report of an outcome that the script's order makes was written.
     ensures reported { result ≡ 0 → IfSome (S.left source.old)
         (λ text. Reported text (K.held sink.old) (K.held sink.new)) }
     ensures refused_script { result ≡ 3 → IfSome (S.left source.old)
@@ -49,8 +51,21 @@ pub fn infinifs<S: Source, K: Sink>(
     // The sink failed in this call, and a front of what was to be written is there.
     ensures sink_failed { result ≡ 4 → Rose (K.faults sink.old) (K.faults sink.new) }
     ensures part_written { Contains (4 ∷ 5 ∷ []) result →
-        IfSome (output (map string_bytes words.now) (S.left source.old))
-        (λ text. AppendsFront (K.held sink.old) (K.held sink.new) text) }
+        are_accepted (map string_bytes words.now) ≡ true →
+        BreaksOff (S.left source.old) (K.held sink.old) (K.held sink.new) }
+    ensures part_of_usage { Contains (4 ∷ 5 ∷ []) result →
+        are_accepted (map string_bytes words.now) ≡ false →
+        AppendsFront (K.held sink.old) (K.held sink.new) usage_line }
+
+    // Without a fault a script is reported and a text that is none is refused, or memory was wanting.
+    ensures complete { are_accepted (map string_bytes words.now) ≡ true →
+        ¬ Rose (S.faults source.old) (S.faults source.new) →
+        ¬ Rose (K.faults sink.old) (K.faults sink.new) →
+        IfSome (S.left source.old) (λ text. OnOk (meaning text) (Contains (0 ∷ 5 ∷ []) result)) }
+    ensures refusal_told { are_accepted (map string_bytes words.now) ≡ true →
+        ¬ Rose (S.faults source.old) (S.faults source.new) →
+        ¬ Rose (K.faults sink.old) (K.faults sink.new) →
+        IfSome (S.left source.old) (λ text. OnErr (meaning text) (Contains (3 ∷ 5 ∷ []) result)) }
 {
     if are_accepted(words) {
         sched_command(alloc, source, sink)

@@ -1,4 +1,4 @@
-use Rattle.std.proofs.Common.{length, arith}
+use Rattle.std.proofs.Common.{arith}
 use Rattle.infinifs.proofs.CommandFacts.{whole_text}
 use Rattle.infinifs.proofs.input.text_of.Goals as goal
 

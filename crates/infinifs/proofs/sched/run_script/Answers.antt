@@ -1,6 +1,24 @@
-use Rattle.infinifs.proofs.CommandFacts.{sched_reported}
+use Rattle.std.proofs.Common.{inl, reverse, subst}
+use Rattle.std.proofs.KnownBytes.{Keeps-refl}
+use Rattle.inf_core.specs.World.{world_of}
+use Rattle.inf_sched.specs.Order.{ByOrder}
+use Rattle.infinifs.proofs.CommandFacts.{outcome_did}
+use Rattle.infinifs.proofs.PlacesFacts.{own_places-reverse}
 use Rattle.infinifs.proofs.sched.run_script.Goals as goal
+
+pub write_outcome-requires : goal.write_outcome-requires
+write_outcome-requires g c =
+    let made = c.in-Ok.outcome in
+    own_places-reverse (world_of c.args.script.now.setup) made.history made.results c.in-Ok.ensures.legal c.in-Ok.ensures.outcome
 
 pub returns-in-Ok : goal.returns-in-Ok
 returns-in-Ok g c =
-    sched_reported _ c.in-Ok.setup c.write_report.result c.in-Ok.ensures.0 c.in-Ok.ensures.2 c.write_report.ensures
+    let setup = c.args.script.now.setup in
+    let made = c.in-Ok.outcome in
+    let is_made = c.in-Ok.ensures in
+    let by_order = subst (λ order. ByOrder (world_of setup) order (reverse made.history) made.results) c.as_slice.ensures is_made.by_order in
+    let did = outcome_did c.args.script.now made.history made.results c.requires.valid is_made.legal is_made.outcome by_order is_made.replays in
+    did c.write_outcome.result _ _ _ _ c.write_outcome.ensures
+
+pub returns-in-Err : goal.returns-in-Err
+returns-in-Err g c = inl (Keeps-refl _)
