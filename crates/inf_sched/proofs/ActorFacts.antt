@@ -1,15 +1,14 @@
 -- What a step of a client does, case by case.
-use Rattle.std.proofs.Common.{◌≡◌, ◌≢◌, ◌⊎◌, ℕ, Bool, true, false, List, [], ◌∷◌, is_some, refl, sym, ap, subst, ◌∙◌, inl, inr}
+use Rattle.std.proofs.Common.{◌≡◌, ◌≢◌, ℕ, true, false, List, [], ◌∷◌, refl, ap, ◌∙◌, inl, inr}
 use Rattle.inf_core.specs.Client.{Client, Sent}
 use Rattle.inf_core.specs.ClientStep.{IsQuiet, is_ask, next_as}
 use Rattle.inf_core.specs.Duty.{Duty, begun, next_step}
 use Rattle.inf_core.specs.Group.{composed}
 use Rattle.inf_core.specs.Outcome.{all_given_up}
-use Rattle.inf_core.specs.Turn.{next_op}
 use Rattle.inf_core.specs.declared.client_step.ClientStep.{ClientStep}
 use Rattle.inf_core.specs.declared.client_step.ClientStep.TheVariants as step
 use Rattle.inf_message.specs.declared.ask.Ask.{Ask}
-use Rattle.inf_sched.specs.Actor.{Actor, AsksNext, GaveUp, IsIdle, Rests, Steps, actor}
+use Rattle.inf_sched.specs.Actor.{Actor, AsksNext, Rests, Steps, actor}
 use Rattle.inf_sched.specs.Scene.{planned, planned_from}
 
 pub planned_between : (sent : List Sent) (s : Client) → sent ≡ [] → planned_from sent s ≡ composed s

@@ -1,5 +1,5 @@
 -- How the moves of an order go on, step by step.
-use Rattle.std.proofs.Common.{◌≡◌, ◌⊎◌, ℕ, zero, suc, ◌+◌, ◌-◌, ◌≤◌, ◌<◌, Bool, true, false, nat_lt, not, ◌&&◌, ◌||◌, List, [], ◌∷◌, ◌++◌, length, take, get_or, Option, None, Some, refl, sym, ap, subst, ◌∙◌, arith, rules, inl, inr}
+use Rattle.std.proofs.Common.{◌≡◌, ℕ, zero, suc, ◌+◌, ◌-◌, ◌≤◌, ◌<◌, Bool, true, false, nat_lt, not, ◌&&◌, ◌||◌, List, [], ◌∷◌, ◌++◌, length, take, get_or, Option, None, Some, refl, sym, ap, subst, ◌∙◌, arith, inl, inr}
 use Rattle.std.proofs.lemmas.Bool.{lt-ltb}
 use Rattle.std.proofs.lemmas.List.{take_more}
 use Rattle.std.specs.List.{list_all}
@@ -7,10 +7,10 @@ use Rattle.inf_base.specs.declared.id.Id.{Id}
 use Rattle.inf_core.specs.Core.{IsSameRun, world_in}
 use Rattle.inf_core.specs.World.{World}
 use Rattle.inf_order.specs.declared.moves.Move.{Move}
-use Rattle.inf_sched.specs.Moves.{ByAlone, ByCall, ByCalls, ByMove, ByRest, ByStep, FollowedBy, GoesOn, HasNoAsk, IfElse, ServesOn}
+use Rattle.inf_sched.specs.Moves.{ByAlone, ByCalls, ByMove, ByRest, ByStep, IfElse, ServesOn}
 use Rattle.inf_sched.specs.Order.{ByMoves}
-use Rattle.inf_sched.specs.Run.{HasAdvanced, HasCalled, HasCalledOnce, HasNoCall, HasNothingLeft, HasOldestServed, HasStepped, IsAlong, IsMoved, Playing, scene_of}
-use Rattle.inf_sched.specs.Scene.{Asks, MakesServe, Scene, calls_left, has_calls, has_ended, is_gone, number_in}
+use Rattle.inf_sched.specs.Run.{HasAdvanced, HasCalled, HasCalledOnce, HasNothingLeft, HasStepped, IsAlong, IsMoved, Playing, scene_of}
+use Rattle.inf_sched.specs.Scene.{MakesServe, Scene, calls_left, has_calls, has_ended, is_gone, number_in}
 use Rattle.inf_sched.specs.Waiting.{Posting, is_by, oldest}
 use Rattle.inf_sched.specs.declared.limits.TheConstants.{MOST_EVENTS}
 use Rattle.inf_sched.proofs.ServeFacts.{same_world}
@@ -116,7 +116,6 @@ moves_pushed world (first ∷ moves) move old now new before made =
 -- ---- on the way
 
 module _ {R : Type 0} (digest_of : R → List ℕ → Id) where
-
   in_world : (P : World → Type 0) (entry now : Playing R) → IsSameRun entry.core now.core → P (world_in digest_of now.core) → P (world_in digest_of entry.core)
   in_world P entry now same holds = subst P (same_world digest_of entry.core now.core same) holds
 
@@ -128,7 +127,7 @@ module _ {R : Type 0} (digest_of : R → List ℕ → Id) where
       → has_ended (world_in digest_of now.core) client number (scene_of now) ≡ true → ByAlone (world_in digest_of entry.core) client number most (scene_of entry) (scene_of now)
   alone_along_ended client number most counter entry now along ended =
       along.leads (scene_of now) (alone_ended (of entry) client number (most - counter) (scene_of now)
-        (in_world (λ w. has_ended w client number (scene_of now) ≡ true) entry now along.same ended))
+      (in_world (λ w. has_ended w client number (scene_of now) ≡ true) entry now along.same ended))
 
   pub alone_along_stops : (client number most counter : ℕ) (entry now after : Playing R)
       → IsAlong (ByAlone (world_in digest_of entry.core) client number (most - counter)) (ByAlone (world_in digest_of entry.core) client number most) entry now
@@ -138,9 +137,9 @@ module _ {R : Type 0} (digest_of : R → List ℕ → Id) where
   alone_along_stops client number most counter entry now after along within going rests =
       let next : most - counter ≡ suc (most - (counter + 1)) = omega arith in
       along.leads (scene_of after) (subst (λ n. ByAlone (of entry) client number n (scene_of now) (scene_of after)) (sym next)
-        (alone_stops (of entry) client number (most - (counter + 1)) (scene_of now) (scene_of after)
-          (in_world (λ w. has_ended w client number (scene_of now) ≡ false) entry now along.same going)
-          (in_world (λ w. HasNothingLeft w client (scene_of now) (scene_of after)) entry now along.same rests)))
+      (alone_stops (of entry) client number (most - (counter + 1)) (scene_of now) (scene_of after)
+      (in_world (λ w. has_ended w client number (scene_of now) ≡ false) entry now along.same going)
+      (in_world (λ w. HasNothingLeft w client (scene_of now) (scene_of after)) entry now along.same rests)))
 
   pub alone_along_goes : (client number most counter : ℕ) (entry now after : Playing R)
       → IsAlong (ByAlone (world_in digest_of entry.core) client number (most - counter)) (ByAlone (world_in digest_of entry.core) client number most) entry now
@@ -152,8 +151,8 @@ module _ {R : Type 0} (digest_of : R → List ℕ → Id) where
       record {
         same = same_trans entry now after along.same same;
         leads = λ last later.
-          along.leads last (subst (λ n. ByAlone (of entry) client number n (scene_of now) last) (sym next)
-          (alone_goes (of entry) client number (most - (counter + 1)) (scene_of now) (scene_of after) last
+            along.leads last (subst (λ n. ByAlone (of entry) client number n (scene_of now) last) (sym next)
+            (alone_goes (of entry) client number (most - (counter + 1)) (scene_of now) (scene_of after) last
             (in_world (λ w. has_ended w client number (scene_of now) ≡ false) entry now along.same going)
             (in_world (λ w. HasAdvanced true w client (scene_of now) (scene_of after)) entry now along.same advanced)
             later));
@@ -175,16 +174,19 @@ module _ {R : Type 0} (digest_of : R → List ℕ → Id) where
     where
       w : World
       w = of run
+
       ends : has_ended w client (number_in w (scene_of run) client) (scene_of after) ≡ b
       ends =
           subst (λ n. has_ended w client n (scene_of after) ≡ b) is
           (in_world (λ v. has_ended v client number (scene_of after) ≡ b) run after same (sym ended))
+
       once : (t : Bool) → has_ended w client (number_in w (scene_of run) client) (scene_of after) ≡ t → HasCalledOnce t w client (scene_of run) (scene_of after)
       once t e = record {
         some = some_has_calls w client (scene_of run) here some;
         call = subst (λ n. ByAlone w client n MOST_EVENTS (scene_of run) (scene_of after)) is alone;
         ends = e;
       }
+
       by : (t : Bool) → has_ended w client (number_in w (scene_of run) client) (scene_of after) ≡ t → HasCalled t w client (scene_of run) (scene_of after)
       by true e = once true e
       by false e = inl (once false e)
@@ -196,8 +198,8 @@ module _ {R : Type 0} (digest_of : R → List ℕ → Id) where
   calls_along_stops client most counter entry now after along within once =
       let next : most - counter ≡ suc (most - (counter + 1)) = omega arith in
       along.leads (scene_of after) (subst (λ n. ByCalls (of entry) client n (scene_of now) (scene_of after)) (sym next)
-        (calls_stops (of entry) client (most - (counter + 1)) (scene_of now) (scene_of after)
-          (in_world (λ w. HasCalled false w client (scene_of now) (scene_of after)) entry now along.same once)))
+      (calls_stops (of entry) client (most - (counter + 1)) (scene_of now) (scene_of after)
+      (in_world (λ w. HasCalled false w client (scene_of now) (scene_of after)) entry now along.same once)))
 
   pub calls_along_goes : (client most counter : ℕ) (entry now after : Playing R)
       → IsAlong (ByCalls (world_in digest_of entry.core) client (most - counter)) (ByCalls (world_in digest_of entry.core) client most) entry now
@@ -208,8 +210,8 @@ module _ {R : Type 0} (digest_of : R → List ℕ → Id) where
       record {
         same = same_trans entry now after along.same same;
         leads = λ last later.
-          along.leads last (subst (λ n. ByCalls (of entry) client n (scene_of now) last) (sym next)
-          (calls_goes (of entry) client (most - (counter + 1)) (scene_of now) (scene_of after) last
+            along.leads last (subst (λ n. ByCalls (of entry) client n (scene_of now) last) (sym next)
+            (calls_goes (of entry) client (most - (counter + 1)) (scene_of now) (scene_of after) last
             (in_world (λ w. HasCalled true w client (scene_of now) (scene_of after)) entry now along.same once) later));
       }
 
@@ -229,8 +231,8 @@ module _ {R : Type 0} (digest_of : R → List ℕ → Id) where
       record {
         same = same_trans entry now after along.same same;
         leads = λ last later.
-          along.leads last (subst (λ n. ByRest (of entry) client n (scene_of now) last) (sym next)
-          (rest_goes (of entry) client (many - (client + 1)) (scene_of now) (scene_of after) last
+            along.leads last (subst (λ n. ByRest (of entry) client n (scene_of now) last) (sym next)
+            (rest_goes (of entry) client (many - (client + 1)) (scene_of now) (scene_of after) last
             (in_world (λ w. ByCalls w client (calls_left w (scene_of now) client) (scene_of now) (scene_of after)) entry now along.same calls) later));
       }
 
@@ -248,8 +250,8 @@ module _ {R : Type 0} (digest_of : R → List ℕ → Id) where
   moved_more order index move entry now after moved within is made same = record {
     same = same_trans entry now after moved.same same;
     made = subst (λ ms. ByMoves (of entry) ms (scene_of entry) (scene_of after))
-      (sym (take_more order index move within ∙ ap (λ m. take index order ++ m ∷ []) (sym is)))
-      (moves_pushed (of entry) (take index order) move (scene_of entry) (scene_of now) (scene_of after) moved.made
+        (sym (take_more order index move within ∙ ap (λ m. take index order ++ m ∷ []) (sym is)))
+        (moves_pushed (of entry) (take index order) move (scene_of entry) (scene_of now) (scene_of after) moved.made
         (in_world (λ w. ByMove w move (scene_of now) (scene_of after)) entry now moved.same made));
   }
 

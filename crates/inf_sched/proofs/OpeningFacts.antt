@@ -1,24 +1,21 @@
 -- How a run begins, and what its calls come to in the end.
-use Rattle.std.proofs.Common.{◌≡◌, ◌≢◌, ℕ, zero, suc, ◌+◌, ◌≤◌, ◌<◌, Bool, true, false, cond, eqb, nat_lt, not, ◌&&◌, ◌||◌, List, [], ◌∷◌, ◌++◌, length, map, slice_get, Option, None, Some, refl, sym, ap, ap₂, subst, ◌∙◌, arith, rules, length-append}
-use Rattle.std.specs.List.{flat_map, find}
-use Rattle.std.specs.Option.{option_map}
+use Rattle.std.proofs.Common.{◌≡◌, ℕ, zero, suc, ◌+◌, ◌<◌, Bool, true, false, nat_lt, ◌||◌, List, [], ◌∷◌, ◌++◌, length, map, slice_get, Some, refl, sym, ap, ap₂, subst, ◌∙◌, arith, rules, length-append}
+use Rattle.std.specs.List.{flat_map}
 use Rattle.std.proofs.lemmas.List.{map-append}
 use Rattle.std.proofs.lemmas.List.Elements.{All-nil}
-use Rattle.std.proofs.lemmas.Option.{slice_get-map, slice_get_within}
+use Rattle.std.proofs.lemmas.Option.{slice_get_within}
 use Rattle.inf_base.specs.declared.setup.ClientLine.{ClientLine}
 use Rattle.inf_core.specs.Client.{Client, start}
 use Rattle.inf_core.specs.Legal.{client_after}
-use Rattle.inf_core.specs.Outcome.{all_given_up, results_of}
+use Rattle.inf_core.specs.Outcome.{results_of}
 use Rattle.inf_core.specs.World.{World}
 use Rattle.inf_core.proofs.CoreFacts.{got_before, got_pushed}
-use Rattle.inf_core.proofs.Placed.{counted_same}
-use Rattle.inf_message.specs.declared.call_result.CallResult.{CallResult}
 use Rattle.inf_message.specs.declared.event.Event.{Event}
 use Rattle.inf_sched.specs.Actor.{Actor, actor}
 use Rattle.inf_sched.specs.Order.{came_to, results_from}
 use Rattle.inf_sched.specs.Run.{AreActors, AreEmpty, AreOpening, AreQueues, IsActor, IsKept, IsStateOf, gone_of, results_of_actor, unset}
-use Rattle.inf_sched.specs.Scene.{Scene, has_ended, is_gone, is_set, number_in, calls_left, opening}
-use Rattle.inf_sched.specs.Waiting.{IsQueue, IsWithin, Posting, is_by, is_open, is_to}
+use Rattle.inf_sched.specs.Scene.{has_ended, is_gone, number_in, calls_left, opening}
+use Rattle.inf_sched.specs.Waiting.{IsQueue, IsWithin, Posting, is_by, is_to}
 use Rattle.inf_sched.proofs.RunFacts.{gone_at, scene, state_here}
 
 -- ---- the beginning
@@ -33,6 +30,7 @@ push_each P xs y old new k x at = by (nat_lt k (length xs)) refl
   where
     within : k < length (xs ++ y ∷ [])
     within = slice_get_within (xs ++ y ∷ []) k x at
+
     by : (b : Bool) → nat_lt k (length xs) ≡ b → P k x
     by true below = let so : k < length xs = grind (arith, rules) in old k x (sym (got_before xs y k so) ∙ at)
     by false above =
@@ -51,7 +49,7 @@ opening_more world many actors all next are is pushed =
       count = omega (arith, length-append actors (next ∷ []), are.count);
       each = push_each (λ k x. x ≡ actor (start world k) false) actors next are.each (is ∙ ap (λ n. actor (start world n) false) (sym are.count));
       gone = map-append (λ (a : Actor). a.gone) actors (next ∷ [])
-        ∙ ap₂ (λ gs (a : Actor). gs ++ a.gone ∷ []) are.gone is ∙ unset_more many ∙ (let e : suc many ≡ many + 1 = omega arith in ap unset e);
+          ∙ ap₂ (λ gs (a : Actor). gs ++ a.gone ∷ []) are.gone is ∙ unset_more many ∙ (let e : suc many ≡ many + 1 = omega arith in ap unset e);
     })
 
 pub empty_none : AreEmpty 0 []
@@ -143,7 +141,7 @@ results_from_same world h whole client (a ∷ actors) [] are = absurd (omega (ar
 results_from_same world h whole client (a ∷ actors) (line ∷ lines) are =
     let at : slice_get whole client ≡ Some a = (let e : client ≡ client + 0 = omega arith in ap (slice_get whole) e) ∙ sym (are.there 0) in
     let first : results_of_actor a ≡ came_to (is_gone (scene h whole) client) (client_after world client h) =
-          came_same (client_after world client h) a (are.each client a at) ∙ ap (λ g. came_to g (client_after world client h)) (sym (gone_at h whole client a at)) in
+    came_same (client_after world client h) a (are.each client a at) ∙ ap (λ g. came_to g (client_after world client h)) (sym (gone_at h whole client a at)) in
     ap₂ (λ xs ys. xs ++ ys) first (results_from_same world h whole (client + 1) actors lines (record {
       count = omega (arith, are.count);
       there = λ k. are.there (suc k) ∙ (let e : client + suc k ≡ client + 1 + k = omega arith in ap (slice_get whole) e);

@@ -1,5 +1,5 @@
 -- What a run keeps as its clients ask and its servers serve.
-use Rattle.std.proofs.Common.{◌≡◌, ◌≢◌, ℕ, zero, suc, ◌+◌, ◌≤◌, ◌<◌, Bool, true, false, cond, eqb, not, ◌&&◌, ◌||◌, List, [], ◌∷◌, ◌++◌, length, map, slice_get, slice_set, Option, None, Some, IfSome, All, get_or, refl, sym, ap, ap₂, subst, ◌∙◌, arith, inl, inr}
+use Rattle.std.proofs.Common.{◌≡◌, ◌≢◌, ℕ, zero, suc, ◌+◌, ◌≤◌, ◌<◌, Bool, true, false, cond, eqb, not, ◌&&◌, ◌||◌, List, [], ◌∷◌, ◌++◌, length, slice_get, slice_set, Option, None, Some, IfSome, All, get_or, refl, sym, ap, ap₂, subst, ◌∙◌, arith, inl, inr}
 use Rattle.std.specs.List.{find}
 use Rattle.std.specs.Option.{option_map, option_or}
 use Rattle.std.proofs.lemmas.List.{length-set, map-set}
@@ -10,12 +10,12 @@ use Rattle.inf_base.specs.declared.id.Id.{Id}
 use Rattle.inf_core.specs.Client.{Client}
 use Rattle.inf_core.specs.Core.{world_in}
 use Rattle.inf_core.specs.Duty.{asked, next_step}
-use Rattle.inf_core.specs.Legal.{Legal, MayAsk, MayServe, client_after}
+use Rattle.inf_core.specs.Legal.{Legal, client_after}
 use Rattle.inf_core.specs.World.{World}
 use Rattle.inf_core.proofs.CoreFacts.{got_apart, got_set}
 use Rattle.inf_core.proofs.Driven.{others_stay}
 use Rattle.inf_core.proofs.Placed.{counted_same, same_counted}
-use Rattle.inf_core.proofs.Posted.{IsKnown, posted_known}
+use Rattle.inf_core.proofs.Posted.{posted_known}
 use Rattle.inf_message.specs.declared.ask.Ask.{Ask}
 use Rattle.inf_message.specs.declared.event.Event.{Event}
 use Rattle.inf_message.specs.declared.event.Event.TheVariants as event
@@ -56,12 +56,13 @@ ask_skips fits h number ask queue is other = record { finds = λ also. finds als
   where
     new : Posting
     new = posting (suc (length h)) number ask.from.client
+
     finds : (also : Posting → Bool) → find (λ p. also p && is_open h p) queue ≡ find (λ p. also p && (fits p && is_open h p)) (postings h ++ new ∷ [])
     finds also =
         is.finds also
         ∙ sym (or_none (find (λ p. also p && (fits p && is_open h p)) (postings h)))
         ∙ ap (option_or (find (λ p. also p && (fits p && is_open h p)) (postings h)))
-          (sym (find_one (λ p. also p && (fits p && is_open h p)) new false (ap (λ b. also new && (b && is_open h new)) other ∙ and_false (also new))))
+        (sym (find_one (λ p. also p && (fits p && is_open h p)) new false (ap (λ b. also new && (b && is_open h new)) other ∙ and_false (also new))))
         ∙ sym (find-append (λ p. also p && (fits p && is_open h p)) (postings h) (new ∷ []))
 
 -- one that fits joins it
@@ -75,12 +76,13 @@ ask_joins fits h number ask queue is fit = record {
   where
     new : Posting
     new = posting (suc (length h)) number ask.from.client
+
     finds : (also : Posting → Bool) → find (λ p. also p && is_open h p) (queue ++ new ∷ []) ≡ find (λ p. also p && (fits p && is_open h p)) (postings h ++ new ∷ [])
     finds also =
         find-append (λ p. also p && is_open h p) queue (new ∷ [])
         ∙ ap₂ option_or (is.finds also)
-          (find_one (λ p. also p && is_open h p) new (also new && is_open h new) refl
-          ∙ sym (find_one (λ p. also p && (fits p && is_open h p)) new (also new && is_open h new) (ap (λ b. also new && (b && is_open h new)) fit)))
+        (find_one (λ p. also p && is_open h p) new (also new && is_open h new) refl
+        ∙ sym (find_one (λ p. also p && (fits p && is_open h p)) new (also new && is_open h new) (ap (λ b. also new && (b && is_open h new)) fit)))
         ∙ sym (find-append (λ p. also p && (fits p && is_open h p)) (postings h) (new ∷ []))
 
 shut : (a o s : Bool) → (a && not (s || o)) ≡ ((a && not s) && not o)
@@ -100,9 +102,9 @@ serve_keeps : (fits : Posting → Bool) (h : List Event) (number place : ℕ) (g
     → IsQueue fits (event.Serve number place given ∷ h) queue
 serve_keeps fits h number place given queue is = record {
   finds = λ also.
-    find_same _ (λ p. (also p && not (eqb place p.place)) && is_open h p) queue (λ p. shut (also p) (is_served p.place h) (eqb place p.place))
-    ∙ is.finds (λ p. also p && not (eqb place p.place))
-    ∙ find_same (λ p. (also p && not (eqb place p.place)) && (fits p && is_open h p)) _ (postings h)
+      find_same _ (λ p. (also p && not (eqb place p.place)) && is_open h p) queue (λ p. shut (also p) (is_served p.place h) (eqb place p.place))
+      ∙ is.finds (λ p. also p && not (eqb place p.place))
+      ∙ find_same (λ p. (also p && not (eqb place p.place)) && (fits p && is_open h p)) _ (postings h)
       (λ p. sym (shut_fitting (also p) (fits p) (is_served p.place h) (eqb place p.place)));
   within = later_within (event.Serve number place given) h queue is.within;
 }
@@ -145,9 +147,9 @@ asked_queues : (fits : ℕ → Posting → Bool) (h : List Event) (many index nu
 asked_queues fits h many index number ask queues queue are at fit others = record {
   count = length-set queues index (queue ++ posting (suc (length h)) number ask.from.client ∷ []) ∙ are.count;
   each = set_each (λ k q. IsQueue (fits k) (event.Ask number ask ∷ h) q) queues index (queue ++ posting (suc (length h)) number ask.from.client ∷ [])
-    (slice_get_within queues index queue at)
-    (ask_joins (fits index) h number ask queue (are.each index queue at) fit)
-    (λ k q unlike at_k. ask_skips (fits k) h number ask q (are.each k q at_k) (others k unlike));
+      (slice_get_within queues index queue at)
+      (ask_joins (fits index) h number ask queue (are.each index queue at) fit)
+      (λ k q unlike at_k. ask_skips (fits k) h number ask q (are.each k q at_k) (others k unlike));
 }
 
 served_queues : (fits : ℕ → Posting → Bool) (h : List Event) (many number place : ℕ) (given : Reply) (queues : List (List Posting))
@@ -162,8 +164,8 @@ front_queues : (fits : ℕ → Posting → Bool) (h : List Event) (many index : 
 front_queues fits h many index queues queue rest are at left = record {
   count = length-set queues index rest ∙ are.count;
   each = set_each (λ k q. IsQueue (fits k) h q) queues index rest (slice_get_within queues index queue at)
-    (front_keeps (fits index) h queue rest (are.each index queue at) left)
-    (λ k q unlike at_k. are.each k q at_k);
+      (front_keeps (fits index) h queue rest (are.each index queue at) left)
+      (λ k q unlike at_k. are.each k q at_k);
 }
 
 -- ---- all clients
@@ -179,7 +181,7 @@ asked_actors : (world : World) (h after : List Event) (client : ℕ) (p : Postin
 asked_actors world h after client p actors a b are at did = record {
   count = length-set actors client b ∙ are.count;
   each = set_each (λ k x. IsActor (client_after world k after) x) actors client b (slice_get_within actors client a at) did.actor
-    (λ k x unlike at_k.
+      (λ k x unlike at_k.
       subst (λ s. IsActor s x)
       (sym (ap (client_after world k) did.joins ∙ other_asks world h did.number k did.ask (λ same. unlike (same ∙ did.own))))
       (are.each k x at_k));
@@ -190,7 +192,7 @@ gave_up_actors : (world : World) (h after : List Event) (client : ℕ) (actors :
 gave_up_actors world h after client actors a b are at did = record {
   count = length-set actors client b ∙ are.count;
   each = set_each (λ k x. IsActor (client_after world k h) x) actors client b (slice_get_within actors client a at) did.actor
-    (λ k x unlike at_k. are.each k x at_k);
+      (λ k x unlike at_k. are.each k x at_k);
 }
 
 served_actors : (world : World) (h after : List Event) (p : Posting) (actors : List Actor) (a b : Actor) → Legal world h → IsWaiting h p
@@ -198,7 +200,7 @@ served_actors : (world : World) (h after : List Event) (p : Posting) (actors : L
 served_actors world h after p actors a b legal waits are at did = record {
   count = length-set actors p.client b ∙ are.count;
   each = set_each (λ k x. IsActor (client_after world k after) x) actors p.client b (slice_get_within actors p.client a at) did.actor
-    (λ k x unlike at_k.
+      (λ k x unlike at_k.
       subst (λ s. IsActor s x)
       (sym (ap (client_after world k) did.joins
       ∙ others_stay world h legal k p.number p.place did.given (posted_ask p.number waits.ask) waits.asked (λ same. unlike (sym same ∙ waits.own))))
@@ -219,15 +221,15 @@ kept_asked world h after client p actors to by a b q r kept at did at_to at_by =
       legal = did.legal;
       clients = asked_actors world h after client p actors a b kept.clients at did;
       servers =
-        subst (λ g. AreQueues is_to g (world.setup.servers + 1) (slice_set to p.number (q ++ p ∷ []))) (sym did.joins)
-        (subst (λ x. AreQueues is_to (event.Ask did.number did.ask ∷ h) (world.setup.servers + 1) (slice_set to p.number (q ++ x ∷ []))) (sym is)
-        (asked_queues is_to h (world.setup.servers + 1) p.number did.number did.ask to q kept.servers at_to
+          subst (λ g. AreQueues is_to g (world.setup.servers + 1) (slice_set to p.number (q ++ p ∷ []))) (sym did.joins)
+          (subst (λ x. AreQueues is_to (event.Ask did.number did.ask ∷ h) (world.setup.servers + 1) (slice_set to p.number (q ++ x ∷ []))) (sym is)
+          (asked_queues is_to h (world.setup.servers + 1) p.number did.number did.ask to q kept.servers at_to
           (same_counted did.number p.number (sym number))
           (λ k unlike. unlike_test did.number k (λ same. unlike (sym same ∙ sym number)))));
       askers =
-        subst (λ g. AreQueues is_by g (length world.setup.clients) (slice_set by client (r ++ p ∷ []))) (sym did.joins)
-        (subst (λ x. AreQueues is_by (event.Ask did.number did.ask ∷ h) (length world.setup.clients) (slice_set by client (r ++ x ∷ []))) (sym is)
-        (asked_queues is_by h (length world.setup.clients) client did.number did.ask by r kept.askers at_by
+          subst (λ g. AreQueues is_by g (length world.setup.clients) (slice_set by client (r ++ p ∷ []))) (sym did.joins)
+          (subst (λ x. AreQueues is_by (event.Ask did.number did.ask ∷ h) (length world.setup.clients) (slice_set by client (r ++ x ∷ []))) (sym is)
+          (asked_queues is_by h (length world.setup.clients) client did.number did.ask by r kept.askers at_by
           (same_counted did.ask.from.client client did.own)
           (λ k unlike. unlike_test did.ask.from.client k (λ same. unlike (sym same ∙ did.own)))));
     }
@@ -252,7 +254,8 @@ kept_served world h after p actors to by a b kept waits at did = record {
 pub kept_front_to : (world : World) (h : List Event) (number : ℕ) (actors : List Actor) (to by : List (List Posting)) (q rest : List Posting)
     → IsKept world h actors to by → slice_get to number ≡ Some q → IsFrontLeft h q rest → IsKept world h actors (slice_set to number rest) by
 kept_front_to world h number actors to by q rest kept at left = record {
-  legal = kept.legal; clients = kept.clients;
+  legal = kept.legal;
+  clients = kept.clients;
   servers = front_queues is_to h (world.setup.servers + 1) number to q rest kept.servers at left;
   askers = kept.askers;
 }
@@ -260,7 +263,9 @@ kept_front_to world h number actors to by q rest kept at left = record {
 pub kept_front_by : (world : World) (h : List Event) (client : ℕ) (actors : List Actor) (to by : List (List Posting)) (q rest : List Posting)
     → IsKept world h actors to by → slice_get by client ≡ Some q → IsFrontLeft h q rest → IsKept world h actors to (slice_set by client rest)
 kept_front_by world h client actors to by q rest kept at left = record {
-  legal = kept.legal; clients = kept.clients; servers = kept.servers;
+  legal = kept.legal;
+  clients = kept.clients;
+  servers = kept.servers;
   askers = front_queues is_by h (length world.setup.clients) client by q rest kept.askers at left;
 }
 
@@ -330,7 +335,7 @@ asked_server world h after client p a b some did =
     let number : did.number ≡ p.number = ap (λ (x : Posting). x.number) (sym did.posted) in
     subst (λ n. n < world.setup.servers) number
     ((posted_known world (suc (length h)) (posted_ask did.number did.ask) after did.legal
-      (ap (asked_at (suc (length h))) did.joins ∙ asked_newest did.number did.ask h)).there some)
+    (ap (asked_at (suc (length h))) did.joins ∙ asked_newest did.number did.ask h)).there some)
 
 pub oldest_to_is : (h : List Event) (number : ℕ) (queue : List Posting) → IsQueue (is_to number) h queue → find (is_open h) queue ≡ oldest (is_to number) h
 oldest_to_is h number queue is = is.finds (λ p. true)
@@ -404,7 +409,7 @@ gives_up world h after client actors a b at is did = inr (record {
   can = wants_same world h actors client a at is ∙ did.asking;
   between = ap (λ (s : Client). s.sent) (sym (state_here (client_after world client h) a is did.here)) ∙ did.between;
   gone = ap₂ (λ g gs. record { history = g; gone = gs }) did.same
-    (map-set (λ (x : Actor). x.gone) actors client b ∙ ap (λ g. slice_set (gone_of actors) client g) did.gone);
+      (map-set (λ (x : Actor). x.gone) actors client b ∙ ap (λ g. slice_set (gone_of actors) client g) did.gone);
 })
 
 pub has_no_ask : (world : World) (h after : List Event) (client : ℕ) (actors : List Actor) (a b : Actor) → slice_get actors client ≡ Some a → IsActor (client_after world client h) a

@@ -1,5 +1,5 @@
 -- What a run comes to once the moves of its order are made.
-use Rattle.std.proofs.Common.{◌≡◌, ℕ, List, [], length, reverse, refl, sym, ap, ap₂, subst, ◌∙◌}
+use Rattle.std.proofs.Common.{◌≡◌, ℕ, List, [], reverse, sym, ap, ap₂, subst, ◌∙◌}
 use Rattle.std.proofs.lemmas.List.{reverse-reverse}
 use Rattle.inf_base.specs.declared.id.Id.{Id}
 use Rattle.inf_base.specs.declared.setup.Setup.{Setup}

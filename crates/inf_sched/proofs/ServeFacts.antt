@@ -67,15 +67,15 @@ has_served world p h after place given a b waits is newest next legal telling =
     let number : next.number ≡ p.number = to_server world h p next.number given waits next.may in
     let joins : after ≡ event.Serve p.number p.place given ∷ h = next.joins ∙ ap (λ n. event.Serve n p.place given ∷ h) number in
     let told : b ≡ actor (served p.place (told_reply (suc (length h)) given) a.state) a.gone =
-          telling ∙ ap (λ n. actor (served p.place (told_reply n given) a.state) a.gone) newest in
+    telling ∙ ap (λ n. actor (served p.place (told_reply n given) a.state) a.gone) newest in
     record {
       given = given;
       may = subst (λ n. MayServe world h n p.place given) number next.may;
       joins = joins;
       same_gone = ap (λ (x : Actor). x.gone) told;
       actor = subst (λ x. IsActor (client_after world p.client after) x) (sym told)
-        (subst (λ g. IsStateOf a.gone (client_after world p.client g) (served p.place (told_reply (suc (length h)) given) a.state)) (sym joins)
-        (served_state world h p.client p.number p.place given a.gone a.state is));
+          (subst (λ g. IsStateOf a.gone (client_after world p.client g) (served p.place (told_reply (suc (length h)) given) a.state)) (sym joins)
+          (served_state world h p.client p.number p.place given a.gone a.state is));
       legal = legal;
     }
 

@@ -1,13 +1,12 @@
 -- What comes of letting a client ask, by what its step told.
-use Rattle.std.proofs.Common.{◌≡◌, ◌⊎◌, ℕ, suc, ◌+◌, ◌≤◌, ◌<◌, ◌^◌, Bool, true, false, cond, eqb, not, ◌&&◌, List, [], ◌∷◌, length, slice_get, refl, sym, ap, subst, ◌∙◌, arith, inl, inr, ⊎_elim}
+use Rattle.std.proofs.Common.{◌≡◌, ℕ, suc, ◌+◌, ◌≤◌, ◌<◌, ◌^◌, Bool, true, false, cond, not, ◌&&◌, List, [], ◌∷◌, length, slice_get, refl, sym, ap, subst, ◌∙◌, arith, inl, inr}
 use Rattle.inf_core.specs.Client.{Client, Sent, placed}
 use Rattle.inf_core.specs.Outcome.{all_given_up}
 use Rattle.inf_sched.specs.Scene.{planned}
-use Rattle.inf_core.specs.ClientStep.{is_ask, next_as}
-use Rattle.inf_core.specs.Duty.{Duty, asked, asks, at_call, begun, next_step}
+use Rattle.inf_core.specs.ClientStep.{is_ask}
+use Rattle.inf_core.specs.Duty.{Duty, asked, begun, next_step}
 use Rattle.inf_core.specs.Legal.{Legal, MayAsk, client_after}
 use Rattle.inf_core.specs.World.{World}
-use Rattle.inf_core.specs.declared.client_step.ClientStep.{ClientStep}
 use Rattle.inf_core.specs.declared.client_step.ClientStep.TheVariants as step
 use Rattle.inf_core.proofs.BegunFacts.{at_call_messages}
 use Rattle.inf_core.proofs.Driven.{messages_within}
@@ -16,9 +15,9 @@ use Rattle.inf_core.proofs.ResultFacts.{client_of}
 use Rattle.inf_message.specs.declared.ask.Ask.{Ask}
 use Rattle.inf_message.specs.declared.event.Event.{Event}
 use Rattle.inf_message.specs.declared.event.Event.TheVariants as event
-use Rattle.inf_sched.specs.Actor.{Actor, AsksNext, GaveUp, IsIdle, Rests, Steps, actor, wants_to_ask}
-use Rattle.inf_sched.specs.Run.{Asked, Did, HasGivenUp, HasRested, IsActor, IsGivenUp, IsStateOf, rested}
-use Rattle.inf_sched.specs.Waiting.{Posting, posting}
+use Rattle.inf_sched.specs.Actor.{Actor, AsksNext, Rests, Steps, actor, wants_to_ask}
+use Rattle.inf_sched.specs.Run.{Asked, Did, IsActor, IsGivenUp, IsStateOf, rested}
+use Rattle.inf_sched.specs.Waiting.{posting}
 
 -- ---- a client that asks
 
@@ -46,7 +45,7 @@ may_ask world client number h ask a b there is next =
     record {
       client = subst (λ c. c < length world.setup.clients) (sym own) there;
       duty = subst (λ c. Duty (client_after world c h) number ask) (sym own)
-        (subst (λ (s : Client). Duty s number ask) same next.duty);
+          (subst (λ (s : Client). Duty s number ask) same next.duty);
     }
 
 pub ready_here : (number : ℕ) (ask : Ask) (a b : Actor) → AsksNext number ask a b → b.gone ≡ false
@@ -83,7 +82,7 @@ asked_did world client number place h after ask a b c there legal is next newest
     let begins : b.state ≡ begun ask s.sent s = ap (λ (x : Actor). x.state) next.ready ∙ ap (λ (t : Client). begun ask t.sent t) same in
     let state : placed place b.state ≡ asked (suc (length h)) ask s = ap (λ (t : Client). placed place t) begins ∙ ap (λ p. placed p (begun ask s.sent s)) newest in
     let follows : client_after world client after ≡ asked (suc (length h)) ask s =
-          ap (client_after world client) joins ∙ ap (λ t. cond t (asked (suc (length h)) ask s) s) (same_counted ask.from.client client own) in
+    ap (client_after world client) joins ∙ ap (λ t. cond t (asked (suc (length h)) ask s) s) (same_counted ask.from.client client own) in
     let is_after : placed place b.state ≡ client_after world client after = state ∙ sym follows in
     record {
       number = number;
@@ -122,9 +121,9 @@ rested_did world client h a b is (inr giving) =
     let same : a.state ≡ s = here_state s a is here in
     let gone : b.gone ≡ true = ap (λ (x : Actor). x.gone) giving.all in
     let given : IsGivenUp s b.state = record {
-          between = ap (λ (t : Client). t.sent) (sym same) ∙ giving.between;
-          all = ap (λ (x : Actor). x.state) giving.all ∙ ap (λ (t : Client). all_given_up t.left t) same;
-        } in
+      between = ap (λ (t : Client). t.sent) (sym same) ∙ giving.between;
+      all = ap (λ (x : Actor). x.state) giving.all ∙ ap (λ (t : Client). all_given_up t.left t) same;
+    } in
     subst (λ g. Did world client (rested g b.gone) h h a b) (sym here)
     (subst (λ g. Did world client (rested false g) h h a b) (sym gone)
     (record {

@@ -17,7 +17,6 @@ use Rattle.inf_core.specs.declared.stage.Stage.{Stage}
 use Rattle.inf_core.specs.declared.stage.Stage.TheVariants as stage
 use Rattle.inf_core.proofs.Placed.{reads}
 use Rattle.inf_core.proofs.ResultFacts.{IsKept, all_given_up_keeps, begun_keeps, by_serve, client_of, if_both}
-use Rattle.inf_message.specs.declared.ask.Ask.{Ask}
 use Rattle.inf_message.specs.declared.call_result.CallResult.{CallResult}
 use Rattle.inf_message.specs.declared.event.Event.{Event}
 use Rattle.inf_message.specs.declared.event.Event.TheVariants as event

@@ -1,9 +1,9 @@
 -- A client on its way through calls for which memory is wanting.
-use Rattle.std.proofs.Common.{◌≡◌, ◌≢◌, ℕ, suc, ◌+◌, ◌≤◌, ◌<◌, Bool, true, false, cond, eqb, List, [], ◌∷◌, length, Option, None, Some, is_some, refl, sym, ap, subst, ◌∙◌, arith}
+use Rattle.std.proofs.Common.{◌≡◌, ℕ, suc, ◌≤◌, ◌<◌, Bool, true, false, eqb, List, [], ◌∷◌, length, is_some, refl, sym, ap, subst, ◌∙◌, arith}
 use Rattle.inf_base.specs.declared.call.Call.{Call}
 use Rattle.inf_core.specs.Client.{Client, Sent, rest_of}
 use Rattle.inf_core.specs.Duty.{Duty, asks, at_call, begun, given_up, next_step}
-use Rattle.inf_core.specs.Group.{composed, op_of}
+use Rattle.inf_core.specs.Group.{composed}
 use Rattle.inf_core.specs.Outcome.{all_given_up}
 use Rattle.inf_core.specs.Turn.{next_op}
 use Rattle.inf_core.proofs.NextFacts.{IsOf, next_own}
@@ -36,7 +36,7 @@ way_goes entry now way built = record {
   between = refl;
   behind = let so : entry.number ≤ now.number = way.behind in omega arith;
   reach = λ number behind.
-    way.reach number (omega arith) ∙ reach_next number now.left now (omega arith) built;
+      way.reach number (omega arith) ∙ reach_next number now.left now (omega arith) built;
   all = way.all ∙ all_next now.left now built;
   own = way.own;
 }

@@ -1,9 +1,9 @@
 -- The moves of an order: which scenes each may lead to.
-use Rattle.std.specs.Prelude.{◌≡◌, ◌⊎◌, ℕ, zero, suc, ◌+◌, Bool, true, false, List, [], ◌∷◌, length, Option, Some, None}
+use Rattle.std.specs.Prelude.{◌≡◌, ◌⊎◌, ℕ, zero, suc, ◌+◌, Bool, true, false, length, Option, Some, None}
 use Rattle.inf_core.specs.World.{World}
 use Rattle.inf_order.specs.declared.moves.Move.{Move}
 use Rattle.inf_order.specs.declared.moves.Move.TheVariants as move
-use Rattle.inf_sched.specs.Scene.{Scene, Asks, MakesServe, calls_left, can_ask, has_calls, has_ended, is_gone, number_in}
+use Rattle.inf_sched.specs.Scene.{Scene, Asks, MakesServe, calls_left, can_ask, has_calls, has_ended, number_in}
 use Rattle.inf_sched.specs.Waiting.{Posting, is_by, is_for, oldest}
 use Rattle.inf_sched.specs.declared.limits.TheConstants.{MOST_EVENTS}
 
@@ -61,9 +61,9 @@ abbrev pub ByCalls : World → ℕ → ℕ → Scene → Scene → Type 0
 ByCalls world client zero old new = new ≡ old
 ByCalls world client (suc calls) old new =
     IfElse (has_calls world old client)
-      (FollowedBy (λ mid. ByCall world client old mid)
-        (λ mid. IfElse (has_ended world client (number_in world old client) mid) (ByCalls world client calls mid new) (new ≡ mid)))
-      (new ≡ old)
+    (FollowedBy (λ mid. ByCall world client old mid)
+    (λ mid. IfElse (has_ended world client (number_in world old client) mid) (ByCalls world client calls mid new) (new ≡ mid)))
+    (new ≡ old)
 
 -- `*`: so many clients, from this one on, each alone as far as its calls end
 abbrev pub ByRest : World → ℕ → ℕ → Scene → Scene → Type 0

@@ -1,5 +1,5 @@
 -- Where a run stands, and the steps that it takes: a client asks, or wants memory; a server serves.
-use Rattle.std.specs.Prelude.{◌≡◌, ◌⊎◌, ℕ, ◌+◌, Bool, true, false, ◌&&◌, ◌||◌, not, nat_lt, List, [], ◌∷◌, ◌++◌, length, map, slice_get, slice_set, Option, Some, None}
+use Rattle.std.specs.Prelude.{◌≡◌, ◌⊎◌, ℕ, Bool, true, false, ◌&&◌, ◌||◌, not, nat_lt, List, [], ◌∷◌, length, map, slice_get, slice_set, Option, Some, None}
 use Rattle.inf_base.specs.declared.setup.ClientLine.{ClientLine}
 use Rattle.inf_core.specs.Client.{Client, Sent}
 pub use Rattle.inf_core.specs.ClientStep.{is_ask}

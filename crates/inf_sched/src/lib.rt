@@ -11,7 +11,6 @@ mod moving;
 mod opening;
 mod posting;
 mod queue;
-
 mod run;
 mod scheduler;
 mod serving;

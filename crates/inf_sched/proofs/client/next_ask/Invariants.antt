@@ -1,4 +1,4 @@
-use Rattle.std.proofs.Common.{ℕ, length}
+use Rattle.std.proofs.Common.{length}
 use Rattle.inf_sched.specs.Actor.{IsOnTheWay}
 use Rattle.inf_sched.proofs.client.next_ask.Given as goal
 

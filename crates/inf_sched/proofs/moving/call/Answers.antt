@@ -1,8 +1,7 @@
-use Rattle.std.proofs.Common.{◌≡◌, ◌<◌, ◌≤◌, ◌-◌, ℕ, true, false, length, sym, subst, rules, arith, IfOk}
+use Rattle.std.proofs.Common.{subst, rules, IfOk}
 use Rattle.inf_core.specs.Core.{world_in}
-use Rattle.inf_sched.specs.Moves.{ByAlone, ByCalls}
-use Rattle.inf_sched.specs.Run.{HasAdvanced, HasCalled, scene_of}
-use Rattle.inf_sched.specs.Scene.{calls_left, has_ended}
+use Rattle.inf_sched.specs.Moves.{ByAlone}
+use Rattle.inf_sched.specs.Run.{scene_of}
 use Rattle.inf_sched.specs.declared.limits.TheConstants.{MOST_EVENTS}
 use Rattle.inf_sched.proofs.MovingFacts.{call_gone}
 use Rattle.inf_sched.proofs.moving.call.Goals as goal

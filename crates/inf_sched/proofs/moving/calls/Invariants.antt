@@ -1,7 +1,7 @@
-use Rattle.std.proofs.Common.{ℕ, ◌-◌, length}
+use Rattle.std.proofs.Common.{◌-◌}
 use Rattle.inf_core.specs.Core.{world_in}
 use Rattle.inf_sched.specs.Moves.{ByCalls}
-use Rattle.inf_sched.specs.Run.{IsAlong, IsMoved, scene_of}
+use Rattle.inf_sched.specs.Run.{IsAlong}
 use Rattle.inf_sched.proofs.moving.calls.Given as goal
 
 abbrev pub invariant-loop : goal.invariant-loop

@@ -1,13 +1,8 @@
-use Rattle.std.proofs.Common.{◌≡◌, ◌<◌, ◌≤◌, ◌-◌, ℕ, true, false, length, sym, subst, rules, arith, IfOk}
-use Rattle.inf_core.specs.Core.{world_in}
-use Rattle.inf_sched.specs.Moves.{ByAlone, ByCalls}
-use Rattle.inf_sched.specs.Run.{HasAdvanced, HasCalled, scene_of}
-use Rattle.inf_sched.specs.Scene.{calls_left, has_ended}
-use Rattle.inf_sched.specs.declared.limits.TheConstants.{MOST_EVENTS}
+use Rattle.std.proofs.Common.{rules, arith}
 use Rattle.inf_sched.proofs.MovingFacts.{called}
 use Rattle.inf_sched.proofs.moving.next_call.Goals as goal
 
 pub returns-clause-next : goal.returns-clause-next
 returns-clause-next g c =
     called g.R.IdRule.digest_of c.args.client c.number-number.result c.args.run c.in_ok-after.after c.has_ended-has_ended.result
-      (search rules) (search (rules, arith)) (search rules) c.in_ok-after.ensures.alone (search rules) (search rules)
+    (search rules) (search (rules, arith)) (search rules) c.in_ok-after.ensures.alone (search rules) (search rules)

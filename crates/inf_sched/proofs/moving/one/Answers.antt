@@ -1,4 +1,4 @@
-use Rattle.std.proofs.Common.{◌≡◌, sym, subst, rules, IfOk}
+use Rattle.std.proofs.Common.{◌≡◌, subst, rules, IfOk}
 use Rattle.inf_core.specs.Core.{world_in}
 use Rattle.inf_order.specs.declared.moves.Move.TheVariants as move
 use Rattle.inf_sched.specs.Moves.{ByMove}

@@ -1,9 +1,6 @@
-use Rattle.std.proofs.Common.{◌≡◌, ◌<◌, ◌≤◌, ◌-◌, ℕ, true, false, length, sym, subst, rules, arith, IfOk}
+use Rattle.std.proofs.Common.{subst, rules, arith}
 use Rattle.inf_core.specs.Core.{world_in}
-use Rattle.inf_sched.specs.Moves.{ByAlone, ByCalls}
-use Rattle.inf_sched.specs.Run.{HasAdvanced, HasCalled, scene_of}
-use Rattle.inf_sched.specs.Scene.{calls_left, has_ended}
-use Rattle.inf_sched.specs.declared.limits.TheConstants.{MOST_EVENTS}
+use Rattle.inf_sched.specs.Run.{scene_of}
 use Rattle.inf_sched.specs.Moves.{ByRest}
 use Rattle.inf_sched.proofs.MovingFacts.{rest_along_goes, rest_along_over}
 use Rattle.inf_sched.proofs.moving.rest.Goals as goal
@@ -11,7 +8,7 @@ use Rattle.inf_sched.proofs.moving.rest.Goals as goal
 pub loop-client-preserved : goal.loop-client-preserved
 loop-client-preserved g c =
     rest_along_goes g.R.IdRule.digest_of c.loop-client.client c.client_count-many.result c.args.run c.loop-client.now c.in_ok-now.now c.loop-client.invariant
-      (search (rules, arith)) (search rules) (search rules)
+    (search (rules, arith)) (search rules) (search rules)
 
 pub returns-clause-rest : goal.returns-clause-rest
 returns-clause-rest g c =

@@ -1,7 +1,7 @@
-use Rattle.std.proofs.Common.{ℕ, ◌-◌, length}
+use Rattle.std.proofs.Common.{◌-◌}
 use Rattle.inf_core.specs.Core.{world_in}
 use Rattle.inf_sched.specs.Moves.{ByRest}
-use Rattle.inf_sched.specs.Run.{IsAlong, IsMoved, scene_of}
+use Rattle.inf_sched.specs.Run.{IsAlong}
 use Rattle.inf_sched.proofs.moving.rest.Given as goal
 
 abbrev pub invariant-loop-client : goal.invariant-loop-client

@@ -10,5 +10,5 @@ returns-clause-served g c =
     c.in_ok-place.place c.in_ok-place.reply c.args.client.now c.told.new.self c.requires.waits c.requires.actor
     (search rules) (search rules)
     (subst (λ w. Legal w c.serve.new.self.history)
-      (same_world g.R.IdRule.digest_of c.args.core.now c.serve.new.self (search rules)) (search rules))
+    (same_world g.R.IdRule.digest_of c.args.core.now c.serve.new.self (search rules)) (search rules))
     (search rules)

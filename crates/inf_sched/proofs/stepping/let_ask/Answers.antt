@@ -6,7 +6,7 @@ use Rattle.inf_sched.proofs.stepping.let_ask.Goals as goal
 pub ask-requires : goal.ask-requires
 ask-requires g c = record {
   may = may_ask (world_in g.R.IdRule.digest_of c.args.core.now) c.args.number c.in-Ask.server c.args.core.now.history c.in-Ask.ask
-    c.args.client.now c.step.new.self c.requires.there c.requires.actor (search rules);
+      c.args.client.now c.step.new.self c.requires.there c.requires.actor (search rules);
 }
 
 pub asked-requires-clause-room : goal.asked-requires-clause-room

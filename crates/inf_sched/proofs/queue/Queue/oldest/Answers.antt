@@ -1,5 +1,5 @@
 use Rattle.inf_sched.proofs.QueueFacts.{front_leaves}
-use Rattle.std.proofs.Common.{◌∙◌, sym, ap, rules}
+use Rattle.std.proofs.Common.{rules}
 use Rattle.inf_sched.proofs.queue.Queue.oldest.Goals as goal
 
 pub loop-posting-preserved : goal.loop-posting-preserved

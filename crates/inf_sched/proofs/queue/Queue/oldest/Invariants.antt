@@ -1,4 +1,4 @@
-use Rattle.std.proofs.Common.{ℕ, length}
+use Rattle.std.proofs.Common.{length}
 use Rattle.inf_sched.specs.Waiting.{IsFrontLeft}
 use Rattle.inf_sched.proofs.queue.Queue.oldest.Given as goal
 

@@ -1,4 +1,4 @@
-use Rattle.std.proofs.Common.{◌∙◌, sym, ap, rules}
+use Rattle.std.proofs.Common.{rules}
 use Rattle.inf_sched.proofs.QueueFacts.{found_at, none_at, passed_served, passed_server}
 use Rattle.inf_sched.proofs.queue.Queue.oldest_to.Goals as goal
 

@@ -1,4 +1,4 @@
-use Rattle.std.proofs.Common.{◌≡◌, ◌&&◌, ℕ, ◌-◌, length, drop}
+use Rattle.std.proofs.Common.{◌≡◌, ◌&&◌, ◌-◌, length, drop}
 use Rattle.std.specs.List.{find}
 use Rattle.inf_sched.specs.Waiting.{is_open, is_to}
 use Rattle.inf_sched.proofs.queue.Queue.oldest_to.Given as goal

@@ -1,8 +1,8 @@
-use Rattle.std.proofs.Common.{◌≡◌, ◌<◌, ◌||◌, ℕ, false, nat_lt, length, subst, ◌∙◌, sym, rules, arith}
+use Rattle.std.proofs.Common.{◌≡◌, nat_lt, subst, ◌∙◌, rules, arith}
 use Rattle.inf_core.specs.Core.{world_in}
 use Rattle.inf_sched.specs.Run.{Playing, scene_of}
-use Rattle.inf_sched.specs.Scene.{calls_left, has_ended, is_gone, number_in}
-use Rattle.inf_sched.proofs.OpeningFacts.{ended_same, gone_same_as, left_same, number_same}
+use Rattle.inf_sched.specs.Scene.{has_ended}
+use Rattle.inf_sched.proofs.OpeningFacts.{ended_same}
 use Rattle.inf_sched.proofs.RunFacts.{got_there}
 use Rattle.inf_sched.proofs.run.Run.has_ended.Goals as goal
 

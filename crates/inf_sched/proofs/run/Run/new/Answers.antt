@@ -1,4 +1,4 @@
-use Rattle.std.proofs.Common.{◌≡◌, ◌∙◌, ◌+◌, length, [], List, refl, sym, ap, subst, rules}
+use Rattle.std.proofs.Common.{◌≡◌, ◌+◌, length, [], refl, sym, ap, subst, rules}
 use Rattle.inf_core.specs.Core.{Running, world_in}
 use Rattle.inf_core.specs.Kept.{world_by}
 use Rattle.inf_sched.specs.Run.{AreEmpty, AreOpening, IsKept}
@@ -13,7 +13,7 @@ invariant_of-result g c =
     let is : c.in_ok-core.core ≡ record { rule = c.args.rule; setup = c.args.setup; history = [] } = search rules in
     subst (λ (k : Running _). IsKept (world_in g.R.IdRule.digest_of k) k.history c.in_ok-clients.clients.items c.in_ok-to_server.to_server.items c.in_ok-by_client.by_client.items) (sym is)
     (kept_opening (world_by (g.R.IdRule.digest_of c.args.rule) c.args.setup) [] c.in_ok-clients.clients.items c.in_ok-to_server.to_server.items c.in_ok-by_client.by_client.items
-      refl clients servers askers)
+    refl clients servers askers)
 
 pub returns-clause-opening : goal.returns-clause-opening
 returns-clause-opening g c =

@@ -1,6 +1,6 @@
-use Rattle.std.proofs.Common.{◌≡◌, ◌<◌, ℕ, List, length, None, Some, IfSome, subst, ◌∙◌, sym, rules, arith}
+use Rattle.std.proofs.Common.{◌≡◌, Some, subst, ◌∙◌, rules, arith}
 use Rattle.inf_sched.specs.Run.{Playing}
-use Rattle.inf_sched.specs.Waiting.{IsWaiting, Posting, is_by, is_for, is_open, is_to, oldest}
+use Rattle.inf_sched.specs.Waiting.{is_for, oldest}
 use Rattle.inf_sched.proofs.RunFacts.{got_there, if_waiting, oldest_of_is}
 use Rattle.inf_sched.proofs.run.Run.oldest_of.Goals as goal
 

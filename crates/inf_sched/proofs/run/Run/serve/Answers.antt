@@ -1,6 +1,5 @@
-use Rattle.std.proofs.Common.{◌≡◌, ◌<◌, ℕ, List, [], ◌∷◌, ◌++◌, length, vec_len, ◌∙◌, sym, rules, arith}
+use Rattle.std.proofs.Common.{◌<◌, length, rules, arith}
 use Rattle.inf_core.specs.Core.{world_in}
-use Rattle.inf_sched.specs.Run.{HasServed}
 use Rattle.inf_sched.proofs.RunFacts.{got_there, kept_in, kept_served, makes_serve, serves_in, waiting_client, waits_in}
 use Rattle.inf_sched.proofs.ServeFacts.{same_world}
 use Rattle.inf_sched.proofs.run.Run.serve.Goals as goal
@@ -27,7 +26,7 @@ invariant_of-result g c =
     let at = got_there c.self.inside.clients.items c.args.posting.client c.index_mut.result.now c.index_mut.ensures.value within in
     kept_in _ (world_in g.R.IdRule.digest_of c.self.inside.core) _ _ _ _ (same_world g.R.IdRule.digest_of c.self.inside.core c.serve.new.core (search rules))
     (kept_served (world_in g.R.IdRule.digest_of c.self.inside.core) c.self.inside.core.history c.serve.new.core.history c.args.posting
-      c.self.inside.clients.items _ _ c.index_mut.result.now c.serve.new.client c.self.invariant waits at (search rules))
+    c.self.inside.clients.items _ _ c.index_mut.result.now c.serve.new.client c.self.invariant waits at (search rules))
 
 pub returns-clause-served : goal.returns-clause-served
 returns-clause-served g c =
@@ -37,4 +36,4 @@ returns-clause-served g c =
     let at = got_there c.self.inside.clients.items c.args.posting.client c.index_mut.result.now c.index_mut.ensures.value within in
     serves_in g.R.IdRule.digest_of _ _ _ _ _ c.self.view_is
     (makes_serve (world_in g.R.IdRule.digest_of c.self.inside.core) c.self.inside.core.history c.serve.new.core.history c.args.posting
-      c.self.inside.clients.items c.index_mut.result.now c.serve.new.client at (search rules))
+    c.self.inside.clients.items c.index_mut.result.now c.serve.new.client at (search rules))

@@ -1,4 +1,4 @@
-use Rattle.std.proofs.Common.{◌≡◌, ◌<◌, ℕ, List, [], ◌∷◌, ◌++◌, length, vec_len, ◌∙◌, sym, rules, arith}
+use Rattle.std.proofs.Common.{◌<◌, length, rules, arith}
 use Rattle.inf_core.specs.Core.{world_in}
 use Rattle.inf_sched.specs.Run.{Asked, HasGivenUp, HasRested}
 use Rattle.inf_sched.proofs.RunFacts.{asked_server, asks_in, gives_up, got_there, has_no_ask, kept_gave_up, kept_in, kept_pushed, kept_rested, makes_ask, rests_in, rests_same}
@@ -19,10 +19,10 @@ invariant_of-run g c =
     let within : c.in-Asked.posting.number < length c.self.inside.to_server.items = omega (arith, c.self.invariant.servers.count) in
     kept_in _ (world_in g.R.IdRule.digest_of c.self.inside.core) _ _ _ _ (same_world g.R.IdRule.digest_of c.self.inside.core c.let_ask.new.core (search rules))
     (kept_pushed (world_in g.R.IdRule.digest_of c.self.inside.core) c.self.inside.core.history c.let_ask.new.core.history c.args.client c.in-Asked.posting c.self.inside.clients.items c.self.inside.to_server.items c.self.inside.by_client.items
-      c.index_mut.result.now c.let_ask.new.client c.index_mut-in-Asked.result.now c.index_mut-in-Asked-2.result.now _ _ c.self.invariant at did
-      (got_there c.self.inside.to_server.items c.in-Asked.posting.number c.index_mut-in-Asked.result.now c.index_mut-in-Asked.ensures.value within)
-      (got_there c.self.inside.by_client.items c.args.client c.index_mut-in-Asked-2.result.now c.index_mut-in-Asked-2.ensures.value (search (rules, arith)))
-      (search rules) (search rules))
+    c.index_mut.result.now c.let_ask.new.client c.index_mut-in-Asked.result.now c.index_mut-in-Asked-2.result.now _ _ c.self.invariant at did
+    (got_there c.self.inside.to_server.items c.in-Asked.posting.number c.index_mut-in-Asked.result.now c.index_mut-in-Asked.ensures.value within)
+    (got_there c.self.inside.by_client.items c.args.client c.index_mut-in-Asked-2.result.now c.index_mut-in-Asked-2.ensures.value (search (rules, arith)))
+    (search rules) (search rules))
 
 pub invariant_of-run-in-GaveUp : goal.invariant_of-run-in-GaveUp
 invariant_of-run-in-GaveUp g c =
