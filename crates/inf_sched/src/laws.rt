@@ -1,12 +1,14 @@
 //! Laws of the orders of moves, each a function that only states it.
 
-ghost use Rattle.std.specs.Prelude.{◌≡◌, List};
+ghost use Rattle.std.specs.Prelude.{◌≡◌, List, All};
+ghost use Rattle.inf_base.specs.declared.answer.Answer.TheVariants as answer;
 ghost use Rattle.inf_core.specs.Legal.{Legal};
 ghost use Rattle.inf_core.specs.Outcome.{Outcome};
 ghost use Rattle.inf_core.specs.World.{World};
 ghost use Rattle.inf_message.specs.declared.call_result.CallResult.{CallResult};
 ghost use Rattle.inf_message.specs.declared.event.Event.{Event};
 ghost use Rattle.inf_order.specs.declared.moves.Move.{Move};
+ghost use Rattle.inf_sched.specs.Endings.{IsLeftOpen};
 ghost use Rattle.inf_sched.specs.Laws.{IsStraight, MakesCalmly};
 ghost use Rattle.inf_sched.specs.Order.{ByOrder, results_in};
 ghost use Rattle.inf_sched.specs.Scene.{opening};
@@ -42,4 +44,11 @@ pub fn one_outcome_without_want_of_memory()
 pub fn every_order_is_made_without_want_of_memory()
     ensures { (world : World) (order : List Move)
         → MakesCalmly world order (straight world order (opening world)).history (results_in world (straight world order (opening world))) }
+{}
+
+/// A call is unanswered only where the order ended before it was decided: its client has it left then.
+pub fn unanswered_calls_are_left()
+    ensures { (world : World) (order : List Move) (h : List Event) (results : List CallResult)
+        → ByOrder world order h results
+        → All (λ result. result.answer ≡ answer.Unanswered → IsLeftOpen world h result) results }
 {}

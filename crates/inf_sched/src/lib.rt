@@ -3,7 +3,6 @@
 
 mod client;
 mod ending;
-mod endings;
 mod examples;
 mod laws;
 mod limits;
@@ -17,14 +16,13 @@ mod serving;
 mod stepping;
 
 pub use client::Client;
-pub use endings::unanswered_calls_are_left;
 pub use examples::{ended_calls, lone_clients, single_moves, wanting};
 pub use inf_core::{ClientStep, Outcome, Results};
 pub use inf_order::{MOST_MOVES, Move, Moves};
 pub use laws::{
     every_order_is_made_without_want_of_memory, one_history_without_want_of_memory,
-    one_outcome_without_want_of_memory, what_an_order_makes_is_an_outcome,
-    what_an_order_makes_is_legal,
+    one_outcome_without_want_of_memory, unanswered_calls_are_left,
+    what_an_order_makes_is_an_outcome, what_an_order_makes_is_legal,
 };
 pub use limits::MOST_EVENTS;
 pub use posting::Posting;

@@ -69,6 +69,60 @@ fn words_of(alloc: Global, words: &[&str]) -> Result<Vec<String>, Fail> {
     Ok(all)
 }
 
+/// Two servers, of which the first keeps the root, and two clients that create a file and ask for it.
+const CLIENTS: &[u8] = b"infinifs 1\n\
+      servers 2\n\
+      client a 0 0\n\
+      client b 0 0\n\
+      call a create /f 644\n\
+      call a stat /f\n\
+      call b stat /f\n\
+      order ";
+
+const ALONE: &[u8] = b"events 4\n\
+      1 ask a.1 s0 lookup top\n\
+      2 serve s0 1 found top e3b0c44298fc1c149afbf4c8996fb92427ae41e4649b934ca495991b7852b855#0 755 0 0 root\n\
+      3 ask a.1 s0 finish 2 create f 644\n\
+      4 serve s0 3 fine\n\
+      end\n";
+
+const PASSED_OVER: &[u8] = b"events 5\n\
+      1 ask a.1 s0 lookup top\n\
+      2 ask b.1 s0 lookup top\n\
+      3 serve s0 2 found top e3b0c44298fc1c149afbf4c8996fb92427ae41e4649b934ca495991b7852b855#0 755 0 0 root\n\
+      4 ask b.1 s0 finish 3 stat f\n\
+      5 serve s0 4 refused ENOENT\n\
+      end\n";
+
+const REST: &[u8] = b"events 12\n\
+      1 ask a.1 s0 lookup top\n\
+      2 ask b.1 s0 lookup top\n\
+      3 serve s0 2 found top e3b0c44298fc1c149afbf4c8996fb92427ae41e4649b934ca495991b7852b855#0 755 0 0 root\n\
+      4 serve s0 1 found top e3b0c44298fc1c149afbf4c8996fb92427ae41e4649b934ca495991b7852b855#0 755 0 0 root\n\
+      5 ask a.1 s0 finish 4 create f 644\n\
+      6 serve s0 5 fine\n\
+      7 ask a.2 s0 lookup top\n\
+      8 serve s0 7 found top e3b0c44298fc1c149afbf4c8996fb92427ae41e4649b934ca495991b7852b855#0 755 0 0 root\n\
+      9 ask a.2 s0 finish 8 stat f\n\
+      10 serve s0 9 stat file 644 0 0 0\n\
+      11 ask b.1 s0 finish 3 stat f\n\
+      12 serve s0 11 stat file 644 0 0 0\n\
+      end\n";
+
+/// Runs the two clients under an order, and compares the events that it makes.
+fn expect_events(rt: &impl Abort, alloc: Global, order: &[u8], events: &[u8]) -> Result<(), Fail> {
+    let mut text = CLIENTS.to_vec(alloc)?;
+    text.extend_from_slice(order)?;
+    text.extend_from_slice(b"\nend\n")?;
+    let words = words_of(alloc, &["sched"])?;
+    let mut source = source(alloc, &text, 64, &[])?;
+    let mut sink = sink(alloc, 64, &[])?;
+    let answer = infinifs(alloc, &words, &mut source, &mut sink);
+    assert_eq!(rt; answer, 0);
+    assert!(rt; sink.held().ends_with(events));
+    Ok(())
+}
+
 /// Runs `sched` over a source and a sink that meet no fault.
 fn expect_run(
     rt: &impl Abort,
@@ -89,6 +143,13 @@ fn expect_run(
 #[test]
 fn an_order_decides_which_call_comes_first(rt: HostRuntime) -> Result<(), Fail> {
     expect_run(&rt, rt.alloc(), SCRIPT, 0, REPORT)
+}
+
+#[test]
+fn each_move_makes_its_events(rt: HostRuntime) -> Result<(), Fail> {
+    expect_events(&rt, rt.alloc(), b"=a", ALONE)?;
+    expect_events(&rt, rt.alloc(), b"+a +a s1 c s0:b c:a =b", PASSED_OVER)?;
+    expect_events(&rt, rt.alloc(), b"+a +b s0:b s0 s0 *", REST)
 }
 
 #[test]
