@@ -236,6 +236,14 @@ module _ {R : Type 0} (digest_of : R → List ℕ → Id) where
             (in_world (λ w. ByCalls w client (calls_left w (scene_of now) client) (scene_of now) (scene_of after)) entry now along.same calls) later));
       }
 
+  pub rest_along_passes : (client many : ℕ) (entry now : Playing R)
+      → IsAlong (ByRest (world_in digest_of entry.core) client (many - client)) (ByRest (world_in digest_of entry.core) 0 many) entry now
+      → client < many → has_calls (world_in digest_of now.core) (scene_of now) client ≡ false
+      → IsAlong (ByRest (world_in digest_of entry.core) (client + 1) (many - (client + 1))) (ByRest (world_in digest_of entry.core) 0 many) entry now
+  rest_along_passes client many entry now along within none =
+      rest_along_goes client many entry now now along within
+      (calls_none (of now) client (calls_left (of now) (scene_of now) client) (scene_of now) none) (same_self now)
+
   pub rest_along_over : (client many : ℕ) (entry now : Playing R)
       → IsAlong (ByRest (world_in digest_of entry.core) client (many - client)) (ByRest (world_in digest_of entry.core) 0 many) entry now
       → many ≤ client → ByRest (world_in digest_of entry.core) 0 many (scene_of entry) (scene_of now)

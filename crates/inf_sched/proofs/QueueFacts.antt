@@ -1,5 +1,5 @@
 -- Queues of Asks that wait, as events are made and served ones leave.
-use Rattle.std.proofs.Common.{◌≡◌, ◌≢◌, ℕ, zero, suc, ◌+◌, ◌<◌, Bool, true, false, cond, not, ◌&&◌, List, [], ◌∷◌, length, slice_get, drop, None, Some, All, refl, sym, ap, subst, ◌∙◌, arith}
+use Rattle.std.proofs.Common.{◌≡◌, ◌≢◌, ℕ, zero, suc, ◌+◌, ◌<◌, Bool, true, false, cond, not, ◌&&◌, List, [], ◌∷◌, length, slice_get, drop, Option, None, Some, All, refl, sym, ap, subst, ◌∙◌, arith}
 use Rattle.std.specs.List.{find}
 use Rattle.std.proofs.lemmas.List.Elements.{All-head, All-tail}
 use Rattle.inf_message.specs.declared.event.Event.{Event}
@@ -113,3 +113,8 @@ pub got_before : (ps : List Posting) (i : ℕ) (p : Posting) → slice_get ps i 
 got_before [] i p at = absurd (cc)
 got_before (q ∷ ps) zero p at = omega arith
 got_before (q ∷ ps) (suc i) p at = let rest = got_before ps i p at in omega arith
+
+-- what is found of a queue whose served front has left is found of it before
+pub found_left : (number : ℕ) (h : List Event) (old now : List Posting) (found : Option Posting) → IsFrontLeft h old now
+    → found ≡ find (λ p. is_to number p && is_open h p) now → found ≡ find (λ p. is_to number p && is_open h p) old
+found_left number h old now found left is = is ∙ left.finds (is_to number)

@@ -163,6 +163,9 @@ fn rest<R: IdRule>(run: Run<R>) -> Result<Run<R>, NoMemory>
     let many = run.client_count();
     let mut now = run;
     for client in 0..many {
+        if !now.has_calls(client) {
+            continue;
+        }
         now = calls(now, client)?;
     }
     Ok(now)

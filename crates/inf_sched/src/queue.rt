@@ -79,9 +79,19 @@ impl Queue {
         found
     }
 
-    /// The oldest Ask that waits for the server of this number.
+    /// The oldest Ask that waits for the server of this number. Those in front that were served leave, so that this
+    /// looks no further than at what a client has asked since.
+    pub fn oldest_to<R: IdRule>(&mut self, core: &Core<R>, number: u32) -> Option<Posting>
+        requires within { All (IsWithin core.now.history) self.old }
+        ensures oldest { result ≡ find (λ p. is_to number p && is_open core.now.history p) self.old }
+        ensures left { IsFrontLeft core.now.history self.old self.new }
+    {
+        let _ = self.oldest(core);
+        self.find_to(core, number)
+    }
+
     #[tactic(auto, using(crate::proofs::QueueFacts::got_within, crate::proofs::QueueFacts::got_before))]
-    pub fn oldest_to<R: IdRule>(&self, core: &Core<R>, number: u32) -> Option<Posting>
+    fn find_to<R: IdRule>(&self, core: &Core<R>, number: u32) -> Option<Posting>
         requires within { All (IsWithin core.now.history) self.now }
         ensures { result ≡ find (λ p. is_to number p && is_open core.now.history p) self.now }
     {

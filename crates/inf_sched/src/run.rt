@@ -8,7 +8,7 @@ ghost use Rattle.inf_core.specs.Kept.{world_by};
 ghost use Rattle.inf_core.specs.Legal.{Legal};
 ghost use Rattle.inf_sched.specs.Order.{results_in};
 ghost use Rattle.inf_sched.specs.Run.{HasStepped, scene_of};
-ghost use Rattle.inf_sched.specs.Scene.{MakesServe, calls_left, has_ended, is_gone, number_in, opening};
+ghost use Rattle.inf_sched.specs.Scene.{MakesServe, calls_left, has_calls, has_ended, is_gone, number_in, opening};
 ghost use Rattle.inf_sched.specs.Waiting.{IsWaiting, is_by, is_for, oldest};
 
 use crate::client::Client;
@@ -155,10 +155,11 @@ impl<R: IdRule> Run<R> {
     }
 
     /// The oldest Ask of a client that waits for a server.
-    pub fn oldest_of(&self, number: u32, client: u32) -> Option<Posting>
-        requires there { client < length self.now.core.setup.clients }
-        ensures oldest { result ≡ oldest (is_for number (Some client)) self.now.core.history }
-        ensures waits { IfSome result (λ p. IsWaiting self.now.core.history p) }
+    pub fn oldest_of(&mut self, number: u32, client: u32) -> Option<Posting>
+        requires there { client < length self.old.core.setup.clients }
+        ensures oldest { result ≡ oldest (is_for number (Some client)) self.old.core.history }
+        ensures waits { IfSome result (λ p. IsWaiting self.old.core.history p) }
+        ensures unchanged { self.new ≡ self.old }
     {
         self.by_client[client as usize].oldest_to(&self.core, number)
     }
@@ -206,6 +207,17 @@ impl<R: IdRule> Run<R> {
         ensures { result ≡ calls_left (world_in R.digest_of self.now.core) (scene_of self.now) client }
     {
         self.clients[client as usize].calls_left()
+    }
+
+    /// Whether the client has a call left.
+    pub fn has_calls(&self, client: u32) -> bool
+        requires there { client < length self.now.core.setup.clients }
+        ensures { result ≡ has_calls (world_in R.digest_of self.now.core) (scene_of self.now) client }
+    {
+        if self.is_gone(client) {
+            return false;
+        }
+        self.calls_left(client) > 0
     }
 
     pub fn client_count(&self) -> u32

@@ -6,9 +6,9 @@ use Rattle.inf_sched.proofs.run.Run.oldest_of.Goals as goal
 
 pub returns-clause-oldest : goal.returns-clause-oldest
 returns-clause-oldest g c =
-    let at = got_there _ c.args.client c.index.result.now c.index.ensures (search (rules, arith)) in
+    let at = got_there _ c.args.client c.index_mut.result.now c.index_mut.ensures.value (search (rules, arith)) in
     subst (λ (v : Playing _). c.oldest_to.result ≡ oldest (is_for c.args.number (Some c.args.client)) v.core.history) c.self.view_is
-    (c.oldest_to.ensures ∙ oldest_of_is c.self.inside.core.history c.args.number c.args.client c.index.result.now (c.self.invariant.askers.each c.args.client c.index.result.now at))
+    (c.oldest_to.ensures.oldest ∙ oldest_of_is c.self.inside.core.history c.args.number c.args.client c.index_mut.result.now (c.self.invariant.askers.each c.args.client c.index_mut.result.now at))
 
 pub returns-clause-waits : goal.returns-clause-waits
 returns-clause-waits g c = if_waiting (is_for c.args.number (Some c.args.client)) c.args.self.now.core.history c.oldest_to.result (returns-clause-oldest g c)

@@ -1,7 +1,7 @@
 use Rattle.std.proofs.Common.{◌≡◌, ◌&&◌, ◌-◌, length, drop}
 use Rattle.std.specs.List.{find}
 use Rattle.inf_sched.specs.Waiting.{is_open, is_to}
-use Rattle.inf_sched.proofs.queue.Queue.oldest_to.Given as goal
+use Rattle.inf_sched.proofs.queue.Queue.find_to.Given as goal
 
 abbrev pub invariant-loop-posting : goal.invariant-loop-posting
 invariant-loop-posting g l =
