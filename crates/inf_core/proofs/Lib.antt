@@ -26,3 +26,4 @@ pub mod OwnHistory
 pub mod StepFacts
 pub mod Driven
 pub mod OwnPlaces
+pub mod CauseFacts

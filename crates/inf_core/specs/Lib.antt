@@ -7,6 +7,7 @@ pub mod Legal
 pub mod Core
 pub mod Outcome
 pub mod Flight
+pub mod Causes
 pub mod Decisions
 pub mod Examples
 pub mod Steps

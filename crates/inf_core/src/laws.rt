@@ -1,6 +1,9 @@
 //! Laws of legal histories, each a function that only states it.
 
-ghost use Rattle.std.specs.Prelude.{◌≡◌, ◌≢◌, ◌≤◌, ℕ, suc, false, List, [], ◌∷◌, length, Some};
+ghost use Rattle.std.specs.Prelude.{◌≡◌, ◌≢◌, ◌≤◌, ℕ, suc, false, List, [], ◌∷◌, length, Some, All};
+ghost use Rattle.inf_base.specs.declared.answer.Answer.TheVariants as answer;
+ghost use Rattle.inf_base.specs.declared.caller.CallRef.{CallRef};
+ghost use Rattle.inf_core.specs.Causes.{IsAgainBecause};
 ghost use Rattle.inf_core.specs.Client.{has_place};
 ghost use Rattle.inf_core.specs.Decisions.{decided_in};
 ghost use Rattle.inf_core.specs.Legal.{Legal, client_after};
@@ -38,6 +41,13 @@ pub fn outcomes_are_decided()
 pub fn results_have_own_places()
     ensures { (world : World) (h : List Event) (results : List CallResult) → Legal world h → Outcome world h results
         → HaveOwnPlaces (length h) results }
+{}
+
+/// An answer Again names a change in flight that touches the call. The kinds of call that are built so far leave none in
+/// flight, so that none is answered so yet.
+pub fn again_names_a_change_in_flight()
+    ensures { (world : World) (h : List Event) (results : List CallResult) → Legal world h → Outcome world h results
+        → All (λ (result : CallResult). (by : CallRef) → result.answer ≡ answer.Again by → IsAgainBecause world h result by) results }
 {}
 
 /// A Serve changes no client but the one that asked.

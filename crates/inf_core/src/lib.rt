@@ -30,9 +30,9 @@ pub use client_step::ClientStep;
 pub use examples::{accepted, next_asks, outcomes, refusals, replies, wanting};
 pub use history::Core;
 pub use laws::{
-    every_legal_history_replays, idle_clients_stay, messages_are_within_the_history,
-    new_places_are_fresh, others_stay, outcomes_are_decided, results_have_own_places,
-    serves_replay,
+    again_names_a_change_in_flight, every_legal_history_replays, idle_clients_stay,
+    messages_are_within_the_history, new_places_are_fresh, others_stay, outcomes_are_decided,
+    results_have_own_places, serves_replay,
 };
 pub use outcome::{Outcome, Results};
 pub use own::{OwnAsk, own_asks_show_the_client};

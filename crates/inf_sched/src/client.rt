@@ -48,7 +48,8 @@ impl Client {
     ) -> Result<Self, NoMemory>
         requires some_servers { 1 ≤ setup.now.servers }
         requires few_calls { call_count setup.now.clients ≤ MOST_CALLS }
-        ensures { IfOk result (λ made. made ≡ actor (start (world_by (R.digest_of rule.now) setup.now) client) false) }
+        ensures { IfOk result (λ made. made
+            ≡ actor (start (world_by (R.digest_of rule.now) setup.now) client) false) }
     {
         Ok(Client {
             machine: ClientMachine::start(alloc, rule, setup, client)?,
@@ -91,7 +92,8 @@ impl Client {
 
     /// The Ask at a place was served.
     pub fn told(&mut self, ask_place: Place, serve_place: Place, reply: Reply)
-        ensures { self.new ≡ actor (served ask_place (told_reply serve_place reply) self.old.state) self.old.gone }
+        ensures { self.new ≡ actor (served ask_place
+            (told_reply serve_place reply) self.old.state) self.old.gone }
     {
         self.machine.told(ask_place, serve_place, reply);
     }

@@ -37,13 +37,15 @@ pub fn one_history_without_want_of_memory()
 /// So whatever else an order makes without want of memory is the same.
 pub fn one_outcome_without_want_of_memory()
     ensures { (world : World) (order : List Move) (h g : List Event) (results others : List CallResult)
-        → MakesCalmly world order h results → MakesCalmly world order g others → (h ≡ g) × (results ≡ others) }
+        → MakesCalmly world order h results → MakesCalmly world order g others
+        → (h ≡ g) × (results ≡ others) }
 {}
 
 /// And there is one: whatever the order, its run can be made without want of memory.
 pub fn every_order_is_made_without_want_of_memory()
     ensures { (world : World) (order : List Move)
-        → MakesCalmly world order (straight world order (opening world)).history (results_in world (straight world order (opening world))) }
+        → MakesCalmly world order (straight world order (opening world)).history
+        (results_in world (straight world order (opening world))) }
 {}
 
 /// A call is unanswered only where the order ended before it was decided: its client has it left then.

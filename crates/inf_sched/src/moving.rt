@@ -21,7 +21,8 @@ use inf_order::Move;
 
 fn step<R: IdRule>(run: Run<R>, client: u32) -> Result<Run<R>, NoMemory>
     requires there { client < length run.core.setup.clients }
-    ensures step { IfOk result (λ after. ByStep (world_in R.digest_of run.core) client (scene_of run) (scene_of after)) }
+    ensures step { IfOk result (λ after. ByStep (world_in R.digest_of run.core) client
+        (scene_of run) (scene_of after)) }
     ensures same { IfOk result (λ after. IsSameRun run.core after.core) }
 {
     let (after, _) = run.step(client)?;
@@ -30,7 +31,8 @@ fn step<R: IdRule>(run: Run<R>, client: u32) -> Result<Run<R>, NoMemory>
 
 fn serve_found<R: IdRule>(run: Run<R>, found: Option<Posting>) -> Result<Run<R>, NoMemory>
     requires waits { IfSome found (λ p. IsWaiting run.core.history p) }
-    ensures serve { IfOk result (λ after. ServesOldest (world_in R.digest_of run.core) found (scene_of run) (scene_of after)) }
+    ensures serve { IfOk result (λ after. ServesOldest (world_in R.digest_of run.core) found
+        (scene_of run) (scene_of after)) }
     ensures same { IfOk result (λ after. IsSameRun run.core after.core) }
 {
     match found {
@@ -55,7 +57,8 @@ fn oldest_for<R: IdRule>(run: &mut Run<R>, number: u32, client: Option<u32>) -> 
 fn serve<R: IdRule>(run: Run<R>, number: u32, client: Option<u32>) -> Result<Run<R>, NoMemory>
     requires server { number ≤ run.core.setup.servers }
     requires client { is_client_of (length run.core.setup.clients) client ≡ true }
-    ensures serve { IfOk result (λ after. ByServe (world_in R.digest_of run.core) number client (scene_of run) (scene_of after)) }
+    ensures serve { IfOk result (λ after. ByServe (world_in R.digest_of run.core) number client
+        (scene_of run) (scene_of after)) }
     ensures same { IfOk result (λ after. IsSameRun run.core after.core) }
 {
     let mut run = run;
@@ -67,7 +70,8 @@ fn serve<R: IdRule>(run: Run<R>, number: u32, client: Option<u32>) -> Result<Run
 /// do.
 fn advance<R: IdRule>(run: Run<R>, client: u32) -> Result<(Run<R>, bool), NoMemory>
     requires there { client < length run.core.setup.clients }
-    ensures advance { IfOk result (λ r. HasAdvanced r.1 (world_in R.digest_of run.core) client (scene_of run) (scene_of r.0)) }
+    ensures advance { IfOk result (λ r. HasAdvanced r.1 (world_in R.digest_of run.core) client
+        (scene_of run) (scene_of r.0)) }
     ensures same { IfOk result (λ r. IsSameRun run.core r.0.core) }
 {
     let (mut run, has_asked) = run.step(client)?;
@@ -103,7 +107,8 @@ fn alone<R: IdRule>(run: Run<R>, client: u32, number: u32) -> Result<Run<R>, NoM
 
 fn call<R: IdRule>(run: Run<R>, client: u32) -> Result<Run<R>, NoMemory>
     requires there { client < length run.core.setup.clients }
-    ensures call { IfOk result (λ after. ByCall (world_in R.digest_of run.core) client (scene_of run) (scene_of after)) }
+    ensures call { IfOk result (λ after. ByCall (world_in R.digest_of run.core) client
+        (scene_of run) (scene_of after)) }
     ensures same { IfOk result (λ after. IsSameRun run.core after.core) }
 {
     if run.is_gone(client) {
@@ -116,7 +121,8 @@ fn call<R: IdRule>(run: Run<R>, client: u32) -> Result<Run<R>, NoMemory>
 /// The client goes on alone once more, if it has a call left. Whether that call ended.
 fn next_call<R: IdRule>(run: Run<R>, client: u32) -> Result<(Run<R>, bool), NoMemory>
     requires there { client < length run.core.setup.clients }
-    ensures next { IfOk result (λ r. HasCalled r.1 (world_in R.digest_of run.core) client (scene_of run) (scene_of r.0)) }
+    ensures next { IfOk result (λ r. HasCalled r.1 (world_in R.digest_of run.core) client
+        (scene_of run) (scene_of r.0)) }
     ensures same { IfOk result (λ r. IsSameRun run.core r.0.core) }
 {
     if run.is_gone(client) {
@@ -135,7 +141,8 @@ fn next_call<R: IdRule>(run: Run<R>, client: u32) -> Result<(Run<R>, bool), NoMe
 fn calls<R: IdRule>(run: Run<R>, client: u32) -> Result<Run<R>, NoMemory>
     requires there { client < length run.core.setup.clients }
     ensures calls { IfOk result (λ after. ByCalls (world_in R.digest_of run.core) client
-        (calls_left (world_in R.digest_of run.core) (scene_of run) client) (scene_of run) (scene_of after)) }
+        (calls_left (world_in R.digest_of run.core) (scene_of run) client)
+        (scene_of run) (scene_of after)) }
     ensures same { IfOk result (λ after. IsSameRun run.core after.core) }
 {
     if run.is_gone(client) {
@@ -174,7 +181,8 @@ fn rest<R: IdRule>(run: Run<R>) -> Result<Run<R>, NoMemory>
 fn one<R: IdRule>(run: Run<R>, next: Move) -> Result<Run<R>, NoMemory>
     requires few_clients { length run.core.setup.clients ≤ MOST_CLIENTS }
     requires named { is_move_of run.core.setup.servers (length run.core.setup.clients) next ≡ true }
-    ensures made { IfOk result (λ after. ByMove (world_in R.digest_of run.core) next (scene_of run) (scene_of after)) }
+    ensures made { IfOk result (λ after. ByMove (world_in R.digest_of run.core) next
+        (scene_of run) (scene_of after)) }
     ensures same { IfOk result (λ after. IsSameRun run.core after.core) }
 {
     match next {
@@ -189,7 +197,8 @@ fn one<R: IdRule>(run: Run<R>, next: Move) -> Result<Run<R>, NoMemory>
 pub fn all<R: IdRule>(run: Run<R>, order: &[Move]) -> Result<Run<R>, NoMemory>
     requires few_clients { length run.core.setup.clients ≤ MOST_CLIENTS }
     requires named { list_all (is_move_of run.core.setup.servers (length run.core.setup.clients)) order.now ≡ true }
-    ensures moves { IfOk result (λ after. ByMoves (world_in R.digest_of run.core) order.now (scene_of run) (scene_of after)) }
+    ensures moves { IfOk result (λ after. ByMoves (world_in R.digest_of run.core) order.now
+        (scene_of run) (scene_of after)) }
     ensures same { IfOk result (λ after. IsSameRun run.core after.core) }
 {
     let mut now = run;

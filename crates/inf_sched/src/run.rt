@@ -177,7 +177,8 @@ impl<R: IdRule> Run<R> {
     /// Whether the client's call of this number has ended.
     pub fn has_ended(&self, client: u32, number: u32) -> bool
         requires there { client < length self.now.core.setup.clients }
-        ensures { result ≡ has_ended (world_in R.digest_of self.now.core) client number (scene_of self.now) }
+        ensures { result ≡ has_ended (world_in R.digest_of self.now.core) client number
+            (scene_of self.now) }
     {
         let actor = &self.clients[client as usize];
         actor.has_given_up() || number < actor.number()

@@ -20,7 +20,8 @@ pub fn serve<R: IdRule>(
     posting: Posting,
 ) -> Result<(), NoMemory>
     requires waits { IsWaiting core.old.history posting }
-    requires actor { IsActor (client_after (world_in R.digest_of core.old) posting.client core.old.history) client.old }
+    requires actor { IsActor (client_after (world_in R.digest_of core.old)
+        posting.client core.old.history) client.old }
     ensures served { OnOk result (HasServed (world_in R.digest_of core.old) posting
         core.old.history core.new.history client.old client.new) }
     ensures same { OnOk result (IsSameRun core.old core.new) }

@@ -31,7 +31,8 @@ pub fn let_ask<R: IdRule>(
     number: u32,
 ) -> Result<Stepped, NoMemory>
     requires there { number < length core.old.setup.clients }
-    requires actor { IsActor (client_after (world_in R.digest_of core.old) number core.old.history) client.old }
+    requires actor { IsActor (client_after (world_in R.digest_of core.old)
+        number core.old.history) client.old }
     requires legal { Legal (world_in R.digest_of core.old) core.old.history }
     ensures did { IfOk result (λ stepped. Did (world_in R.digest_of core.old) number stepped
         core.old.history core.new.history client.old client.new) }

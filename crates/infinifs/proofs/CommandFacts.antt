@@ -7,12 +7,14 @@ use Rattle.inf_base.specs.Setup.{IsValid}
 use Rattle.inf_core.specs.Legal.{Legal}
 use Rattle.inf_core.specs.Outcome.{Outcome, decisions}
 use Rattle.inf_core.specs.World.{world_of}
+use Rattle.inf_core.proofs.CauseFacts.{again_is_because}
 use Rattle.inf_io.specs.Faults.{Rose}
 use Rattle.inf_message.specs.declared.call_result.CallResult.{CallResult}
 use Rattle.inf_message.specs.declared.event.Event.{Event}
 use Rattle.inf_report.specs.Report.{report}
 use Rattle.inf_report.specs.Writing.{AppendsFront}
 use Rattle.inf_sched.specs.Order.{ByOrder}
+use Rattle.inf_sched.proofs.UnansweredFacts.{unanswered_are_left}
 use Rattle.inf_script.specs.Reading.{meaning}
 use Rattle.inf_script.specs.declared.refusal.ScriptRefusal.{ScriptRefusal}
 use Rattle.inf_script.specs.declared.script.Script.{Script}
@@ -51,6 +53,10 @@ module _ (script : Script) (events : List Event) (results : List CallResult)
     outcome = outcome;
     by_order = by_order;
     replays = replays;
+    causes = λ k d inside. record {
+      again = λ by is. again_is_because (world_of script.setup) (reverse events) results legal outcome k d inside by is;
+      unanswered = λ is. unanswered_are_left (world_of script.setup) script.order (reverse events) results by_order k d inside is;
+    };
     told = ap (λ es. report script.setup es results) (sym (reverse-reverse events));
   }
 

@@ -1,14 +1,17 @@
 -- What the program does with its words, its input and its output, by the status that it ends with.
-use Rattle.std.specs.Prelude.{◌≡◌, ◌⊎◌, ℕ, Bool, true, false, ◌≤◌, nat_lt, List, [], ◌∷◌, ◌++◌, length, reverse, take, Option, Result, Ok, Err, IfSome, codes}
+use Rattle.std.specs.Prelude.{◌≡◌, ◌⊎◌, ℕ, Bool, true, false, ◌≤◌, nat_lt, List, [], ◌∷◌, ◌++◌, length, reverse, take, Option, Result, Ok, Err, IfSome, All, codes}
 use Rattle.std.specs.Fmt.{decimal}
 use Rattle.std.specs.List.{list_all}
 use Rattle.std.specs.Str.{bytes_eq}
 use Rattle.std.specs.Io.KnownBytes.{Appends, Keeps}
+use Rattle.inf_base.specs.declared.answer.Answer.TheVariants as answer
+use Rattle.inf_base.specs.declared.caller.CallRef.{CallRef}
 use Rattle.inf_base.specs.declared.setup.Setup.{Setup}
 use Rattle.inf_base.specs.Setup.{IsValid}
+use Rattle.inf_core.specs.Causes.{IsAgainBecause}
 use Rattle.inf_core.specs.Legal.{Legal}
 use Rattle.inf_core.specs.Outcome.{Outcome, decisions}
-use Rattle.inf_core.specs.World.{world_of}
+use Rattle.inf_core.specs.World.{World, world_of}
 use Rattle.inf_io.specs.Faults.{Rose}
 use Rattle.inf_message.specs.declared.call_result.CallResult.{CallResult}
 use Rattle.inf_message.specs.declared.event.Event.{Event}
@@ -16,6 +19,7 @@ use Rattle.inf_order.specs.declared.moves.Move.{Move}
 use Rattle.inf_order.specs.Order.{is_move_of}
 use Rattle.inf_report.specs.Report.{line, report}
 use Rattle.inf_report.specs.Writing.{AppendsFront}
+use Rattle.inf_sched.specs.Endings.{IsLeftOpen}
 use Rattle.inf_sched.specs.Order.{ByOrder}
 use Rattle.inf_script.specs.declared.refusal.ScriptRefusal.{ScriptRefusal}
 use Rattle.inf_script.specs.declared.refusal.Why.{Why}
@@ -55,6 +59,13 @@ refusal_line refusal = line (codes "script " ++ decimal refusal.line ++ codes " 
 
 -- ---- what a text comes to
 
+-- why a call was answered as the plain tree does not answer
+pub record HasCause (world : World) (h : List Event) (result : CallResult) : Type 0 where
+  -- a change of another client's call was in flight, and touched this call
+  pub again : (by : CallRef) → result.answer ≡ answer.Again by → IsAgainBecause world h result by
+  -- the order ended before the call was decided
+  pub unanswered : result.answer ≡ answer.Unanswered → IsLeftOpen world h result
+
 -- the text is a script, and the bytes are the report of an outcome that its order makes: a legal history, with the newest
 -- event first, and results that agree with it and whose calls, by place, are answered as on the plain tree
 pub record IsReportOf (text bytes : List ℕ) : Type 0 where
@@ -68,6 +79,7 @@ pub record IsReportOf (text bytes : List ℕ) : Type 0 where
   pub outcome : Outcome (world_of setup) h results
   pub by_order : ByOrder (world_of setup) order h results
   pub replays : Replays opening_tree (decisions (world_of setup) h results)
+  pub causes : All (HasCause (world_of setup) h) results
   pub told : bytes ≡ report setup (reverse h) results
 
 -- the text is no script, and the bytes are the line of its refusal
