@@ -2,6 +2,7 @@ ghost use Rattle.std.specs.Prelude.{◌<◌};
 
 use crate::top::infinifs;
 use inf_io::{MemSink, MemSource};
+use inf_script::{MOST_SCRIPT_BYTES, ScriptFault, ScriptRefusal, Why, read_script};
 use std::alloc::Global;
 use std::process::Abort;
 use std::test::Fail;
@@ -207,5 +208,45 @@ fn a_fault_of_the_sink_leaves_a_front(rt: HostRuntime) -> Result<(), Fail> {
     let answer = infinifs(rt.alloc(), &words, &mut whole, &mut failing);
     assert_eq!(rt; answer, 4);
     assert_eq!(rt; failing.held(), b"infinifs r".as_slice());
+    Ok(())
+}
+
+/// Appends so many lines of 32,768 bytes each, newlines included, that begin with this word and are blank behind it.
+fn put_lines(text: &mut Vec<u8>, word: &[u8], lines: usize) -> Result<(), Fail> {
+    for _ in 0..lines {
+        text.extend_from_slice(word)?;
+        for _ in word.len()..32_767 {
+            text.push(b' ')?;
+        }
+        text.push(b'\n')?;
+    }
+    Ok(())
+}
+
+/// Whether a text, which goes on behind these bytes or not, is refused so; `None` for a script.
+fn is_refused(alloc: Global, text: &[u8], more: bool, expected: Option<ScriptRefusal>) -> bool {
+    if text.len() < MOST_SCRIPT_BYTES {
+        return false;
+    }
+    match read_script(alloc, text, more) {
+        Ok(_) => expected.is_none(),
+        Err(ScriptFault::Refused(refusal)) => expected == Some(refusal),
+        Err(ScriptFault::NoMemory) => false,
+    }
+}
+
+#[test]
+fn the_longest_text_is_read_and_no_longer_one(rt: HostRuntime) -> Result<(), Fail> {
+    let mut text = Vec::new(rt.alloc());
+    put_lines(&mut text, b"infinifs 1", 1)?;
+    put_lines(&mut text, b"#", 2046)?;
+    put_lines(&mut text, b"end", 1)?;
+    assert_eq!(rt; text.len(), MOST_SCRIPT_BYTES);
+    assert!(rt; is_refused(rt.alloc(), &text, false, None));
+    let too_long = ScriptRefusal {
+        line: 2049,
+        why: Why::TooLong,
+    };
+    assert!(rt; is_refused(rt.alloc(), &text, true, Some(too_long)));
     Ok(())
 }
