@@ -1,5 +1,5 @@
 -- The rows of one parent: how many versions they can take, and what is left without the first row of a directory.
-use Rattle.std.proofs.Common.{◌≡◌, ℕ, ◌+◌, ◌<◌, ◌≤◌, Bool, true, false, cond, not, ◌==◌, ◌&&◌, ◌||◌, eqb, nat_lt, List, [], ◌∷◌, length, map, remove, Option, None, Some, position, refl, sym, ap, subst, ◌∙◌, ◌⊎◌, ⊎_elim, arith, add_comm, add-one}
+use Rattle.std.proofs.Common.{◌≡◌, ℕ, ◌+◌, ◌<◌, ◌≤◌, Bool, true, false, cond, not, ◌==◌, ◌&&◌, eqb, nat_lt, List, [], ◌∷◌, length, map, remove, None, Some, position, refl, sym, ap, subst, ◌∙◌, ⊎_elim, arith, add_comm, add-one}
 use Rattle.std.specs.List.{list_any, position_or_len}
 use Rattle.std.specs.Str.{bytes_eq}
 use Rattle.std.proofs.lemmas.Bool.{or_cases, and_parts, or_left, or_right, false_from_ne_true, ltb-false, eqb-true, eq-eqb}

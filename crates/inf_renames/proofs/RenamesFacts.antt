@@ -1,10 +1,8 @@
 -- The rename lists of all parents, as one of them changes.
-use Rattle.std.proofs.Common.{◌≡◌, ℕ, ◌+◌, ◌-◌, ◌<◌, ◌≤◌, Bool, true, false, cond, ◌==◌, ◌&&◌, ◌||◌, List, [], ◌∷◌, ◌++◌, map, Option, None, Some, refl, sym, ap, subst, ◌∙◌, arith}
+use Rattle.std.proofs.Common.{◌≡◌, ℕ, ◌+◌, ◌-◌, ◌≤◌, Bool, true, false, cond, List, [], ◌∷◌, ◌++◌, map, Option, None, Some, refl, sym, ap, subst, ◌∙◌, arith}
 use Rattle.std.specs.BTreeMap.{BTreeMap, UpdatesBy, WritesThrough, get_by, is_at}
-use Rattle.std.specs.List.{list_any}
 use Rattle.std.specs.Map.{lookup}
 use Rattle.std.specs.Option.{unwrap_or, IsSome}
-use Rattle.std.specs.Str.{bytes_eq}
 use Rattle.std.specs.declared.cmp.Ordering.{Ordering}
 use Rattle.std.proofs.lemmas.List.{map-append}
 use Rattle.std.proofs.lemmas.Map.Steps.{set_value_same}
@@ -24,7 +22,7 @@ id_cmp = id_order.cmp-value.it
 same_test : (p q : Id) → is_at (id_cmp p) q ≡ is_same_id p q
 same_test p q = is_eq-slice_cmp p.bytes q.bytes
 
-same_self : (p : Id) → is_same_id p p ≡ true
+pub same_self : (p : Id) → is_same_id p p ≡ true
 same_self p = (bytes_eq-Decides p.bytes p.bytes).1 refl
 
 same_found : (p : Id) (lists : List (Id × Kept)) → lookup (is_at (id_cmp p)) lists ≡ lookup (is_same_id p) lists

@@ -1,11 +1,11 @@
 -- The rename lists of all parents.
-use Rattle.std.specs.Prelude.{◌≡◌, ℕ, Bool, false, List, map, unwrap_or}
+use Rattle.std.specs.Prelude.{◌≡◌, ℕ, false, List, map, unwrap_or}
 use Rattle.std.specs.Map.{lookup}
 use Rattle.inf_base.specs.declared.id.Id.{Id}
 use Rattle.inf_base.specs.Renames.{RenameRow}
 use Rattle.inf_renames.specs.declared.row.Row.{Row}
 use Rattle.inf_renames.specs.Kept.{Kept, nothing_kept}
-use Rattle.inf_renames.specs.Rows.{is_same_id}
+use Rattle.inf_renames.specs.Rows.{is_same_id, of_parent}
 
 -- what is kept of a parent: nothing, where it is not listed
 abbrev pub kept_of : Id → List (Id × Kept) → Kept
@@ -27,3 +27,7 @@ spare_of parent lists = (kept_of parent lists).spare
 pub record OthersStay (parent : Id) (old new : List (Id × Kept)) : Type 0 where
   pub rows : (other : Id) → is_same_id parent other ≡ false → rows_of other new ≡ rows_of other old
   pub spare : (other : Id) → is_same_id parent other ≡ false → spare_of other new ≡ spare_of other old
+
+-- the lists have the rows of one list of all parents, those of each parent in the same order
+abbrev pub HasRows : List (Id × Kept) → List RenameRow → Type 0
+HasRows lists rows = (parent : Id) → rows_of parent lists ≡ of_parent parent rows

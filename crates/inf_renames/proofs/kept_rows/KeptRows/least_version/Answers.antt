@@ -1,5 +1,5 @@
-use Rattle.std.proofs.Common.{◌≡◌, ap, arith, length, subst}
-use Rattle.inf_renames.specs.Kept.{Kept, has_version}
+use Rattle.std.proofs.Common.{◌≡◌, ap, arith, length}
+use Rattle.inf_renames.specs.Kept.{Kept}
 use Rattle.inf_renames.proofs.KeptFacts.{free_past}
 use Rattle.inf_renames.proofs.kept_rows.KeptRows.least_version.Goals as goal
 

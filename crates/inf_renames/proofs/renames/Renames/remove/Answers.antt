@@ -1,9 +1,8 @@
 use Rattle.std.specs.BTreeMap.{BTreeMap}
 use Rattle.inf_base.specs.declared.id.Id.{Id}
-use Rattle.std.proofs.Common.{ap, ◌∙◌, sym}
+use Rattle.std.proofs.Common.{ap, ◌∙◌}
 use Rattle.inf_renames.specs.Kept.{Kept}
 use Rattle.inf_renames.specs.Renames.{rows_of}
-use Rattle.inf_renames.specs.Rows.{without_row}
 use Rattle.inf_renames.proofs.RenamesFacts.{kept_found, left_nothing, written, left_rows, same_spare, others_stay}
 use Rattle.inf_renames.proofs.renames.Renames.remove.Goals as goal
 
