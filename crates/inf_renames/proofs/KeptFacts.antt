@@ -24,7 +24,7 @@ is_listed name v (r ∷ rows) has =
     (or_cases (bytes_eq r.name name && r.version == v) (has_version name v rows) has)
 
 -- as many rows as there are versions from 0 on that are taken
-pub taken_within : (name : List ℕ) (rows : List Row) (n : ℕ) → ((v : ℕ) → v < n → has_version name v rows ≡ true) → n ≤ length rows
+taken_within : (name : List ℕ) (rows : List Row) (n : ℕ) → ((v : ℕ) → v < n → has_version name v rows ≡ true) → n ≤ length rows
 taken_within name rows n taken =
     let below = le-length_from_below (versions_of rows) n (λ v less. is_listed name v rows (taken v less)) in
     simp length-map at below
@@ -65,7 +65,7 @@ within_place dir (r ∷ rows) past = by (is_same_dir r.dir dir) past (within_pla
     by false further later = ap (λ rest. r ∷ rest) (later (omega arith))
 
 -- where there is none, all rows stay
-pub without_missing : (dir : DirRef) (rows : List Row) → position (λ (r : Row). is_same_dir r.dir dir) rows ≡ None → without_dir dir rows ≡ rows
+without_missing : (dir : DirRef) (rows : List Row) → position (λ (r : Row). is_same_dir r.dir dir) rows ≡ None → without_dir dir rows ≡ rows
 without_missing dir rows missing = within_place dir rows (ltb-false _ _ (at (nat_lt (place_of dir rows) (length rows)) missing))
   where
     at : (b : Bool) → cond b (Some (place_of dir rows)) None ≡ None → b ≡ false

@@ -11,6 +11,7 @@ pub record Kept : Type 0 where
   pub rows : List Row
   pub spare : ℕ
 
+-- what is kept of a parent that was never reserved
 abbrev pub nothing_kept : Kept
 nothing_kept = record { rows = []; spare = 0 }
 

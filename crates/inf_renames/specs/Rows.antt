@@ -6,6 +6,7 @@ use Rattle.inf_base.specs.declared.directory.DirRef.{DirRef}
 use Rattle.inf_base.specs.declared.id.Id.{Id}
 use Rattle.inf_base.specs.Renames.{RenameRow}
 
+-- the same 32 bytes
 abbrev pub is_same_id : Id → Id → Bool
 is_same_id a b = bytes_eq a.bytes b.bytes
 

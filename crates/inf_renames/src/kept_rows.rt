@@ -45,7 +45,6 @@ impl KeptRows {
             .any(|row| row.name == *name && row.version == version)
     }
 
-    #[tactic(auto, using(crate::proofs::KeptFacts::taken_within))]
     /// The least number that no row of this name has.
     pub fn least_version(&self, name: &Name) -> u64
         ensures free { has_version name.now result self.now.rows ≡ false }
@@ -78,7 +77,7 @@ impl KeptRows {
         self.spare -= 1;
     }
 
-    #[tactic(auto, using(crate::proofs::KeptFacts::without_found, crate::proofs::KeptFacts::without_missing))]
+    #[tactic(auto, using(crate::proofs::KeptFacts::without_found))]
     /// Removes the first row of the directory, if there is one.
     pub fn remove(&mut self, dir: &DirRef)
         ensures { self.new ≡ record { rows = without_dir dir.now self.old.rows; spare = self.old.spare } }

@@ -12,7 +12,7 @@ use std::collections::BTreeMap;
 use std::marker::Model;
 
 /// The rename lists of a server, seen as what is kept of each parent that was ever reserved: its rows in the order of
-/// adding, and for how many more there is room. Nothing looks at the order between rows of two parents.
+/// adding, and for how many more there is room. The order between rows of two parents is not kept.
 #[derive(Debug, Drop)]
 pub struct Renames {
     alloc: Global,

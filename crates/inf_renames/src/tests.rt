@@ -32,23 +32,21 @@ fn put(
 #[test]
 fn versions(rt: HostRuntime) -> Result<(), Fail> {
     let mut renames = Renames::new(rt.alloc());
-    // the parent, the name, the least version of it, and the version that is taken then
-    let rows: [(&Id, &[u8; 1], u64, u64); 8] = [
-        (&ONE, b"a", 0, 0),
-        (&ONE, b"a", 1, 1),
-        (&ONE, b"a", 2, 4),
-        (&ONE, b"b", 0, 0),
-        (&TWO, b"a", 0, 2),
-        (&TWO, b"a", 0, 0),
-        (&TWO, b"a", 1, 1),
-        (&TWO, b"a", 3, 3),
+    // the parent, the name, the least version of it, the version that is taken then, and the directory's birth
+    let rows: [(&Id, &[u8; 1], u64, u64, u64); 8] = [
+        (&ONE, b"a", 0, 0, 0),
+        (&ONE, b"a", 1, 1, 1),
+        (&ONE, b"a", 2, 4, 2),
+        (&ONE, b"b", 0, 0, 3),
+        (&TWO, b"a", 0, 2, 4),
+        (&TWO, b"a", 0, 0, 5),
+        (&TWO, b"a", 1, 1, 6),
+        (&TWO, b"a", 3, 3, 7),
     ];
-    let mut born = 0;
-    for (parent, name, least, version) in rows {
+    for (parent, name, least, version, born) in rows {
         let name = Name::from_slice(rt.alloc(), name)?;
         assert_eq!(rt; renames.least_version(parent, &name), least);
         put(&mut renames, parent, name, version, born)?;
-        born += 1;
     }
     // what is removed, and the least version of `a` there then
     let rows: [(&Id, u64, u64); 6] = [
