@@ -1,0 +1,3 @@
+pub mod KeptFacts
+pub mod OneList
+pub mod RenamesFacts

@@ -1,0 +1,4 @@
+pub mod Examples
+pub mod Kept
+pub mod Renames
+pub mod Rows

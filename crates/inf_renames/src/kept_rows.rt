@@ -1,0 +1,95 @@
+//! The rename list of one parent.
+
+ghost use Rattle.std.specs.Prelude.{◌≡◌, ℕ, ◌+◌, ◌-◌, ◌<◌, ◌≤◌, true, false, [], ◌∷◌, ◌++◌, OnOk, OnErr, position};
+ghost use Rattle.inf_renames.specs.Kept.{nothing_kept, has_version, without_dir};
+ghost use Rattle.inf_renames.specs.Rows.{is_same_dir};
+
+use crate::row::Row;
+use inf_base::{DirRef, Name, NoMemory};
+use std::alloc::Global;
+use std::marker::Model;
+
+/// The rows of one parent in the order of adding, with room for `spare` more.
+#[derive(Debug, Drop)]
+pub struct KeptRows {
+    rows: Vec<Row>,
+    spare: usize,
+}
+
+impl Model for KeptRows {
+    ghost use Rattle.std.specs.Prelude.{◌+◌, ◌≤◌, vec_len, vec_capacity};
+    ghost use Rattle.inf_renames.specs.Kept.{Kept};
+
+    ghost Value = { Kept };
+
+    ghost view = { λ k. record { rows = k.rows.items; spare = k.spare } };
+
+    ghost invariant = { λ k. vec_len k.rows + k.spare ≤ vec_capacity k.rows };
+}
+
+impl KeptRows {
+    pub fn new(alloc: Global) -> Self
+        ensures { result ≡ nothing_kept }
+    {
+        KeptRows {
+            rows: Vec::new(alloc),
+            spare: 0,
+        }
+    }
+
+    fn has_version(&self, name: &Name, version: u64) -> bool
+        ensures { result ≡ has_version name.now version self.now.rows }
+    {
+        self.rows
+            .iter()
+            .any(|row| row.name == *name && row.version == version)
+    }
+
+    /// The least number that no row of this name has.
+    pub fn least_version(&self, name: &Name) -> u64
+        ensures free { has_version name.now result self.now.rows ≡ false }
+        ensures least { (v : ℕ) → v < result → has_version name.now v self.now.rows ≡ true }
+    {
+        let count = self.rows.len() as u64;
+        for version in 0..count {
+            if !self.has_version(name, version) {
+                return version;
+            }
+        }
+        count
+    }
+
+    /// Makes room for one more row.
+    pub fn reserve(&mut self) -> Result<(), NoMemory>
+        ensures ok { OnOk result (self.new ≡ record { rows = self.old.rows; spare = self.old.spare + 1 }) }
+        ensures err { OnErr result (self.new ≡ self.old) }
+    {
+        self.rows.reserve(self.spare + 1)?;
+        self.spare += 1;
+        Ok(())
+    }
+
+    pub fn add(&mut self, row: Row)
+        requires { 0 < self.old.spare }
+        ensures { self.new ≡ record { rows = self.old.rows ++ row ∷ []; spare = self.old.spare - 1 } }
+    {
+        self.rows.push_reserved(row);
+        self.spare -= 1;
+    }
+
+    #[tactic(auto, using(crate::proofs::KeptFacts::without_found))]
+    /// Removes the first row of the directory, if there is one.
+    pub fn remove(&mut self, dir: &DirRef)
+        ensures { self.new ≡ record { rows = without_dir dir.now self.old.rows; spare = self.old.spare } }
+    {
+        if let Some(index) = place_of(self.rows.as_slice(), dir) {
+            let _ = self.rows.remove(index);
+        }
+    }
+}
+
+fn place_of(rows: &[Row], dir: &DirRef) -> Option<usize>
+    ensures { result ≡ position (λ r. is_same_dir r.dir dir.now) rows.now }
+{
+    rows.iter().position(|row| row.dir == *dir)
+}

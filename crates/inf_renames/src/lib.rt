@@ -1,0 +1,14 @@
+//! The rename lists of a server: which versions of a name are taken by directories that moved away.
+#![tactic(auto)]
+
+mod examples;
+mod kept_rows;
+mod laws;
+mod renames;
+mod row;
+#[cfg(test)]
+mod tests;
+
+pub use examples::{example_of_others, example_of_removals, example_of_versions};
+pub use laws::{least_versions_are_unique, lists_follow_one_list};
+pub use renames::Renames;
