@@ -211,16 +211,25 @@ fn a_fault_of_the_sink_leaves_a_front(rt: HostRuntime) -> Result<(), Fail> {
     Ok(())
 }
 
-/// Appends so many lines of 32,768 bytes each, newlines included, that begin with this word and are blank behind it.
-fn put_lines(text: &mut Vec<u8>, word: &[u8], lines: usize) -> Result<(), Fail> {
-    for _ in 0..lines {
-        text.extend_from_slice(word)?;
-        for _ in word.len()..32_767 {
-            text.push(b' ')?;
-        }
-        text.push(b'\n')?;
+/// A line of 32,768 bytes, its newline included, that begins with this word and is blank behind it.
+fn long_line(alloc: Global, word: &[u8]) -> Result<Vec<u8>, Fail> {
+    let mut line = word.to_vec(alloc)?;
+    for _ in word.len()..32_767 {
+        line.push(b' ')?;
     }
-    Ok(())
+    line.push(b'\n')?;
+    Ok(line)
+}
+
+/// A script of the largest size, in 2,048 lines.
+fn longest_script(alloc: Global) -> Result<Vec<u8>, Fail> {
+    let mut text = long_line(alloc, b"infinifs 1")?;
+    let comment = long_line(alloc, b"#")?;
+    for _ in 0..2046 {
+        text.extend_from_slice(&comment)?;
+    }
+    text.extend_from_slice(&long_line(alloc, b"end")?)?;
+    Ok(text)
 }
 
 /// Whether a text, which goes on behind these bytes or not, is refused so; `None` for a script.
@@ -237,10 +246,7 @@ fn is_refused(alloc: Global, text: &[u8], more: bool, expected: Option<ScriptRef
 
 #[test]
 fn the_longest_text_is_read_and_no_longer_one(rt: HostRuntime) -> Result<(), Fail> {
-    let mut text = Vec::new(rt.alloc());
-    put_lines(&mut text, b"infinifs 1", 1)?;
-    put_lines(&mut text, b"#", 2046)?;
-    put_lines(&mut text, b"end", 1)?;
+    let text = longest_script(rt.alloc())?;
     assert_eq!(rt; text.len(), MOST_SCRIPT_BYTES);
     assert!(rt; is_refused(rt.alloc(), &text, false, None));
     let too_long = ScriptRefusal {
