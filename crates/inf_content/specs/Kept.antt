@@ -1,0 +1,15 @@
+-- How a slot is kept.
+use Rattle.std.specs.Prelude.{Option, Some, None}
+use Rattle.std.specs.Option.{option_map}
+use Rattle.inf_base.specs.Content.{Hold, Slot, reserved, file, directory}
+use Rattle.inf_content.specs.declared.slot.Holder.{Holder}
+use Rattle.inf_content.specs.declared.slot.What.{What}
+use Rattle.inf_content.specs.declared.slot.What.TheVariants as what
+
+abbrev pub hold_of : Holder → Hold
+hold_of holder = record { by = holder.by; mode = holder.mode }
+
+abbrev pub slot_of : What → Option Holder → Slot
+slot_of (what.Reserved by access) held = reserved by access
+slot_of (what.File meta) held = file meta (option_map hold_of held)
+slot_of (what.Dir access) held = directory access (option_map hold_of held)
