@@ -5,6 +5,7 @@ mod inside;
 mod made;
 mod seen;
 mod slot;
+mod slots;
 
 pub use inside::Inside;
 pub use made::Made;

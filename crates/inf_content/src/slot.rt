@@ -5,10 +5,11 @@ ghost use Rattle.std.specs.Option.{option_map};
 ghost use Rattle.inf_content.specs.declared.slot.Holder.{Holder};
 ghost use Rattle.inf_base.specs.Content.{file, reserved};
 ghost use Rattle.inf_content.specs.Kept.{hold_of};
-ghost use Rattle.inf_content.specs.Slot.{access_in, erases, filled, freed, held_slot, holds, is_held_by, is_same_call, is_to_go, kind_in, linked, mode_after, reserves, seen_slot, settled, taker, with_meta};
+ghost use Rattle.inf_content.specs.Slots.{is_birth_place, lives};
+ghost use Rattle.inf_content.specs.Slot.{access_in, dir_of, erases, filled, freed, held_slot, holds, is_held_by, is_same_call, is_to_go, kind_in, linked, mode_after, reserves, seen_slot, settled, taker, with_meta};
 
 use crate::seen::Seen;
-use inf_base::{Access, CallRef, Caller, DirRef, FileMeta, Kind, NoMemory, TryClone};
+use inf_base::{Access, CallRef, Caller, DirRef, FileMeta, Id, Kind, Name, NoMemory, Triple, TryClone};
 use std::alloc::Global;
 use std::marker::Model;
 use std::mem;
@@ -196,6 +197,28 @@ impl Kept {
         self.held = None;
     }
 
+    /// The directory that it is once it is filled, and whether it lives where it was made.
+    pub(crate) fn told_of_fill(
+        &self,
+        id: &Id,
+        name: &Name,
+        link: Option<(DirRef, u16, Caller)>,
+    ) -> Option<(DirRef, bool)>
+        ensures { result ≡ lives id.now name.now (access_in (filled link self.now)) }
+    {
+        match &self.what {
+            What::Reserved(_, access) => {
+                let dir = linked_dir(link, access);
+                Some((dir, is_birth_place(id, name, &access.birth)))
+            }
+            What::File(_) => None,
+            What::Dir(access) => {
+                let dir = linked_dir(None, access);
+                Some((dir, is_birth_place(id, name, &access.birth)))
+            }
+        }
+    }
+
     /// Makes a directory of what was reserved.
     pub(crate) fn fill(&mut self, link: Option<(DirRef, u16, Caller)>)
         ensures { self.new ≡ filled link self.old }
@@ -280,5 +303,30 @@ fn linked(link: Option<(DirRef, u16, Caller)>, access: Access) -> Access
             group: caller.gid,
             birth: access.birth,
         },
+    }
+}
+
+fn linked_dir(link: Option<(DirRef, u16, Caller)>, access: &Access) -> DirRef
+    ensures { result ≡ dir_of (linked link access.now) }
+{
+    match link {
+        None => DirRef {
+            id: access.id,
+            born: access.born,
+        },
+        Some((dir, _, _)) => dir,
+    }
+}
+
+fn is_birth_place(id: &Id, name: &Name, birth: &Triple) -> bool
+    ensures { result ≡ is_birth_place id.now name.now birth.now }
+{
+    match birth {
+        Triple::Root => false,
+        Triple::Of {
+            parent,
+            name: birth_name,
+            version: _,
+        } => id.bytes.as_slice() == parent.bytes.as_slice() && name.as_slice() == birth_name.as_slice(),
     }
 }
