@@ -1,3 +1,5 @@
+pub mod Contents
 pub mod Kept
+pub mod Objects
 pub mod Slot
 pub mod Slots

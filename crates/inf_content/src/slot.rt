@@ -1,6 +1,6 @@
 //! What stands under a name of a directory.
 
-ghost use Rattle.std.specs.Prelude.{◌≡◌, IfOk};
+ghost use Rattle.std.specs.Prelude.{◌≡◌, true, false, ◌||◌, if◌then◌else◌, IfOk};
 ghost use Rattle.std.specs.Option.{option_map};
 ghost use Rattle.inf_content.specs.declared.slot.Holder.{Holder};
 ghost use Rattle.inf_base.specs.Content.{file, reserved};
@@ -173,12 +173,50 @@ impl Kept {
         self.held = Some(Holder { by, mode });
     }
 
-    pub(crate) fn free(&mut self, by: CallRef)
-        ensures { self.new ≡ freed by self.old }
+    /// Lifts the call's hold, and tells whether it is to stay, as what the call did not reserve.
+    pub(crate) fn free(&mut self, by: CallRef) -> bool
+        ensures told { result ≡ (if reserves by self.old then false else true) }
+        ensures freed { self.new ≡ freed by self.old }
     {
         if is_held_by(by, self.held) {
             self.held = None;
         }
+        !self.reserves(by)
+    }
+
+    /// Settles what the call holds unless one was before, and tells whether one is now.
+    pub(crate) fn settle_once(&mut self, is_done: bool, by: CallRef) -> bool
+        ensures told { result ≡ (is_done || holds by self.old) }
+        ensures value { self.new ≡ (if is_done then self.old else (if holds by self.old then settled self.old else self.old)) }
+    {
+        if is_done {
+            return true;
+        }
+        if !self.holds(by) {
+            return false;
+        }
+        self.settle();
+        true
+    }
+
+    /// Fills what the call reserved unless one was before, and tells whether one is now.
+    pub(crate) fn fill_once(
+        &mut self,
+        is_done: bool,
+        by: CallRef,
+        link: Option<(DirRef, u16, Caller)>,
+    ) -> bool
+        ensures told { result ≡ (is_done || reserves by self.old) }
+        ensures value { self.new ≡ (if is_done then self.old else (if reserves by self.old then filled link self.old else self.old)) }
+    {
+        if is_done {
+            return true;
+        }
+        if !self.reserves(by) {
+            return false;
+        }
+        self.fill(link);
+        true
     }
 
     /// Gives it the mode that was kept for it, and lifts its hold.

@@ -159,10 +159,7 @@ impl Slots {
         }
         let mut is_done = false;
         self.by_name.retain(move |_, kept| {
-            if !is_done && kept.holds(by) {
-                is_done = true;
-                kept.settle();
-            }
+            is_done = kept.settle_once(is_done, by);
             true
         });
         true
@@ -188,10 +185,7 @@ impl Slots {
         let told = self.told_of_fill(id, by, link)?;
         let mut is_done = false;
         self.by_name.retain(move |_, kept| {
-            if !is_done && kept.reserves(by) {
-                is_done = true;
-                kept.fill(link);
-            }
+            is_done = kept.fill_once(is_done, by, link);
             true
         });
         Some(told)
@@ -212,18 +206,6 @@ impl Slots {
     pub(crate) fn lift(&mut self, by: CallRef)
         ensures { self.new ≡ lifted by self.old }
     {
-        self.by_name.retain(move |_, kept| {
-            kept.free(by);
-            !kept.reserves(by)
-        });
-    }
-
-    /// Removes the first slot that the call holds with no mode to come.
-    pub(crate) fn erase(&mut self, by: CallRef) -> Option<(Name, Option<Access>)>
-        ensures told { result ≡ told_of_erased (first (erases by) self.old) }
-        ensures erased { self.new ≡ erased by self.old }
-    {
-        let (name, kept) = self.by_name.extract_if(.., move |_, kept| kept.erases(by)).next()?;
-        Some((name, kept.into_access()))
+        self.by_name.retain(move |_, kept| kept.free(by));
     }
 }

@@ -1,0 +1,148 @@
+-- The content objects of a server, in the order of their identifiers: one definition for each call.
+use Rattle.std.specs.Prelude.{ℕ, ◌==◌, Bool, false, ◌&&◌, ◌||◌, if◌then◌else◌, List, [], ◌∷◌, Option, Some, None}
+use Rattle.std.specs.Cmp.Lexicographic.{slice_cmp}
+use Rattle.std.specs.declared.cmp.Ordering.{Ordering}
+use Rattle.std.specs.Ordering.{nat_cmp, is_eq, match_ordering}
+use Rattle.inf_base.specs.declared.access.Access.{Access}
+use Rattle.inf_base.specs.declared.caller.Caller.{Caller}
+use Rattle.inf_base.specs.declared.caller.CallRef.{CallRef}
+use Rattle.inf_base.specs.declared.directory.DirRef.{DirRef}
+use Rattle.inf_base.specs.declared.file.FileMeta.{FileMeta}
+use Rattle.inf_base.specs.declared.id.Id.{Id}
+use Rattle.inf_base.specs.declared.item.Item.{Item}
+use Rattle.inf_base.specs.declared.triple.Triple.{Triple}
+use Rattle.inf_base.specs.Content.{Content, Slot, reserved, file}
+use Rattle.inf_content.specs.declared.inside.Inside.{Inside}
+use Rattle.inf_content.specs.declared.inside.Inside.TheVariants as inside
+use Rattle.inf_content.specs.declared.made.Made.{Made}
+use Rattle.inf_content.specs.declared.made.Made.TheVariants as made
+use Rattle.inf_content.specs.declared.seen.Seen.{Seen}
+use Rattle.inf_content.specs.declared.seen.Seen.TheVariants as seen
+use Rattle.inf_content.specs.Slot.{erases, held_slot, holds, is_same_call, reserves, with_meta}
+use Rattle.inf_content.specs.Slots.{access_of, changed_slot, erased, filled_in, first, first_taker, inside_of, items_of, lifted, seen_of, settled_in, slot_in, told_of_erased, told_of_filled, with_slot, without_slot}
+
+abbrev pub id_cmp : Id → Id → Ordering
+id_cmp a b = slice_cmp nat_cmp a.bytes b.bytes
+
+abbrev pub is_same_id : Id → Id → Bool
+is_same_id a b = is_eq (id_cmp a b)
+
+-- the content object of an identifier, whenever it was born
+abbrev pub content_of_id : Id → List Content → Option Content
+content_of_id id [] = None
+content_of_id id (c ∷ cs) = if is_same_id id c.dir.id then Some c else content_of_id id cs
+
+abbrev pub if_born : ℕ → Option Content → Option Content
+if_born born None = None
+if_born born (Some c) = if c.dir.born == born then Some c else None
+
+-- the content object of a directory, by its identifier and its birth
+abbrev pub content_at : DirRef → List Content → Option Content
+content_at dir contents = if_born dir.born (content_of_id dir.id contents)
+
+-- the content objects with the one of a directory changed; where the directory is not there, as they are
+abbrev pub changed_at : DirRef → (Content → Content) → List Content → List Content
+changed_at dir change [] = []
+changed_at dir change (c ∷ cs) =
+    if is_same_id dir.id c.dir.id then (if c.dir.born == dir.born then change c else c) ∷ cs
+    else c ∷ changed_at dir change cs
+
+-- the same, with its slots changed
+abbrev pub with_slots_at : DirRef → (List (List ℕ × Slot) → List (List ℕ × Slot)) → List Content → List Content
+with_slots_at dir change contents = changed_at dir (λ (c : Content). record c { slots = change c.slots }) contents
+
+-- the content objects with one more, in its place by identifier
+abbrev pub placed : Content → List Content → List Content
+placed content [] = content ∷ []
+placed content (c ∷ cs) = match_ordering (id_cmp content.dir.id c.dir.id) (content ∷ c ∷ cs) (content ∷ cs) (c ∷ placed content cs)
+
+-- an empty directory
+abbrev pub empty_content : Id → ℕ → Triple → CallRef → Content
+empty_content id born triple by = record { dir = record { id = id; born = born }; triple = triple; maker = by; seal = None; slots = [] }
+
+-- the call that sealed it, or else the one that made it
+abbrev pub bearer_or : CallRef → Option CallRef → CallRef
+bearer_or maker None = maker
+bearer_or maker (Some sealer) = sealer
+
+abbrev pub bearer : Content → CallRef
+bearer content = bearer_or content.maker content.seal
+
+-- what is found of a directory
+abbrev pub seen_in : List ℕ → Option Content → Seen
+seen_in name None = seen.Gone
+seen_in name (Some c) = seen_of (slot_in name c.slots)
+
+abbrev pub look : DirRef → List ℕ → List Content → Seen
+look dir name contents = seen_in name (content_at dir contents)
+
+abbrev pub access_found : List ℕ → Option Content → Option Access
+access_found name None = None
+access_found name (Some c) = access_of (slot_in name c.slots)
+
+abbrev pub seal_of : Option Content → Option CallRef
+seal_of None = None
+seal_of (Some c) = c.seal
+
+abbrev pub born_of : Option Content → Option ℕ
+born_of None = None
+born_of (Some c) = Some c.dir.born
+
+-- the slots of a directory; none where it is not there
+abbrev pub slots_found : Option Content → List (List ℕ × Slot)
+slots_found None = []
+slots_found (Some c) = c.slots
+
+abbrev pub slots_at : DirRef → List Content → List (List ℕ × Slot)
+slots_at dir contents = slots_found (content_at dir contents)
+
+abbrev pub reserved_at : DirRef → List ℕ → CallRef → Access → List Content → List Content
+reserved_at dir name by access contents = with_slots_at dir (with_slot name (reserved by access)) contents
+
+abbrev pub with_file_at : DirRef → List ℕ → FileMeta → List Content → List Content
+with_file_at dir name meta contents = with_slots_at dir (with_slot name (file meta None)) contents
+
+abbrev pub with_meta_at : DirRef → List ℕ → FileMeta → List Content → List Content
+with_meta_at dir name meta contents = with_slots_at dir (changed_slot name (with_meta meta)) contents
+
+abbrev pub without_slot_at : DirRef → List ℕ → List Content → List Content
+without_slot_at dir name contents = with_slots_at dir (without_slot name) contents
+
+abbrev pub held_at : DirRef → List ℕ → CallRef → Option ℕ → List Content → List Content
+held_at dir name by mode contents = with_slots_at dir (changed_slot name (held_slot by mode)) contents
+
+abbrev pub filled_at : DirRef → CallRef → Option (DirRef × ℕ × Caller) → List Content → List Content
+filled_at dir by link contents = with_slots_at dir (filled_in by link) contents
+
+abbrev pub settled_at : DirRef → CallRef → List Content → List Content
+settled_at dir by contents = with_slots_at dir (settled_in by) contents
+
+abbrev pub lifted_at : DirRef → CallRef → List Content → List Content
+lifted_at dir by contents = with_slots_at dir (lifted by) contents
+
+abbrev pub erased_at : DirRef → CallRef → List Content → List Content
+erased_at dir by contents = with_slots_at dir (erased by) contents
+
+abbrev pub sealed_at : DirRef → CallRef → List Content → List Content
+sealed_at dir by contents = changed_at dir (λ (c : Content). record c { seal = Some by }) contents
+
+abbrev pub is_call : CallRef → Option CallRef → Bool
+is_call by None = false
+is_call by (Some other) = is_same_call other by
+
+-- a seal of another call stays
+abbrev pub unsealed : CallRef → Content → Content
+unsealed by c = if is_call by c.seal then record c { seal = None } else c
+
+abbrev pub unsealed_at : DirRef → CallRef → List Content → List Content
+unsealed_at dir by contents = changed_at dir (unsealed by) contents
+
+-- a call may drop what it sealed or made
+abbrev pub may_drop : CallRef → Content → Bool
+may_drop by c = is_call by c.seal || is_same_call c.maker by
+
+abbrev pub dropped_at : DirRef → CallRef → List Content → List Content
+dropped_at dir by [] = []
+dropped_at dir by (c ∷ cs) =
+    if is_same_id dir.id c.dir.id then (if c.dir.born == dir.born && may_drop by c then cs else c ∷ cs)
+    else c ∷ dropped_at dir by cs
