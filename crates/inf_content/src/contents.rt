@@ -3,9 +3,10 @@
 ghost use Rattle.std.specs.Prelude.{◌≡◌, [], is_some, false, if◌then◌else◌, IfOk, OnOk, OnErr};
 ghost use Rattle.std.specs.Option.{option_map};
 ghost use Rattle.inf_base.specs.declared.caller.CallRef.{CallRef};
-ghost use Rattle.inf_content.specs.Contents.{access_found, born_of, content_at, content_of_id, look, seal_of, slots_at};
+ghost use Rattle.inf_content.specs.Contents.{access_found, born_of, content_at, content_of_id, look, seal_of, settled_at, slots_at};
+ghost use Rattle.inf_content.specs.Slot.{holds};
 ghost use Rattle.inf_content.specs.Objects.{whole};
-ghost use Rattle.inf_content.specs.Slots.{first_taker, inside_of, items_of};
+ghost use Rattle.inf_content.specs.Slots.{first, first_taker, inside_of, items_of};
 
 use crate::inside::Inside;
 use crate::object::Object;
@@ -128,5 +129,25 @@ impl Contents {
             None => Ok(Items::new(Vec::new(self.alloc))),
             Some(object) => object.slots.list(self.alloc),
         }
+    }
+
+    fn is_here(&self, dir: &DirRef) -> bool
+        ensures { result ≡ is_some (content_at dir.now self.now) }
+    {
+        self.object(dir).is_some()
+    }
+
+    /// Gives the first slot that the call holds in the directory the mode that was kept for it, and lifts its hold.
+    pub fn settle(&mut self, dir: &DirRef, by: CallRef) -> bool
+        ensures told { result ≡ is_some (first (holds by) (slots_at dir.now self.old)) }
+        ensures settled { self.new ≡ settled_at dir.now by self.old }
+    {
+        if !self.is_here(dir) {
+            return false;
+        }
+        let Some(object) = self.by_id.get_mut(&dir.id) else {
+            unreachable!()
+        };
+        object.slots.settle(by)
     }
 }
