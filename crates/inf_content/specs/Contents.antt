@@ -1,8 +1,9 @@
 -- The content objects of a server, in the order of their identifiers: one definition for each call.
-use Rattle.std.specs.Prelude.{ℕ, ◌==◌, Bool, false, ◌&&◌, ◌||◌, if◌then◌else◌, List, [], ◌∷◌, Option, Some, None}
+use Rattle.std.specs.Prelude.{ℕ, ◌==◌, Bool, true, false, ◌&&◌, ◌||◌, if◌then◌else◌, List, [], ◌∷◌, Option, Some, None}
 use Rattle.std.specs.Cmp.Lexicographic.{slice_cmp}
 use Rattle.std.specs.declared.cmp.Ordering.{Ordering}
 use Rattle.std.specs.Ordering.{nat_cmp, is_eq, match_ordering}
+use Rattle.std.specs.Str.{bytes_eq}
 use Rattle.inf_base.specs.declared.access.Access.{Access}
 use Rattle.inf_base.specs.declared.caller.Caller.{Caller}
 use Rattle.inf_base.specs.declared.caller.CallRef.{CallRef}
@@ -11,6 +12,7 @@ use Rattle.inf_base.specs.declared.file.FileMeta.{FileMeta}
 use Rattle.inf_base.specs.declared.id.Id.{Id}
 use Rattle.inf_base.specs.declared.item.Item.{Item}
 use Rattle.inf_base.specs.declared.triple.Triple.{Triple}
+use Rattle.inf_base.specs.declared.triple.Triple.TheVariants as triple
 use Rattle.inf_base.specs.Content.{Content, Slot, reserved, file}
 use Rattle.inf_content.specs.declared.inside.Inside.{Inside}
 use Rattle.inf_content.specs.declared.inside.Inside.TheVariants as inside
@@ -58,7 +60,7 @@ placed content (c ∷ cs) = match_ordering (id_cmp content.dir.id c.dir.id) (con
 
 -- an empty directory
 abbrev pub empty_content : Id → ℕ → Triple → CallRef → Content
-empty_content id born triple by = record { dir = record { id = id; born = born }; triple = triple; maker = by; seal = None; slots = [] }
+empty_content id born asked by = record { dir = record { id = id; born = born }; triple = asked; maker = by; seal = None; slots = [] }
 
 -- the call that sealed it, or else the one that made it
 abbrev pub bearer_or : CallRef → Option CallRef → CallRef
@@ -131,18 +133,45 @@ is_call by None = false
 is_call by (Some other) = is_same_call other by
 
 -- a seal of another call stays
-abbrev pub unsealed : CallRef → Content → Content
-unsealed by c = if is_call by c.seal then record c { seal = None } else c
+abbrev pub seal_left : CallRef → Option CallRef → Option CallRef
+seal_left by seal = if is_call by seal then None else seal
 
 abbrev pub unsealed_at : DirRef → CallRef → List Content → List Content
-unsealed_at dir by contents = changed_at dir (unsealed by) contents
+unsealed_at dir by contents = changed_at dir (λ (c : Content). record c { seal = seal_left by c.seal }) contents
 
 -- a call may drop what it sealed or made
 abbrev pub may_drop : CallRef → Content → Bool
 may_drop by c = is_call by c.seal || is_same_call c.maker by
+
+abbrev pub may_drop_found : CallRef → Option Content → Bool
+may_drop_found by None = false
+may_drop_found by (Some c) = may_drop by c
 
 abbrev pub dropped_at : DirRef → CallRef → List Content → List Content
 dropped_at dir by [] = []
 dropped_at dir by (c ∷ cs) =
     if is_same_id dir.id c.dir.id then (if c.dir.born == dir.born && may_drop by c then cs else c ∷ cs)
     else c ∷ dropped_at dir by cs
+
+abbrev pub is_same_triple : Triple → Triple → Bool
+is_same_triple triple.Root triple.Root = true
+is_same_triple triple.Root (triple.Of parent name version) = false
+is_same_triple (triple.Of parent name version) triple.Root = false
+is_same_triple (triple.Of parent name version) (triple.Of other_parent other_name other_version) =
+    bytes_eq parent.bytes other_parent.bytes && bytes_eq name other_name && version == other_version
+
+-- what comes of making a directory of this triple, where another is kept, of that triple and that call
+abbrev pub made_beside : Triple → Triple → CallRef → Made
+made_beside asked kept by = if is_same_triple kept asked then made.Bearer by else made.Clash kept
+
+abbrev pub made_of : Triple → Option Content → Made
+made_of asked None = made.New
+made_of asked (Some c) = made_beside asked c.triple (bearer c)
+
+-- a content object is added only where none of its identifier is kept
+abbrev pub with_new : Content → Option Content → List Content → List Content
+with_new content None contents = placed content contents
+with_new content (Some kept) contents = contents
+
+abbrev pub made_at : Id → ℕ → Triple → CallRef → List Content → List Content
+made_at id born asked by contents = with_new (empty_content id born asked by) (content_of_id id contents) contents

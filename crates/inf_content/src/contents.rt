@@ -3,16 +3,18 @@
 ghost use Rattle.std.specs.Prelude.{◌≡◌, [], is_some, false, if◌then◌else◌, IfOk, OnOk, OnErr};
 ghost use Rattle.std.specs.Option.{option_map};
 ghost use Rattle.inf_base.specs.declared.caller.CallRef.{CallRef};
-ghost use Rattle.inf_content.specs.Contents.{access_found, born_of, content_at, content_of_id, look, seal_of, settled_at, slots_at};
-ghost use Rattle.inf_content.specs.Slot.{holds};
+ghost use Rattle.inf_content.specs.Contents.{access_found, born_of, content_at, content_of_id, dropped_at, filled_at, held_at, lifted_at, look, made_at, made_of, may_drop_found, reserved_at, seal_of, sealed_at, settled_at, slots_at, unsealed_at, with_file_at, with_meta_at, without_slot_at};
+ghost use Rattle.inf_content.specs.Slot.{holds, reserves};
 ghost use Rattle.inf_content.specs.Objects.{whole};
-ghost use Rattle.inf_content.specs.Slots.{first, first_taker, inside_of, items_of};
+ghost use Rattle.inf_content.specs.Slots.{first, first_taker, inside_of, items_of, told_of_filled};
 
 use crate::inside::Inside;
-use crate::object::Object;
+use crate::made::Made;
+use crate::object::{Object, seal_left};
 use crate::seen::Seen;
+use crate::slots::Slots;
 use inf_base::{
-    Access, CallRef, DirRef, Id, Items, Name, NoMemory, Place,
+    Access, CallRef, Caller, DirRef, FileMeta, Id, Items, Name, NoMemory, Place, Triple,
 };
 use std::alloc::Global;
 use std::collections::BTreeMap;
@@ -149,5 +151,167 @@ impl Contents {
             unreachable!()
         };
         object.slots.settle(by)
+    }
+
+    /// Changes the metadata of the file under a name.
+    pub fn set_file(&mut self, dir: &DirRef, name: &Name, meta: FileMeta)
+        ensures { self.new ≡ with_meta_at dir.now name.now meta self.old }
+    {
+        if !self.is_here(dir) {
+            return;
+        }
+        let Some(object) = self.by_id.get_mut(&dir.id) else {
+            unreachable!()
+        };
+        object.slots.set_file(name, meta);
+    }
+
+    /// Removes a slot.
+    pub fn take_out(&mut self, dir: &DirRef, name: &Name)
+        ensures { self.new ≡ without_slot_at dir.now name.now self.old }
+    {
+        if !self.is_here(dir) {
+            return;
+        }
+        let Some(object) = self.by_id.get_mut(&dir.id) else {
+            unreachable!()
+        };
+        object.slots.take_out(name);
+    }
+
+    /// Lets a call hold the slot under a name, with the mode to come.
+    pub fn hold(&mut self, dir: &DirRef, name: &Name, by: CallRef, mode: Option<u16>)
+        ensures { self.new ≡ held_at dir.now name.now by mode self.old }
+    {
+        if !self.is_here(dir) {
+            return;
+        }
+        let Some(object) = self.by_id.get_mut(&dir.id) else {
+            unreachable!()
+        };
+        object.slots.hold(name, by, mode);
+    }
+
+    /// Lifts each hold of the call in the directory, and removes what it reserved there.
+    pub fn lift(&mut self, dir: &DirRef, by: CallRef)
+        ensures { self.new ≡ lifted_at dir.now by self.old }
+    {
+        if !self.is_here(dir) {
+            return;
+        }
+        let Some(object) = self.by_id.get_mut(&dir.id) else {
+            unreachable!()
+        };
+        object.slots.lift(by);
+    }
+
+    /// Makes what the call reserved first in the directory a directory: that of the link, where there is one. Tells
+    /// which directory stands there then, and whether it lives where it was made.
+    pub fn fill(&mut self, dir: &DirRef, by: CallRef, link: Option<(DirRef, u16, Caller)>) -> Option<(DirRef, bool)>
+        ensures told { result ≡ told_of_filled dir.now.id link (first (reserves by) (slots_at dir.now self.old)) }
+        ensures filled { self.new ≡ filled_at dir.now by link self.old }
+    {
+        if !self.is_here(dir) {
+            return None;
+        }
+        let Some(object) = self.by_id.get_mut(&dir.id) else {
+            unreachable!()
+        };
+        object.slots.fill(&dir.id, by, link)
+    }
+
+    /// Seals the directory.
+    pub fn seal(&mut self, dir: &DirRef, by: CallRef)
+        ensures { self.new ≡ sealed_at dir.now by self.old }
+    {
+        if !self.is_here(dir) {
+            return;
+        }
+        let Some(object) = self.by_id.get_mut(&dir.id) else {
+            unreachable!()
+        };
+        object.seal = Some(by);
+    }
+
+    /// Lifts the seal, if it is the call's own.
+    pub fn unseal(&mut self, dir: &DirRef, by: CallRef)
+        ensures { self.new ≡ unsealed_at dir.now by self.old }
+    {
+        if !self.is_here(dir) {
+            return;
+        }
+        let Some(object) = self.by_id.get_mut(&dir.id) else {
+            unreachable!()
+        };
+        object.seal = seal_left(by, object.seal);
+    }
+
+    /// Reserves a name for a directory to come, whose access object is kept.
+    pub fn reserve(&mut self, dir: &DirRef, name: Name, by: CallRef, access: Access) -> Result<(), NoMemory>
+        ensures ok { OnOk result (self.new ≡ reserved_at dir.now name by access self.old) }
+        ensures err { OnErr result (self.new ≡ self.old) }
+    {
+        if !self.is_here(dir) {
+            return Ok(());
+        }
+        let Some(object) = self.by_id.get_mut(&dir.id) else {
+            unreachable!()
+        };
+        object.slots.reserve(name, by, access)?;
+        Ok(())
+    }
+
+    /// Puts a file under a name.
+    pub fn put_file(&mut self, dir: &DirRef, name: Name, meta: FileMeta) -> Result<(), NoMemory>
+        ensures ok { OnOk result (self.new ≡ with_file_at dir.now name meta self.old) }
+        ensures err { OnErr result (self.new ≡ self.old) }
+    {
+        if !self.is_here(dir) {
+            return Ok(());
+        }
+        let Some(object) = self.by_id.get_mut(&dir.id) else {
+            unreachable!()
+        };
+        object.slots.put_file(name, meta)?;
+        Ok(())
+    }
+
+    fn may_drop(&self, dir: &DirRef, by: CallRef) -> bool
+        ensures { result ≡ may_drop_found by (content_at dir.now self.now) }
+    {
+        match self.object(dir) {
+            None => false,
+            Some(object) => object.may_drop(by),
+        }
+    }
+
+    /// Drops the directory, if the call sealed or made it.
+    pub fn drop_dir(&mut self, dir: &DirRef, by: CallRef)
+        ensures { self.new ≡ dropped_at dir.now by self.old }
+    {
+        if !self.may_drop(dir, by) {
+            return;
+        }
+        self.by_id.remove(&dir.id);
+    }
+
+    /// Makes an empty directory, where none of its identifier is there.
+    pub fn make(&mut self, id: Id, triple: Triple, born: Place, by: CallRef) -> Result<Made, NoMemory>
+        ensures told { IfOk result (λ made. made ≡ made_of triple (content_of_id id self.old)) }
+        ensures ok { OnOk result (self.new ≡ made_at id born triple by self.old) }
+        ensures err { OnErr result (self.new ≡ self.old) }
+    {
+        if let Some(object) = self.object_of_id(&id) {
+            return object.made(self.alloc, &triple);
+        }
+        let object = Object {
+            born,
+            triple,
+            maker: by,
+            seal: None,
+            slots: Slots::new(self.alloc),
+        };
+        self.by_id.insert(id, object)?;
+        Ok(Made::New)
     }
 }
