@@ -1,18 +1,20 @@
 -- Content objects as they are kept, found and changed.
 use Rattle.std.proofs.Common.{◌≡◌, ℕ, Bool, true, false, cond, ◌&&◌, ◌==◌, List, [], ◌∷◌, Option, Some, None, is_some, Bor, refl, sym, ap, ◌∙◌, subst, rules, arith}
-use Rattle.std.specs.BTreeMap.{is_at}
-use Rattle.std.specs.Map.{lookup, set_value}
+use Rattle.std.specs.BTreeMap.{insert_entry, is_at}
+use Rattle.std.specs.Map.{lookup, remove_entry, set_value}
 use Rattle.std.specs.Option.{option_copied, option_map}
-use Rattle.std.specs.Ordering.{is_eq}
+use Rattle.std.specs.Ordering.{is_eq, match_ordering}
 use Rattle.std.specs.declared.cmp.Ordering.{Ordering}
 use Rattle.std.specs.declared.cmp.Ordering.TheVariants.{Less, Equal, Greater}
 use Rattle.std.proofs.lemmas.Map.Lookups.{exact_bytes}
 use Rattle.std.proofs.lemmas.Map.Steps.{set_value_same}
+use Rattle.inf_base.specs.declared.caller.CallRef.{CallRef}
 use Rattle.inf_base.specs.declared.directory.DirRef.{DirRef}
 use Rattle.inf_base.specs.declared.id.Id.{Id}
+use Rattle.inf_base.specs.declared.triple.Triple.{Triple}
 use Rattle.inf_base.specs.Content.{Content, Slot}
 use Rattle.inf_content.specs.declared.object.Object.{Object}
-use Rattle.inf_content.specs.Contents.{changed_at, content_at, content_of_id, id_cmp, if_born, is_same_id, slots_at, slots_found, with_slots_at}
+use Rattle.inf_content.specs.Contents.{changed_at, content_at, content_of_id, dropped_at, empty_content, id_cmp, if_born, is_same_id, made_at, may_drop, may_drop_found, placed, slots_at, slots_found, with_new, with_slots_at}
 use Rattle.inf_content.specs.Objects.{contents_of, whole}
 
 equal_from_is_eq : (o : Ordering) → is_eq o ≡ true → o ≡ Equal
@@ -144,3 +146,64 @@ slots_found-gone (Some c) h = cc
 
 pub slots_at-gone : (dir : DirRef) (cs : List Content) → is_some (content_at dir cs) ≡ false → slots_at dir cs ≡ []
 slots_at-gone dir cs h = slots_found-gone (content_at dir cs) h
+
+-- a directory dropped, as its object is
+may_drop_step : (b : Bool) (by : CallRef) (c : Content) → may_drop_found by (cond b (Some c) None) ≡ (b && may_drop by c)
+may_drop_step true by c = refl
+may_drop_step false by c = refl
+
+cond_map : (b : Bool) (c : Content) (xs ys : List Content) → c ∷ cond b xs ys ≡ cond b (c ∷ xs) (c ∷ ys)
+cond_map true c xs ys = refl
+cond_map false c xs ys = refl
+
+drop_step : (same b : Bool) (dir : DirRef) (by : CallRef) (id : Id) (o : Object) (es removed : List (Id × Object)) (later : Option Content) (dropped : List Content)
+    → may_drop_found by (if_born dir.born (cond same (Some (whole id o)) later)) ≡ b
+    → (may_drop_found by (if_born dir.born later) ≡ b → dropped ≡ cond b (contents_of removed) (contents_of es))
+    → cond same (cond (o.born == dir.born && may_drop by (whole id o)) (contents_of es) (whole id o ∷ contents_of es)) (whole id o ∷ dropped)
+      ≡ cond b (contents_of (cond same es ((id, o) ∷ removed))) (whole id o ∷ contents_of es)
+drop_step true b dir by id o es removed later dropped h rest =
+    ap (λ t. cond t (contents_of es) (whole id o ∷ contents_of es)) (sym (may_drop_step (o.born == dir.born) by (whole id o)) ∙ h)
+drop_step false b dir by id o es removed later dropped h rest =
+    ap (λ xs. whole id o ∷ xs) (rest h) ∙ cond_map b (whole id o) (contents_of removed) (contents_of es)
+
+dropped_at-kept : (b : Bool) (dir : DirRef) (by : CallRef) (es : List (Id × Object))
+    → may_drop_found by (content_at dir (contents_of es)) ≡ b
+    → dropped_at dir by (contents_of es) ≡ cond b (contents_of (remove_entry (is_at (id_cmp dir.id)) es)) (contents_of es)
+dropped_at-kept true dir by [] h = refl
+dropped_at-kept false dir by [] h = refl
+dropped_at-kept b dir by (e ∷ es) h =
+    drop_step (is_same_id dir.id e.0) b dir by e.0 e.1 es _ _ _ h (dropped_at-kept b dir by es)
+
+pub dropped_at-found : (b : Bool) (dir : DirRef) (by : CallRef) (es : List (Id × Object)) (cs : List Content)
+    → contents_of es ≡ cs → may_drop_found by (content_at dir cs) ≡ b
+    → dropped_at dir by cs ≡ cond b (contents_of (remove_entry (is_at (id_cmp dir.id)) es)) cs
+dropped_at-found b dir by es cs view h =
+    subst (λ (xs : List Content). may_drop_found by (content_at dir xs) ≡ b → dropped_at dir by xs ≡ cond b (contents_of (remove_entry (is_at (id_cmp dir.id)) es)) xs) view (dropped_at-kept b dir by es) h
+
+-- a directory added, as its object is
+placed_step : (o : Ordering) (id : Id) (object : Object) (e : Id × Object) (es inserted : List (Id × Object)) (put : List Content)
+    → (o ≡ Equal → id ≡ e.0) → put ≡ contents_of inserted
+    → contents_of (match_ordering o ((id, object) ∷ e ∷ es) ((e.0, object) ∷ es) (e ∷ inserted))
+      ≡ match_ordering o (whole id object ∷ whole e.0 e.1 ∷ contents_of es) (whole id object ∷ contents_of es) (whole e.0 e.1 ∷ put)
+placed_step Less id object e es inserted put same is = refl
+placed_step Equal id object e es inserted put same is = ap (λ k. whole k object ∷ contents_of es) (sym (same refl))
+placed_step Greater id object e es inserted put same is = ap (λ xs. whole e.0 e.1 ∷ xs) (sym is)
+
+is_eq_from_equal : (o : Ordering) → o ≡ Equal → is_eq o ≡ true
+is_eq_from_equal o h = ap is_eq h
+
+pub placed-kept : (id : Id) (object : Object) (es : List (Id × Object))
+    → contents_of (insert_entry id_cmp es id object) ≡ placed (whole id object) (contents_of es)
+placed-kept id object [] = refl
+placed-kept id object (e ∷ es) =
+    placed_step (id_cmp id e.0) id object e es _ _ (λ h. same_id id e.0 (is_eq_from_equal (id_cmp id e.0) h)) (sym (placed-kept id object es))
+
+pub made_at-new : (id : Id) (born : ℕ) (triple : Triple) (by : CallRef) (es : List (Id × Object)) (cs : List Content) (slots : List (List ℕ × Slot))
+    → contents_of es ≡ cs → slots ≡ [] → content_of_id id cs ≡ None
+    → contents_of (insert_entry id_cmp es id (record { born = born; triple = triple; maker = by; seal = None; slots = slots })) ≡ made_at id born triple by cs
+made_at-new id born triple by es cs slots view empty absent =
+    let content = empty_content id born triple by in
+    placed-kept id (record { born = born; triple = triple; maker = by; seal = None; slots = slots }) es
+    ∙ ap (λ (ss : List (List ℕ × Slot)). placed (whole id (record { born = born; triple = triple; maker = by; seal = None; slots = ss })) (contents_of es)) empty
+    ∙ ap (placed content) view
+    ∙ ap (λ (o : Option Content). with_new content o cs) (sym absent)

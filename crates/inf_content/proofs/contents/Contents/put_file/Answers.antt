@@ -1,4 +1,5 @@
 use Rattle.std.proofs.Common.{Some, None, sym, ap, refl, ◌∙◌}
+use Rattle.std.proofs.lemmas.Result.{err_from_is_err_and}
 use Rattle.std.specs.Option.{option_copied_mut}
 use Rattle.inf_content.specs.Objects.{contents_of}
 use Rattle.inf_base.specs.Content.{file}
@@ -15,7 +16,11 @@ unreachable-requires c =
         (sym c.is_here.ensures ∙ c.if-not-is_here.false) (sym c.get_mut.ensures.value ∙ ap option_copied_mut c.in_default.is)
 
 pub returns-in_err-put_file-clause-err : goal.returns-in_err-put_file-clause-err
-returns-in_err-put_file-clause-err c = ?
+returns-in_err-put_file-clause-err c =
+    let failed = err_from_is_err_and c.from_residual.result c.from_residual.ensures.1 in
+    rw failed.1 (ap (λ m. contents_of m) (c.get_mut.follows.holds (record c.in-Some.object.now { slots = c.put_file.new.self })).0
+    ∙ same-here c.args.dir.now c.self.inside.by_id.entries c.args.self.now c.in-Some.object.now c.put_file.new.self c.self.view_is
+        (sym c.get_mut.ensures.value ∙ ap option_copied_mut c.in-Some.is) c.in_err-put_file.ensures.err)
 
 pub returns-clause-ok : goal.returns-clause-ok
 returns-clause-ok c =

@@ -14,7 +14,7 @@ unreachable-requires c =
 
 pub returns : goal.returns
 returns c =
-    ap (λ m. contents_of m) (c.get_mut.follows.holds (record c.in-Some.object.now { seal = c.seal_left.result })).0
-    ∙ changed_at-here c.args.dir.now _ c.self.inside.by_id.entries c.args.self.now c.in-Some.object.now (record c.in-Some.object.now { seal = c.seal_left.result })
+    ap (λ m. contents_of m) (c.get_mut.follows.holds (record c.in-Some.object.now { seal = c.seal_left-object.result })).0
+    ∙ changed_at-here c.args.dir.now _ c.self.inside.by_id.entries c.args.self.now c.in-Some.object.now (record c.in-Some.object.now { seal = c.seal_left-object.result })
         c.self.view_is (sym c.is_here.ensures ∙ c.if-not-is_here.false)
-        (sym c.get_mut.ensures.value ∙ ap option_copied_mut c.in-Some.is) (λ id. ap (λ seal. whole id (record c.in-Some.object.now { seal = seal })) c.seal_left.ensures)
+        (sym c.get_mut.ensures.value ∙ ap option_copied_mut c.in-Some.is) (λ id. ap (λ seal. whole id (record c.in-Some.object.now { seal = seal })) c.seal_left-object.ensures)
