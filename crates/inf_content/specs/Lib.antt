@@ -1,4 +1,5 @@
 pub mod Contents
+pub mod Examples
 pub mod Kept
 pub mod Objects
 pub mod Slot

@@ -2,6 +2,7 @@
 #![tactic(auto)]
 
 mod contents;
+mod examples;
 mod inside;
 mod made;
 mod object;
@@ -10,6 +11,7 @@ mod slot;
 mod slots;
 
 pub use contents::Contents;
+pub use examples::{example_of_filling, example_of_holds, example_of_insides, example_of_looks, example_of_making, example_of_seals};
 pub use inside::Inside;
 pub use made::Made;
 pub use seen::Seen;

@@ -212,11 +212,11 @@ impl Kept {
         if is_done {
             return true;
         }
-        if !self.reserves(by) {
-            return false;
+        if self.reserves(by) {
+            self.fill(link);
+            return true;
         }
-        self.fill(link);
-        true
+        false
     }
 
     /// Gives it the mode that was kept for it, and lifts its hold.
