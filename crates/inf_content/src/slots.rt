@@ -208,4 +208,25 @@ impl Slots {
     {
         self.by_name.retain(move |_, kept| kept.free(by));
     }
+    /// Removes the first slot that the call holds with no mode to come.
+    pub(crate) fn erase(&mut self, by: CallRef) -> Option<(Name, Option<Access>)>
+        ensures told { result ≡ told_of_erased (first (erases by) self.old) }
+        ensures erased { self.new ≡ erased by self.old }
+    {
+        match self.take_erased(by) {
+            None => None,
+            Some((name, kept)) => Some((name, kept.into_access())),
+        }
+    }
+
+    fn take_erased(&mut self, by: CallRef) -> Option<(Name, Kept)>
+        ensures told { result ≡ first (erases by) self.old }
+        ensures erased { self.new ≡ erased by self.old }
+    {
+        if self.by_name.len() == 0 {
+            return None;
+        }
+        let mut erased = self.by_name.extract_if(.., move |_, kept| kept.erases(by));
+        erased.next()
+    }
 }
