@@ -3,10 +3,10 @@
 ghost use Rattle.std.specs.Prelude.{◌≡◌, [], is_some, false, if◌then◌else◌, IfOk, OnOk, OnErr};
 ghost use Rattle.std.specs.Option.{option_map};
 ghost use Rattle.inf_base.specs.declared.caller.CallRef.{CallRef};
-ghost use Rattle.inf_content.specs.Contents.{access_found, born_of, content_at, content_of_id, dropped_at, filled_at, held_at, lifted_at, look, made_at, made_of, may_drop_found, reserved_at, seal_of, sealed_at, settled_at, slots_at, unsealed_at, with_file_at, with_meta_at, without_slot_at};
-ghost use Rattle.inf_content.specs.Slot.{holds, reserves};
+ghost use Rattle.inf_content.specs.Contents.{access_found, born_of, content_at, content_of_id, dropped_at, erased_at, filled_at, held_at, lifted_at, look, made_at, made_of, may_drop_found, reserved_at, seal_of, sealed_at, settled_at, slots_at, unsealed_at, with_file_at, with_meta_at, without_slot_at};
+ghost use Rattle.inf_content.specs.Slot.{erases, holds, reserves};
 ghost use Rattle.inf_content.specs.Objects.{whole};
-ghost use Rattle.inf_content.specs.Slots.{first, first_taker, inside_of, items_of, told_of_filled};
+ghost use Rattle.inf_content.specs.Slots.{first, first_taker, inside_of, items_of, told_of_erased, told_of_filled};
 
 use crate::inside::Inside;
 use crate::made::Made;
@@ -218,6 +218,21 @@ impl Contents {
             unreachable!()
         };
         object.slots.fill(&dir.id, by, link)
+    }
+
+    /// Removes the first slot that the call holds in the directory with no mode to come, and gives its name and, of a
+    /// directory, its access object.
+    pub fn erase(&mut self, dir: &DirRef, by: CallRef) -> Option<(Name, Option<Access>)>
+        ensures told { result ≡ told_of_erased (first (erases by) (slots_at dir.now self.old)) }
+        ensures erased { self.new ≡ erased_at dir.now by self.old }
+    {
+        if !self.is_here(dir) {
+            return None;
+        }
+        let Some(object) = self.by_id.get_mut(&dir.id) else {
+            unreachable!()
+        };
+        object.slots.erase(by)
     }
 
     /// Seals the directory.

@@ -9,6 +9,8 @@ mod object;
 mod seen;
 mod slot;
 mod slots;
+#[cfg(test)]
+mod tests;
 
 pub use contents::Contents;
 pub use examples::{example_of_filling, example_of_holds, example_of_insides, example_of_looks, example_of_making, example_of_seals};
