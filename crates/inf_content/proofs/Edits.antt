@@ -1,5 +1,5 @@
 -- What edits of the slots of a directory leave.
-use Rattle.std.proofs.Common.{◌≡◌, ℕ, Bool, true, false, cond, ◌&&◌, ◌||◌, if◌then◌else◌, List, [], ◌∷◌, Option, Some, None, is_some, refl, sym, ap, ◌∙◌, subst, rules, arith}
+use Rattle.std.proofs.Common.{◌≡◌, ℕ, Bool, true, false, cond, ◌||◌, List, [], ◌∷◌, Option, Some, None, is_some, refl, ap, ◌∙◌, subst}
 use Rattle.std.specs.BTreeMap.{is_at}
 use Rattle.std.specs.Cmp.Lexicographic.{slice_cmp}
 use Rattle.std.specs.Map.{lookup, set_value}
@@ -75,7 +75,7 @@ same_empty false xs = refl
 pub first_changed-from_retain : {F : Type 0} (T : F → List ℕ → Slot → Bool → Slot → F → Type 0) (I : F → Type 0) (done : F → Bool)
     (test : Slot → Bool) (change : Slot → Slot)
     → ((f : F) (k : List ℕ) (v : Slot) (b : Bool) (w : Slot) (f' : F) → I f → T f k v b w f'
-        → (b ≡ true) × (w ≡ cond (done f) v (cond (test v) (change v) v)) × (done f' ≡ (done f || test v)) × I f')
+    → (b ≡ true) × (w ≡ cond (done f) v (cond (test v) (change v) v)) × (done f' ≡ (done f || test v)) × I f')
     → (f : F) → I f → (es kept : List (List ℕ × Slot)) → RetainsPairs T f es kept → kept ≡ cond (done f) es (first_changed test change es)
 first_changed-from_retain T I done test change h f i [] kept r = r ∙ same_empty (done f) []
 first_changed-from_retain T I done test change h f i (e ∷ es) kept r =
@@ -93,14 +93,14 @@ lift_step false e w kept rest done is same = is ∙ ap (λ xs. (e.0, w) ∷ xs) 
 -- a closure that frees each slot, and keeps those that are not reserved
 pub lifted-from_retain : {F : Type 0} (T : F → List ℕ → Slot → Bool → Slot → F → Type 0) (by : CallRef) (f : F)
     → ((k : List ℕ) (v : Slot) (b : Bool) (w : Slot) (f' : F) → T f k v b w f'
-        → (b ≡ cond (reserves by v) false true) × (w ≡ freed by v) × (f' ≡ f))
+    → (b ≡ cond (reserves by v) false true) × (w ≡ freed by v) × (f' ≡ f))
     → (es kept : List (List ℕ × Slot)) → RetainsPairs T f es kept → kept ≡ lifted by es
 lifted-from_retain T by f h [] kept r = r
 lifted-from_retain T by f h (e ∷ es) kept r =
     let a = h e.0 e.1 r.0 r.1 r.2 r.4 in
     let rest = lifted-from_retain T by f h es r.3 (subst (λ u. RetainsPairs T u es r.3) a.2 r.5) in
     lift_step (reserves by e.1) e (freed by e.1) kept r.3 (lifted by es)
-        (r.6 ∙ ap (λ b. cond b ((e.0, r.1) ∷ r.3) r.3) a.0 ∙ ap (λ w. cond (cond (reserves by e.1) false true) ((e.0, w) ∷ r.3) r.3) a.1) rest
+    (r.6 ∙ ap (λ b. cond b ((e.0, r.1) ∷ r.3) r.3) a.0 ∙ ap (λ w. cond (cond (reserves by e.1) false true) ((e.0, w) ∷ r.3) r.3) a.1) rest
 
 -- what is reserved can be filled, so what is told of it is a directory
 told_of_reserved : (id : Id) (name : List ℕ) (link : Option (DirRef × ℕ × Caller)) (by : CallRef) (slot : Slot)

@@ -1,5 +1,5 @@
 -- The first slot that a closure picks, taken out of the slots.
-use Rattle.std.proofs.Common.{◌≡◌, ℕ, zero, suc, ◌+◌, ◌<◌, Bool, true, false, cond, List, [], ◌∷◌, ◌++◌, length, take, drop, Option, Some, None, MatchOption, IfSome, ◌⊎◌, inl, inr, ⊎_elim, refl, sym, ap, ◌∙◌, subst, rules, arith}
+use Rattle.std.proofs.Common.{◌≡◌, ℕ, zero, suc, ◌+◌, Bool, true, false, cond, List, [], ◌∷◌, ◌++◌, length, take, drop, Option, Some, None, MatchOption, IfSome, ◌⊎◌, inl, inr, refl, sym, ap, ◌∙◌, subst, arith}
 use Rattle.std.specs.Bool.{MatchBool}
 use Rattle.std.specs.Cmp.Lexicographic.{slice_cmp, nat_list_cmp_total}
 use Rattle.std.specs.List.{AllByRecursion, filter}
@@ -9,8 +9,7 @@ use Rattle.std.specs.Map.{keys_of}
 use Rattle.std.specs.Map.Calls.{RemovesKey}
 use Rattle.std.specs.Option.{option_to_list}
 use Rattle.std.specs.Ordering.{nat_cmp, ordering_reverse}
-use Rattle.std.specs.declared.cmp.Ordering.{Ordering}
-use Rattle.std.specs.declared.cmp.Ordering.TheVariants.{Less, Equal, Greater}
+use Rattle.std.specs.declared.cmp.Ordering.TheVariants.{Less}
 use Rattle.inf_base.specs.Content.{Slot}
 use Rattle.inf_content.specs.Slots.{first, without_first}
 
@@ -48,7 +47,7 @@ module _ {F : Type 0} (R : F → List ℕ × Slot → Bool → F → List ℕ ×
       → y ≡ x → u ≡ f
       → MatchBool b ((r ≡ Some y) × (t ≡ u) × (kept ≡ []) × (rest ≡ xs)) ((ks : List (List ℕ × Slot)) × ExtractsNext R u xs r t ks rest × (kept ≡ y ∷ ks))
       → ((ks : List (List ℕ × Slot)) → ExtractsNext R f xs r t ks rest
-          → (r ≡ later) × (ks ++ drop (length ks + length (option_to_list r)) xs ≡ without))
+      → (r ≡ later) × (ks ++ drop (length ks + length (option_to_list r)) xs ≡ without))
       → (r ≡ cond b (Some x) later) × (kept ++ drop (length kept + length (option_to_list r)) (x ∷ xs) ≡ cond b xs (x ∷ without))
   next_step true x y xs kept rest r later u t without same is m hyp = (m.0 ∙ ap Some same, rw (m.2, m.0) refl)
   next_step false x y xs kept rest r later u t without same is m hyp =
@@ -95,9 +94,10 @@ removed_keys k p ks ys [] back below old new =
 removed_keys k p ks ys (q ∷ front) back below old new =
     let tail : ks ≡ front ++ p ∷ back = cc in
     let rest : ys ≡ front ++ back = cc in
-    let all : IsBelow k (front ++ p ∷ back) = subst (IsBelow k) tail below in
-    (subst (IsBelow k) (sym rest) (below_without k p front back all),
-    λ same. not_below_itself k (subst (λ (z : List ℕ). slice_cmp nat_cmp k z ≡ Less) same (below_mid k p front back all)))
+    let all : IsBelow k (front ++ p ∷ back) = subst (IsBelow k) tail below in (
+      subst (IsBelow k) (sym rest) (below_without k p front back all),
+      λ same. not_below_itself k (subst (λ (z : List ℕ). slice_cmp nat_cmp k z ≡ Less) same (below_mid k p front back all)),
+    )
 
 skipped : (x : List ℕ × Slot) (ks : List (List ℕ)) (front kept back : List (List ℕ × Slot)) (r : Option (List ℕ × Slot))
     → IsBelow x.0 ks → AreKeys (x.0 ∷ ks) r (x.0 ∷ keys_of (front ++ (kept ++ back)))
@@ -147,7 +147,7 @@ module _ {F : Type 0} (R : F → List ℕ × Slot → Bool → F → List ℕ ×
   taken_at (suc j) (x ∷ es) fs rest r t sorted keys p =
       let below : IsBelow x.0 (keys_of es) = below_first (keys_of (x ∷ es)) sorted x.0 (keys_of es) refl in
       let after : AreKeys (x.0 ∷ keys_of es) r (x.0 ∷ keys_of (take j es ++ (p.0 ++ drop (suc j + length p.0 + length (option_to_list r)) (x ∷ es)))) =
-          subst (λ (zs : List (List ℕ × Slot)). AreKeys (keys_of (x ∷ es)) r (keys_of zs)) p.2 keys in
+      subst (λ (zs : List (List ℕ × Slot)). AreKeys (keys_of (x ∷ es)) r (keys_of zs)) p.2 keys in
       absurd (skipped x (keys_of es) (take j es) p.0 _ r below after (first_of_next R f test h x es p.0 rest r t p.1))
 
   from_extract : {C : Type 0} (cursor : Option C) (left : Option C → List (List ℕ × Slot)) (begin : C → F) (index : C → ℕ) (known : C → Type 0) (Y : C → Type 0) (Z : C → F → Type 0) (Q : Type 0) (W : List ℕ × Slot → Type 0)
@@ -157,8 +157,8 @@ module _ {F : Type 0} (R : F → List ℕ × Slot → Bool → F → List ℕ ×
       → IsStrictlySortedBy (slice_cmp nat_cmp) (keys_of es)
       → MatchOption r (keys_of fs ≡ keys_of es) (λ p. RemovesKey (keys_of es) p.0 (keys_of fs) × W p)
       → MatchOption cursor ((r ≡ None) × (fs ≡ es) × Q) (λ s. known s → (g : F)
-          × ((kept : List (List ℕ × Slot)) × ExtractsNext R (begin s) (left (Some s)) r g kept rest × (fs ≡ take (index s) es ++ (kept ++ drop (index s + length kept + length (option_to_list r)) es)))
-          × Z s g)
+      × ((kept : List (List ℕ × Slot)) × ExtractsNext R (begin s) (left (Some s)) r g kept rest × (fs ≡ take (index s) es ++ (kept ++ drop (index s + length kept + length (option_to_list r)) es)))
+      × Z s g)
       → (r ≡ first test es) × (fs ≡ without_first test es)
   from_extract None left begin index known Y Z Q W es fs rest r all none is_known held sorted keys m =
       let empty : es ≡ [] = sym all ∙ none in
@@ -166,7 +166,7 @@ module _ {F : Type 0} (R : F → List ℕ × Slot → Bool → F → List ℕ ×
   from_extract (Some s) left begin index known Y Z Q W es fs rest r all none is_known held sorted keys m =
       let p = m (is_known s) in
       let there = subst (λ (g : F). ExtractsNext R g es r p.0 p.1.0 rest) held.0
-          (subst (λ (xs : List (List ℕ × Slot)). ExtractsNext R (begin s) xs r p.0 p.1.0 rest) all p.1.1) in
+      (subst (λ (xs : List (List ℕ × Slot)). ExtractsNext R (begin s) xs r p.0 p.1.0 rest) all p.1.1) in
       taken_at (index s) es fs rest r p.0 sorted (are_keys W (keys_of es) (keys_of fs) r keys) (p.1.0, there, p.1.2)
 
 pub first-from_extract : {F C : Type 0} (R : F → List ℕ × Slot → Bool → F → List ℕ × Slot → Type 0) (f : F) (test : Slot → Bool)
@@ -177,8 +177,8 @@ pub first-from_extract : {F C : Type 0} (R : F → List ℕ × Slot → Bool →
     → IsStrictlySortedBy (slice_cmp nat_cmp) (keys_of es)
     → MatchOption r (keys_of fs ≡ keys_of es) (λ p. RemovesKey (keys_of es) p.0 (keys_of fs) × W p)
     → MatchOption cursor ((r ≡ None) × (fs ≡ es) × Q) (λ s. known s → (g : F)
-        × ((kept : List (List ℕ × Slot)) × ExtractsNext R (begin s) (left (Some s)) r g kept rest × (fs ≡ take (index s) es ++ (kept ++ drop (index s + length kept + length (option_to_list r)) es)))
-        × Z s g)
+    × ((kept : List (List ℕ × Slot)) × ExtractsNext R (begin s) (left (Some s)) r g kept rest × (fs ≡ take (index s) es ++ (kept ++ drop (index s + length kept + length (option_to_list r)) es)))
+    × Z s g)
     → ((p : List ℕ × Slot) (b : Bool) (g : F) (q : List ℕ × Slot) → R f p b g q → (b ≡ test p.1) × (q.0 ≡ p.0) × (q.1 ≡ p.1) × (g ≡ f))
     → (r ≡ first test es) × (fs ≡ without_first test es)
 first-from_extract R f test cursor left begin index known Y Z Q W es fs rest r all none is_known held sorted keys m h =

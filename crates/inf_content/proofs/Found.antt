@@ -1,5 +1,5 @@
 -- Content objects as they are kept, found and changed.
-use Rattle.std.proofs.Common.{◌≡◌, ℕ, Bool, true, false, cond, ◌&&◌, ◌==◌, List, [], ◌∷◌, Option, Some, None, is_some, Bor, refl, sym, ap, ◌∙◌, subst, rules, arith}
+use Rattle.std.proofs.Common.{◌≡◌, ℕ, Bool, true, false, cond, ◌&&◌, ◌==◌, List, [], ◌∷◌, Option, Some, None, is_some, Bor, refl, sym, ap, ◌∙◌, subst}
 use Rattle.std.specs.BTreeMap.{insert_entry, is_at}
 use Rattle.std.specs.Map.{lookup, remove_entry, set_value}
 use Rattle.std.specs.Option.{option_copied, option_map}
@@ -87,7 +87,7 @@ changed_step : (b : Bool) (dir : DirRef) (change : Content → Content) (id : Id
     → (v.born == dir.born) ≡ true → whole id w ≡ change (whole id v)
     → cond b (Some o) later ≡ Some v → (later ≡ Some v → contents_of written ≡ changed)
     → contents_of (cond b ((id, w) ∷ es) ((id, o) ∷ written))
-      ≡ cond b (cond (o.born == dir.born) (change (whole id o)) (whole id o) ∷ contents_of es) (whole id o ∷ changed)
+    ≡ cond b (cond (o.born == dir.born) (change (whole id o)) (whole id o) ∷ contents_of es) (whole id o ∷ changed)
 changed_step true dir change id o v w es written later changed born is at rest = let same : o ≡ v = cc in rw (same, born, is) refl
 changed_step false dir change id o v w es written later changed born is at rest = ap (λ xs. whole id o ∷ xs) (rest at)
 
@@ -112,7 +112,7 @@ pub with_slots_at-here : (dir : DirRef) (change : List (List ℕ × Slot) → Li
     → contents_of (set_value (is_at (id_cmp dir.id)) es (record v { slots = slots })) ≡ with_slots_at dir change cs
 with_slots_at-here dir change es cs v slots view here at is =
     changed_at-here dir (λ (c : Content). record c { slots = change c.slots }) es cs v (record v { slots = slots }) view here at
-        (λ id. ap (λ (ss : List (List ℕ × Slot)). whole id (record v { slots = ss })) is)
+    (λ id. ap (λ (ss : List (List ℕ × Slot)). whole id (record v { slots = ss })) is)
 
 -- slots written back as they were
 pub same-here : (dir : DirRef) (es : List (Id × Object)) (cs : List Content) (v : Object) (slots : List (List ℕ × Slot))
@@ -160,7 +160,7 @@ drop_step : (same b : Bool) (dir : DirRef) (by : CallRef) (id : Id) (o : Object)
     → may_drop_found by (if_born dir.born (cond same (Some (whole id o)) later)) ≡ b
     → (may_drop_found by (if_born dir.born later) ≡ b → dropped ≡ cond b (contents_of removed) (contents_of es))
     → cond same (cond (o.born == dir.born && may_drop by (whole id o)) (contents_of es) (whole id o ∷ contents_of es)) (whole id o ∷ dropped)
-      ≡ cond b (contents_of (cond same es ((id, o) ∷ removed))) (whole id o ∷ contents_of es)
+    ≡ cond b (contents_of (cond same es ((id, o) ∷ removed))) (whole id o ∷ contents_of es)
 drop_step true b dir by id o es removed later dropped h rest =
     ap (λ t. cond t (contents_of es) (whole id o ∷ contents_of es)) (sym (may_drop_step (o.born == dir.born) by (whole id o)) ∙ h)
 drop_step false b dir by id o es removed later dropped h rest =
@@ -184,7 +184,7 @@ dropped_at-found b dir by es cs view h =
 placed_step : (o : Ordering) (id : Id) (object : Object) (e : Id × Object) (es inserted : List (Id × Object)) (put : List Content)
     → (o ≡ Equal → id ≡ e.0) → put ≡ contents_of inserted
     → contents_of (match_ordering o ((id, object) ∷ e ∷ es) ((e.0, object) ∷ es) (e ∷ inserted))
-      ≡ match_ordering o (whole id object ∷ whole e.0 e.1 ∷ contents_of es) (whole id object ∷ contents_of es) (whole e.0 e.1 ∷ put)
+    ≡ match_ordering o (whole id object ∷ whole e.0 e.1 ∷ contents_of es) (whole id object ∷ contents_of es) (whole e.0 e.1 ∷ put)
 placed_step Less id object e es inserted put same is = refl
 placed_step Equal id object e es inserted put same is = ap (λ k. whole k object ∷ contents_of es) (sym (same refl))
 placed_step Greater id object e es inserted put same is = ap (λ xs. whole e.0 e.1 ∷ xs) (sym is)

@@ -10,18 +10,15 @@ use Rattle.inf_base.specs.declared.caller.CallRef.{CallRef}
 use Rattle.inf_base.specs.declared.directory.DirRef.{DirRef}
 use Rattle.inf_base.specs.declared.file.FileMeta.{FileMeta}
 use Rattle.inf_base.specs.declared.id.Id.{Id}
-use Rattle.inf_base.specs.declared.item.Item.{Item}
 use Rattle.inf_base.specs.declared.triple.Triple.{Triple}
 use Rattle.inf_base.specs.declared.triple.Triple.TheVariants as triple
 use Rattle.inf_base.specs.Content.{Content, Slot, reserved, file}
-use Rattle.inf_content.specs.declared.inside.Inside.{Inside}
-use Rattle.inf_content.specs.declared.inside.Inside.TheVariants as inside
 use Rattle.inf_content.specs.declared.made.Made.{Made}
 use Rattle.inf_content.specs.declared.made.Made.TheVariants as made
 use Rattle.inf_content.specs.declared.seen.Seen.{Seen}
 use Rattle.inf_content.specs.declared.seen.Seen.TheVariants as seen
-use Rattle.inf_content.specs.Slot.{erases, held_slot, holds, is_same_call, reserves, with_meta}
-use Rattle.inf_content.specs.Slots.{access_of, changed_slot, erased, filled_in, first, first_taker, inside_of, items_of, lifted, seen_of, settled_in, slot_in, told_of_erased, told_of_filled, with_slot, without_slot}
+use Rattle.inf_content.specs.Slot.{held_slot, is_same_call, with_meta}
+use Rattle.inf_content.specs.Slots.{access_of, changed_slot, erased, filled_in, lifted, seen_of, settled_in, slot_in, with_slot, without_slot}
 
 abbrev pub id_cmp : Id → Id → Ordering
 id_cmp a b = slice_cmp nat_cmp a.bytes b.bytes

@@ -6,10 +6,9 @@ use Rattle.inf_base.specs.declared.caller.CallRef.{CallRef}
 use Rattle.inf_base.specs.declared.directory.DirRef.{DirRef}
 use Rattle.inf_base.specs.declared.file.FileMeta.{FileMeta}
 use Rattle.inf_base.specs.declared.id.Id.{Id}
-use Rattle.inf_base.specs.declared.triple.Triple.{Triple}
 use Rattle.inf_base.specs.declared.triple.Triple.TheVariants as triple
-use Rattle.inf_base.specs.Content.{Content, Hold, Slot, reserved, file, directory}
-use Rattle.inf_content.specs.Contents.{empty_content, made_at}
+use Rattle.inf_base.specs.Content.{Content, Slot, file}
+use Rattle.inf_content.specs.Contents.{empty_content}
 
 abbrev pub low_id : Id
 low_id = record { bytes = replicate 32 0 }

@@ -1,5 +1,5 @@
 -- How a slot is kept.
-use Rattle.std.specs.Prelude.{Option, Some, None}
+use Rattle.std.specs.Prelude.{Option}
 use Rattle.std.specs.Option.{option_map}
 use Rattle.inf_base.specs.Content.{Hold, Slot, reserved, file, directory}
 use Rattle.inf_content.specs.declared.slot.Holder.{Holder}

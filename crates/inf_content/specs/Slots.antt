@@ -1,10 +1,9 @@
 -- The slots of one directory, in the order of their names' bytes.
-use Rattle.std.specs.Prelude.{ℕ, Bool, false, ◌&&◌, if◌then◌else◌, List, [], ◌∷◌, Option, Some, None, is_none, find}
+use Rattle.std.specs.Prelude.{ℕ, Bool, false, ◌&&◌, if◌then◌else◌, List, [], ◌∷◌, Option, Some, None, is_none}
 use Rattle.std.specs.BTreeMap.{insert_entry, is_at}
 use Rattle.std.specs.Cmp.Lexicographic.{slice_cmp}
 use Rattle.std.specs.List.{list_any}
-use Rattle.std.specs.Map.{lookup, remove_entry, set_value}
-use Rattle.std.specs.Option.{option_map}
+use Rattle.std.specs.Map.{lookup, remove_entry}
 use Rattle.std.specs.Ordering.{nat_cmp}
 use Rattle.std.specs.Str.{bytes_eq}
 use Rattle.inf_base.specs.declared.access.Access.{Access}
@@ -16,12 +15,12 @@ use Rattle.inf_base.specs.declared.item.Item.{Item}
 use Rattle.inf_base.specs.declared.item.Kind.{Kind}
 use Rattle.inf_base.specs.declared.triple.Triple.{Triple}
 use Rattle.inf_base.specs.declared.triple.Triple.TheVariants as triple
-use Rattle.inf_base.specs.Content.{Slot, reserved, file, directory}
+use Rattle.inf_base.specs.Content.{Slot}
 use Rattle.inf_content.specs.declared.inside.Inside.{Inside}
 use Rattle.inf_content.specs.declared.inside.Inside.TheVariants as inside
 use Rattle.inf_content.specs.declared.seen.Seen.{Seen}
 use Rattle.inf_content.specs.declared.seen.Seen.TheVariants as seen
-use Rattle.inf_content.specs.Slot.{access_in, dir_of, erases, filled, freed, held_slot, holds, kind_in, linked, reserves, seen_slot, settled, taker}
+use Rattle.inf_content.specs.Slot.{access_in, dir_of, erases, filled, freed, holds, kind_in, reserves, seen_slot, settled, taker}
 
 -- what stands under a name
 abbrev pub slot_in : List ℕ → List (List ℕ × Slot) → Option Slot

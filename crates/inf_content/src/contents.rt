@@ -207,7 +207,12 @@ impl Contents {
 
     /// Makes what the call reserved first in the directory a directory: that of the link, where there is one. Tells
     /// which directory stands there then, and whether it lives where it was made.
-    pub fn fill(&mut self, dir: &DirRef, by: CallRef, link: Option<(DirRef, u16, Caller)>) -> Option<(DirRef, bool)>
+    pub fn fill(
+        &mut self,
+        dir: &DirRef,
+        by: CallRef,
+        link: Option<(DirRef, u16, Caller)>,
+    ) -> Option<(DirRef, bool)>
         ensures told { result ≡ told_of_filled dir.now.id link (first (reserves by) (slots_at dir.now self.old)) }
         ensures filled { self.new ≡ filled_at dir.now by link self.old }
     {
@@ -262,7 +267,13 @@ impl Contents {
     }
 
     /// Reserves a name for a directory to come, whose access object is kept.
-    pub fn reserve(&mut self, dir: &DirRef, name: Name, by: CallRef, access: Access) -> Result<(), NoMemory>
+    pub fn reserve(
+        &mut self,
+        dir: &DirRef,
+        name: Name,
+        by: CallRef,
+        access: Access,
+    ) -> Result<(), NoMemory>
         ensures ok { OnOk result (self.new ≡ reserved_at dir.now name by access self.old) }
         ensures err { OnErr result (self.new ≡ self.old) }
     {
@@ -311,7 +322,13 @@ impl Contents {
     }
 
     /// Makes an empty directory, where none of its identifier is there.
-    pub fn make(&mut self, id: Id, triple: Triple, born: Place, by: CallRef) -> Result<Made, NoMemory>
+    pub fn make(
+        &mut self,
+        id: Id,
+        triple: Triple,
+        born: Place,
+        by: CallRef,
+    ) -> Result<Made, NoMemory>
         ensures told { IfOk result (λ made. made ≡ made_of triple (content_of_id id self.old)) }
         ensures ok { OnOk result (self.new ≡ made_at id born triple by self.old) }
         ensures err { OnErr result (self.new ≡ self.old) }

@@ -13,7 +13,10 @@ mod slots;
 mod tests;
 
 pub use contents::Contents;
-pub use examples::{example_of_filling, example_of_holds, example_of_insides, example_of_looks, example_of_making, example_of_seals};
+pub use examples::{
+    example_of_filling, example_of_holds, example_of_insides, example_of_looks, example_of_making,
+    example_of_seals,
+};
 pub use inside::Inside;
 pub use made::Made;
 pub use seen::Seen;

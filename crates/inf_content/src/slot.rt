@@ -9,7 +9,9 @@ ghost use Rattle.inf_content.specs.Slots.{is_birth_place, lives};
 ghost use Rattle.inf_content.specs.Slot.{access_in, dir_of, erases, filled, freed, held_slot, holds, is_held_by, is_same_call, is_to_go, kind_in, linked, mode_after, reserves, seen_slot, settled, taker, with_meta};
 
 use crate::seen::Seen;
-use inf_base::{Access, CallRef, Caller, DirRef, FileMeta, Id, Kind, Name, NoMemory, Triple, TryClone};
+use inf_base::{
+    Access, CallRef, Caller, DirRef, FileMeta, Id, Kind, Name, NoMemory, Triple, TryClone,
+};
 use std::alloc::Global;
 use std::marker::Model;
 use std::mem;
@@ -319,10 +321,12 @@ fn mode_after(mode: u16, held: Option<Holder>) -> u16
     ensures { result ≡ mode_after mode (option_map hold_of held) }
 {
     match held {
-        Some(Holder {
-            by: _,
-            mode: Some(new),
-        }) => new,
+        Some(
+            Holder {
+                by: _,
+                mode: Some(new),
+            },
+        ) => new,
         Some(Holder { by: _, mode: None }) => mode,
         None => mode,
     }
@@ -365,6 +369,7 @@ fn is_birth_place(id: &Id, name: &Name, birth: &Triple) -> bool
             parent,
             name: birth_name,
             version: _,
-        } => id.bytes.as_slice() == parent.bytes.as_slice() && name.as_slice() == birth_name.as_slice(),
+        } => id.bytes.as_slice() == parent.bytes.as_slice()
+            && name.as_slice() == birth_name.as_slice(),
     }
 }

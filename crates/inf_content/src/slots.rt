@@ -93,7 +93,12 @@ impl Slots {
         }
     }
 
-    pub(crate) fn reserve(&mut self, name: Name, by: CallRef, access: Access) -> Result<(), NoMemory>
+    pub(crate) fn reserve(
+        &mut self,
+        name: Name,
+        by: CallRef,
+        access: Access,
+    ) -> Result<(), NoMemory>
         ensures ok { OnOk result (self.new ≡ with_slot name (reserved by access) self.old) }
         ensures err { OnErr result (self.new ≡ self.old) }
     {
@@ -178,7 +183,12 @@ impl Slots {
 
     /// Makes the first slot that the call reserved a directory, of this link where there is one, and tells which
     /// directory that is, and whether it lives where it was made.
-    pub(crate) fn fill(&mut self, id: &Id, by: CallRef, link: Option<(DirRef, u16, Caller)>) -> Option<(DirRef, bool)>
+    pub(crate) fn fill(
+        &mut self,
+        id: &Id,
+        by: CallRef,
+        link: Option<(DirRef, u16, Caller)>,
+    ) -> Option<(DirRef, bool)>
         ensures told { result ≡ told_of_filled id.now link (first (reserves by) self.old) }
         ensures filled { self.new ≡ filled_in by link self.old }
     {
@@ -191,7 +201,12 @@ impl Slots {
         Some(told)
     }
 
-    fn told_of_fill(&self, id: &Id, by: CallRef, link: Option<(DirRef, u16, Caller)>) -> Option<(DirRef, bool)>
+    fn told_of_fill(
+        &self,
+        id: &Id,
+        by: CallRef,
+        link: Option<(DirRef, u16, Caller)>,
+    ) -> Option<(DirRef, bool)>
         ensures { result ≡ told_of_filled id.now link (first (reserves by) self.now) }
     {
         for (name, kept) in &self.by_name {

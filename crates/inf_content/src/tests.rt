@@ -90,7 +90,15 @@ fn makes_none_beside_another(rt: HostRuntime) -> Result<(), Fail> {
     let beside = contents.make(LOW, access(rt.alloc())?.birth, 9, OTHER)?;
     assert!(rt; matches!(beside, Made::Clash(Triple::Root)));
     let again = contents.make(LOW, Triple::Root, 9, CALL)?;
-    assert!(rt; matches!(again, Made::Bearer(CallRef { client: 1, number: 1 })));
+    assert!(rt;
+        matches!(
+            again,
+            Made::Bearer(CallRef {
+                client: 1,
+                number: 1
+            })
+        )
+    );
     Ok(())
 }
 
@@ -101,7 +109,15 @@ fn looks(rt: HostRuntime) -> Result<(), Fail> {
     assert_eq!(rt; contents.look(&LATER, &name), Seen::Gone);
     contents.set_file(&DIR, &name, FileMeta { length: 9, ..META });
     let seen = contents.look(&DIR, &name);
-    assert!(rt; matches!(seen, Seen::File { meta: FileMeta { length: 9, .. }, held: None }));
+    assert!(rt;
+        matches!(
+            seen,
+            Seen::File {
+                meta: FileMeta { length: 9, .. },
+                held: None
+            }
+        )
+    );
     contents.take_out(&DIR, &name);
     assert_eq!(rt; contents.look(&DIR, &name), Seen::Missing);
     Ok(())
@@ -114,7 +130,10 @@ fn fills(rt: HostRuntime) -> Result<(), Fail> {
     contents.reserve(&DIR, a(rt.alloc())?, CALL, access(rt.alloc())?)?;
     assert_eq!(rt; contents.look(&DIR, &name), Seen::Reserved(CALL));
     assert_eq!(rt; contents.fill(&DIR, OTHER, None), None);
-    assert_eq!(rt; contents.fill(&DIR, CALL, None), Some((DirRef { id: HIGH, born: 5 }, true)));
+    assert_eq!(rt;
+        contents.fill(&DIR, CALL, None),
+        Some((DirRef { id: HIGH, born: 5 }, true))
+    );
     assert!(rt; contents.access_of(&DIR, &name)?.is_some());
     assert!(rt; contents.access_of(&LATER, &name)?.is_none());
     Ok(())
@@ -130,7 +149,15 @@ fn holds(rt: HostRuntime) -> Result<(), Fail> {
     assert!(rt; contents.erase(&DIR, CALL).is_none());
     assert!(rt; contents.settle(&DIR, CALL));
     let seen = contents.look(&DIR, &name);
-    assert!(rt; matches!(seen, Seen::File { meta: FileMeta { mode: 0o600, .. }, held: None }));
+    assert!(rt;
+        matches!(
+            seen,
+            Seen::File {
+                meta: FileMeta { mode: 0o600, .. },
+                held: None
+            }
+        )
+    );
     Ok(())
 }
 

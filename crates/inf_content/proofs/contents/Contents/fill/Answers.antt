@@ -1,4 +1,4 @@
-use Rattle.std.proofs.Common.{Some, sym, ap, refl, ◌∙◌}
+use Rattle.std.proofs.Common.{sym, ap, ◌∙◌}
 use Rattle.std.specs.Option.{option_copied_mut}
 use Rattle.inf_content.specs.Objects.{contents_of}
 use Rattle.inf_content.specs.Slot.{reserves}
@@ -12,17 +12,17 @@ returns-then-not-is_here-clause-filled c = sym (changed_at-gone c.args.dir.now _
 pub unreachable-requires : goal.unreachable-requires
 unreachable-requires c =
     here_without_object c.args.dir.now c.self.inside.by_id.entries c.args.self.now c.self.view_is
-        (sym c.is_here.ensures ∙ c.if-not-is_here.false) (sym c.get_mut.ensures.value ∙ ap option_copied_mut c.in_default.is)
+    (sym c.is_here.ensures ∙ c.if-not-is_here.false) (sym c.get_mut.ensures.value ∙ ap option_copied_mut c.in_default.is)
 
 pub returns-clause-told : goal.returns-clause-told
 returns-clause-told c =
     c.fill.ensures.told ∙ ap (λ slots. told_of_filled c.args.dir.now.id c.args.link (first (reserves c.args.by) slots)) (sym
     (slots_at-here c.args.dir.now c.self.inside.by_id.entries c.args.self.now c.in-Some.object.now c.self.view_is
-        (sym c.is_here.ensures ∙ c.if-not-is_here.false) (sym c.get_mut.ensures.value ∙ ap option_copied_mut c.in-Some.is)))
+    (sym c.is_here.ensures ∙ c.if-not-is_here.false) (sym c.get_mut.ensures.value ∙ ap option_copied_mut c.in-Some.is)))
 
 pub returns-clause-filled : goal.returns-clause-filled
 returns-clause-filled c =
     ap (λ m. contents_of m) (c.get_mut.follows.holds (record c.in-Some.object.now { slots = c.fill.new.self })).0
     ∙ with_slots_at-here c.args.dir.now (filled_in c.args.by c.args.link) c.self.inside.by_id.entries c.args.self.now c.in-Some.object.now c.fill.new.self
-        c.self.view_is (sym c.is_here.ensures ∙ c.if-not-is_here.false)
-        (sym c.get_mut.ensures.value ∙ ap option_copied_mut c.in-Some.is) c.fill.ensures.filled
+    c.self.view_is (sym c.is_here.ensures ∙ c.if-not-is_here.false)
+    (sym c.get_mut.ensures.value ∙ ap option_copied_mut c.in-Some.is) c.fill.ensures.filled

@@ -1,4 +1,4 @@
-use Rattle.std.proofs.Common.{Some, None, sym, ap, refl, ◌∙◌}
+use Rattle.std.proofs.Common.{None, sym, ap, ◌∙◌}
 use Rattle.std.proofs.lemmas.Result.{err_from_is_err_and}
 use Rattle.std.specs.Option.{option_copied_mut}
 use Rattle.inf_content.specs.Objects.{contents_of}
@@ -13,18 +13,18 @@ returns-then-not-is_here-clause-ok c = sym (changed_at-gone c.args.dir.now _ c.a
 pub unreachable-requires : goal.unreachable-requires
 unreachable-requires c =
     here_without_object c.args.dir.now c.self.inside.by_id.entries c.args.self.now c.self.view_is
-        (sym c.is_here.ensures ∙ c.if-not-is_here.false) (sym c.get_mut.ensures.value ∙ ap option_copied_mut c.in_default.is)
+    (sym c.is_here.ensures ∙ c.if-not-is_here.false) (sym c.get_mut.ensures.value ∙ ap option_copied_mut c.in_default.is)
 
 pub returns-in_err-put_file-clause-err : goal.returns-in_err-put_file-clause-err
 returns-in_err-put_file-clause-err c =
     let failed = err_from_is_err_and c.from_residual.result c.from_residual.ensures.1 in
     rw failed.1 (ap (λ m. contents_of m) (c.get_mut.follows.holds (record c.in-Some.object.now { slots = c.put_file.new.self })).0
     ∙ same-here c.args.dir.now c.self.inside.by_id.entries c.args.self.now c.in-Some.object.now c.put_file.new.self c.self.view_is
-        (sym c.get_mut.ensures.value ∙ ap option_copied_mut c.in-Some.is) c.in_err-put_file.ensures.err)
+    (sym c.get_mut.ensures.value ∙ ap option_copied_mut c.in-Some.is) c.in_err-put_file.ensures.err)
 
 pub returns-clause-ok : goal.returns-clause-ok
 returns-clause-ok c =
     ap (λ m. contents_of m) (c.get_mut.follows.holds (record c.in-Some.object.now { slots = c.put_file.new.self })).0
     ∙ with_slots_at-here c.args.dir.now (with_slot c.args.name (file c.args.meta None)) c.self.inside.by_id.entries c.args.self.now c.in-Some.object.now c.put_file.new.self
-        c.self.view_is (sym c.is_here.ensures ∙ c.if-not-is_here.false)
-        (sym c.get_mut.ensures.value ∙ ap option_copied_mut c.in-Some.is) c.in_ok-put_file.ensures.ok
+    c.self.view_is (sym c.is_here.ensures ∙ c.if-not-is_here.false)
+    (sym c.get_mut.ensures.value ∙ ap option_copied_mut c.in-Some.is) c.in_ok-put_file.ensures.ok

@@ -12,11 +12,11 @@ returns-then-not-is_here c = sym (changed_at-gone c.args.dir.now _ c.args.self.n
 pub unreachable-requires : goal.unreachable-requires
 unreachable-requires c =
     here_without_object c.args.dir.now c.self.inside.by_id.entries c.args.self.now c.self.view_is
-        (sym c.is_here.ensures ∙ c.if-not-is_here.false) (sym c.get_mut.ensures.value ∙ ap option_copied_mut c.in_default.is)
+    (sym c.is_here.ensures ∙ c.if-not-is_here.false) (sym c.get_mut.ensures.value ∙ ap option_copied_mut c.in_default.is)
 
 pub returns : goal.returns
 returns c =
     ap (λ m. contents_of m) (c.get_mut.follows.holds (record c.in-Some.object.now { slots = c.set_file.new.self })).0
     ∙ with_slots_at-here c.args.dir.now (changed_slot c.args.name.now (with_meta c.args.meta)) c.self.inside.by_id.entries c.args.self.now c.in-Some.object.now c.set_file.new.self
-        c.self.view_is (sym c.is_here.ensures ∙ c.if-not-is_here.false)
-        (sym c.get_mut.ensures.value ∙ ap option_copied_mut c.in-Some.is) c.set_file.ensures
+    c.self.view_is (sym c.is_here.ensures ∙ c.if-not-is_here.false)
+    (sym c.get_mut.ensures.value ∙ ap option_copied_mut c.in-Some.is) c.set_file.ensures

@@ -12,17 +12,17 @@ returns-then-not-is_here-clause-settled c = sym (changed_at-gone c.args.dir.now 
 pub unreachable-requires : goal.unreachable-requires
 unreachable-requires c =
     here_without_object c.args.dir.now c.self.inside.by_id.entries c.args.self.now c.self.view_is
-        (sym c.is_here.ensures ∙ c.if-not-is_here.false) (sym c.get_mut.ensures.value ∙ ap option_copied_mut c.in_default.is)
+    (sym c.is_here.ensures ∙ c.if-not-is_here.false) (sym c.get_mut.ensures.value ∙ ap option_copied_mut c.in_default.is)
 
 pub returns-clause-told : goal.returns-clause-told
 returns-clause-told c =
     c.settle.ensures.told ∙ ap (λ slots. is_some (first (holds c.args.by) slots)) (sym
     (slots_at-here c.args.dir.now c.self.inside.by_id.entries c.args.self.now c.in-Some.object.now c.self.view_is
-        (sym c.is_here.ensures ∙ c.if-not-is_here.false) (sym c.get_mut.ensures.value ∙ ap option_copied_mut c.in-Some.is)))
+    (sym c.is_here.ensures ∙ c.if-not-is_here.false) (sym c.get_mut.ensures.value ∙ ap option_copied_mut c.in-Some.is)))
 
 pub returns-clause-settled : goal.returns-clause-settled
 returns-clause-settled c =
     ap (λ m. contents_of m) (c.get_mut.follows.holds (record c.in-Some.object.now { slots = c.settle.new.self })).0
     ∙ with_slots_at-here c.args.dir.now (settled_in c.args.by) c.self.inside.by_id.entries c.args.self.now c.in-Some.object.now c.settle.new.self
-        c.self.view_is (sym c.is_here.ensures ∙ c.if-not-is_here.false)
-        (sym c.get_mut.ensures.value ∙ ap option_copied_mut c.in-Some.is) c.settle.ensures.settled
+    c.self.view_is (sym c.is_here.ensures ∙ c.if-not-is_here.false)
+    (sym c.get_mut.ensures.value ∙ ap option_copied_mut c.in-Some.is) c.settle.ensures.settled

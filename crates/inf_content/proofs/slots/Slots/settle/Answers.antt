@@ -1,4 +1,4 @@
-use Rattle.std.proofs.Common.{rules, ◌≡◌, sym, refl, ◌∙◌}
+use Rattle.std.proofs.Common.{rules, ◌≡◌, sym, refl}
 use Rattle.inf_content.specs.Slot.{holds, settled}
 use Rattle.inf_content.proofs.Edits.{first_changed-from_retain, first_changed-unless}
 use Rattle.inf_content.proofs.slots.Slots.settle.Goals as goal

@@ -20,11 +20,11 @@ both : (c : After-next) → (c.next.result ≡ first (erases c.args.by) c.extrac
 both c =
     let unchanged = ap (λ m. m.entries) c.extract_if-erased.ensures.unchanged in
     first-from_extract _ _ (erases c.args.by) c.extract_if-erased.result.cursor
-        (λ o. extract_if_rest (slice_cmp nat_cmp) (λ range. Unbounded) (record c.extract_if-erased.result { cursor = o })) _ _ _ _ _ _ _
-        c.extract_if-erased.result.map.now.entries c.next.new.self.map.now.entries _ c.next.result
-        (c.extract_if-erased.ensures.rest (search rules) ∙ filter_all c.self.inside.by_name.entries ∙ sym unchanged) refl (λ s. search rules) c.extract_if-erased.ensures.holds
-        (subst (λ es. IsStrictlySortedBy (slice_cmp nat_cmp) (keys_of es)) (sym unchanged) c.len.ensures.ordered)
-        c.next.ensures.steps.1 c.next.ensures.steps.2 (λ p b g q t. search rules)
+    (λ o. extract_if_rest (slice_cmp nat_cmp) (λ range. Unbounded) (record c.extract_if-erased.result { cursor = o })) _ _ _ _ _ _ _
+    c.extract_if-erased.result.map.now.entries c.next.new.self.map.now.entries _ c.next.result
+    (c.extract_if-erased.ensures.rest (search rules) ∙ filter_all c.self.inside.by_name.entries ∙ sym unchanged) refl (λ s. search rules) c.extract_if-erased.ensures.holds
+    (subst (λ es. IsStrictlySortedBy (slice_cmp nat_cmp) (keys_of es)) (sym unchanged) c.len.ensures.ordered)
+    c.next.ensures.steps.1 c.next.ensures.steps.2 (λ p b g q t. search rules)
 
 pub returns-clause-told : goal.returns-clause-told
 returns-clause-told c = (both c).0 ∙ ap (first (erases c.args.by)) (same c)
