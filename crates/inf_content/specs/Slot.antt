@@ -12,12 +12,15 @@ use Rattle.inf_base.specs.Content.{Hold, Slot, reserved, file, directory}
 use Rattle.inf_content.specs.declared.seen.Seen.{Seen}
 use Rattle.inf_content.specs.declared.seen.Seen.TheVariants as seen
 
+-- a call is known by its client and its number
 abbrev pub is_same_call : CallRef → CallRef → Bool
 is_same_call a b = a.client == b.client && a.number == b.number
 
+-- the directory that an access object is of
 abbrev pub dir_of : Access → DirRef
 dir_of access = record { id = access.id; born = access.born }
 
+-- the call that holds an entry, if one does
 abbrev pub holder : Option Hold → Option CallRef
 holder held = option_map (λ (h : Hold). h.by) held
 
@@ -27,6 +30,7 @@ taker (reserved by access) = Some by
 taker (file meta held) = holder held
 taker (directory access held) = holder held
 
+-- what is seen of a slot: what stands there, and the call that holds or reserved it
 abbrev pub seen_slot : Slot → Seen
 seen_slot (reserved by access) = seen.Reserved by
 seen_slot (file meta held) = seen.File meta (holder held)
@@ -56,15 +60,18 @@ held_slot by mode (reserved other access) = reserved other access
 held_slot by mode (file meta held) = file meta (Some (record { by = by; mode = mode }))
 held_slot by mode (directory access held) = directory access (Some (record { by = by; mode = mode }))
 
+-- whether the call reserved it
 abbrev pub reserves : CallRef → Slot → Bool
 reserves by (reserved other access) = is_same_call other by
 reserves by (file meta held) = false
 reserves by (directory access held) = false
 
+-- whether a hold is of the call
 abbrev pub is_held_by : CallRef → Option Hold → Bool
 is_held_by by None = false
 is_held_by by (Some hold) = is_same_call hold.by by
 
+-- whether the call holds it
 abbrev pub holds : CallRef → Slot → Bool
 holds by (reserved other access) = false
 holds by (file meta held) = is_held_by by held
@@ -75,6 +82,7 @@ abbrev pub is_to_go : CallRef → Option Hold → Bool
 is_to_go by None = false
 is_to_go by (Some hold) = is_same_call hold.by by && is_none hold.mode
 
+-- whether it is to go for the call
 abbrev pub erases : CallRef → Slot → Bool
 erases by (reserved other access) = false
 erases by (file meta held) = is_to_go by held
@@ -95,6 +103,7 @@ settled (directory access held) = directory (record access { mode = mode_after a
 abbrev pub let_go : CallRef → Option Hold → Option Hold
 let_go by held = if is_held_by by held then None else held
 
+-- a slot with no hold of the call
 abbrev pub freed : CallRef → Slot → Slot
 freed by (reserved other access) = reserved other access
 freed by (file meta held) = file meta (let_go by held)

@@ -30,6 +30,7 @@ slot_in name slots = lookup (is_at (slice_cmp nat_cmp name)) slots
 abbrev pub with_slot : List ℕ → Slot → List (List ℕ × Slot) → List (List ℕ × Slot)
 with_slot name slot slots = insert_entry (slice_cmp nat_cmp) slots name slot
 
+-- the slots without the one under a name
 abbrev pub without_slot : List ℕ → List (List ℕ × Slot) → List (List ℕ × Slot)
 without_slot name slots = remove_entry (is_at (slice_cmp nat_cmp name)) slots
 
@@ -48,18 +49,22 @@ abbrev pub without_first : (Slot → Bool) → List (List ℕ × Slot) → List 
 without_first test [] = []
 without_first test (e ∷ es) = if test e.1 then es else e ∷ without_first test es
 
+-- the first slot that passes, with its name
 abbrev pub first : (Slot → Bool) → List (List ℕ × Slot) → Option (List ℕ × Slot)
 first test [] = None
 first test (e ∷ es) = if test e.1 then Some e else first test es
 
+-- what is seen where a slot may stand
 abbrev pub seen_of : Option Slot → Seen
 seen_of None = seen.Missing
 seen_of (Some slot) = seen_slot slot
 
+-- the access object where a directory may stand
 abbrev pub access_of : Option Slot → Option Access
 access_of None = None
 access_of (Some slot) = access_in slot
 
+-- the first of two calls, if there is one
 abbrev pub or_later : Option CallRef → Option CallRef → Option CallRef
 or_later None later = later
 or_later (Some by) later = Some by
@@ -83,6 +88,7 @@ lives id name (Some access) = Some (dir_of access, is_birth_place id name access
 abbrev pub filled_in : CallRef → Option (DirRef × ℕ × Caller) → List (List ℕ × Slot) → List (List ℕ × Slot)
 filled_in by link slots = first_changed (reserves by) (filled link) slots
 
+-- what is told of the slot that is filled
 abbrev pub told_of_filled : Id → Option (DirRef × ℕ × Caller) → Option (List ℕ × Slot) → Option (DirRef × Bool)
 told_of_filled id link None = None
 told_of_filled id link (Some e) = lives id e.0 (access_in (filled link e.1))
@@ -91,6 +97,7 @@ told_of_filled id link (Some e) = lives id e.0 (access_in (filled link e.1))
 abbrev pub told_of_slot : Id → List ℕ → Option (DirRef × ℕ × Caller) → Slot → Option (DirRef × Bool)
 told_of_slot id name link slot = lives id name (access_in (filled link slot))
 
+-- the slots with what the call held first settled
 abbrev pub settled_in : CallRef → List (List ℕ × Slot) → List (List ℕ × Slot)
 settled_in by slots = first_changed (holds by) settled slots
 
@@ -99,6 +106,7 @@ abbrev pub lifted : CallRef → List (List ℕ × Slot) → List (List ℕ × Sl
 lifted by [] = []
 lifted by (e ∷ es) = if reserves by e.1 then lifted by es else (e.0, freed by e.1) ∷ lifted by es
 
+-- the slots without the first one that is to go for the call
 abbrev pub erased : CallRef → List (List ℕ × Slot) → List (List ℕ × Slot)
 erased by slots = without_first (erases by) slots
 
@@ -111,13 +119,16 @@ told_of_erased (Some e) = Some (e.0, access_in e.1)
 abbrev pub has_free : List (List ℕ × Slot) → Bool
 has_free slots = list_any (λ (e : List ℕ × Slot). is_none (taker e.1)) slots
 
+-- with nothing that stays, the first call is in the way
 abbrev pub unless_busy : Option CallRef → Inside
 unless_busy None = inside.Empty
 unless_busy (Some by) = inside.Busy by
 
+-- what stands in a directory: something that stays, what calls hold or reserve, or nothing
 abbrev pub inside_of : List (List ℕ × Slot) → Inside
 inside_of slots = if has_free slots then inside.Full else unless_busy (first_taker slots)
 
+-- an item before others, if it is one
 abbrev pub with_item : List ℕ → Option Kind → List Item → List Item
 with_item name None items = items
 with_item name (Some kind) items = record { name = name; kind = kind } ∷ items

@@ -223,6 +223,7 @@ impl Slots {
     {
         self.by_name.retain(move |_, kept| kept.free(by));
     }
+
     /// Removes the first slot that the call holds with no mode to come.
     pub(crate) fn erase(&mut self, by: CallRef) -> Option<(Name, Option<Access>)>
         ensures told { result ≡ told_of_erased (first (erases by) self.old) }
