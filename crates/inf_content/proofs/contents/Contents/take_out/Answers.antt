@@ -1,0 +1,21 @@
+use Rattle.std.proofs.Common.{sym, ap, ◌∙◌}
+use Rattle.std.specs.Option.{option_copied_mut}
+use Rattle.inf_content.specs.Objects.{contents_of}
+use Rattle.inf_content.specs.Slots.{without_slot}
+use Rattle.inf_content.proofs.Found.{changed_at-gone, here_without_object, with_slots_at-here}
+use Rattle.inf_content.proofs.contents.Contents.take_out.Goals as goal
+
+pub returns-then-not-is_here : goal.returns-then-not-is_here
+returns-then-not-is_here c = sym (changed_at-gone c.args.dir.now _ c.args.self.now (sym c.is_here.ensures ∙ c.if-not-is_here.true))
+
+pub unreachable-requires : goal.unreachable-requires
+unreachable-requires c =
+    here_without_object c.args.dir.now c.self.inside.by_id.entries c.args.self.now c.self.view_is
+    (sym c.is_here.ensures ∙ c.if-not-is_here.false) (sym c.get_mut.ensures.value ∙ ap option_copied_mut c.in_default.is)
+
+pub returns : goal.returns
+returns c =
+    ap (λ m. contents_of m) (c.get_mut.follows.holds (record c.in-Some.object.now { slots = c.take_out.new.self })).0
+    ∙ with_slots_at-here c.args.dir.now (without_slot c.args.name.now) c.self.inside.by_id.entries c.args.self.now c.in-Some.object.now c.take_out.new.self
+    c.self.view_is (sym c.is_here.ensures ∙ c.if-not-is_here.false)
+    (sym c.get_mut.ensures.value ∙ ap option_copied_mut c.in-Some.is) c.take_out.ensures

@@ -1,0 +1,6 @@
+pub mod Contents
+pub mod Examples
+pub mod Kept
+pub mod Objects
+pub mod Slot
+pub mod Slots

@@ -1,0 +1,349 @@
+//! The content objects of a server.
+
+ghost use Rattle.std.specs.Prelude.{◌≡◌, [], is_some, false, if◌then◌else◌, IfOk, OnOk, OnErr};
+ghost use Rattle.std.specs.Option.{option_map};
+ghost use Rattle.inf_base.specs.declared.caller.CallRef.{CallRef};
+ghost use Rattle.inf_content.specs.Contents.{access_found, born_of, content_at, content_of_id, dropped_at, erased_at, filled_at, held_at, lifted_at, look, made_at, made_of, may_drop_found, reserved_at, seal_of, sealed_at, settled_at, slots_at, unsealed_at, with_file_at, with_meta_at, without_slot_at};
+ghost use Rattle.inf_content.specs.Slot.{erases, holds, reserves};
+ghost use Rattle.inf_content.specs.Objects.{whole};
+ghost use Rattle.inf_content.specs.Slots.{first, first_taker, inside_of, items_of, told_of_erased, told_of_filled};
+
+use crate::inside::Inside;
+use crate::made::Made;
+use crate::object::{Object, seal_left};
+use crate::seen::Seen;
+use crate::slots::Slots;
+use inf_base::{
+    Access, CallRef, Caller, DirRef, FileMeta, Id, Items, Name, NoMemory, Place, Triple,
+};
+use std::alloc::Global;
+use std::collections::BTreeMap;
+use std::marker::Model;
+
+/// The content objects of a server, by identifier.
+#[derive(Drop)]
+pub struct Contents {
+    alloc: Global,
+    by_id: BTreeMap<Id, Object>,
+}
+
+impl Model for Contents {
+    ghost use Rattle.std.specs.Prelude.{List};
+    ghost use Rattle.inf_base.specs.Content.{Content};
+    ghost use Rattle.inf_content.specs.Objects.{contents_of};
+
+    ghost Value = { List Content };
+
+    ghost view = { λ c. contents_of c.by_id.entries };
+}
+
+impl Contents {
+    pub fn new(alloc: Global) -> Self
+        ensures { result ≡ [] }
+    {
+        Contents {
+            alloc,
+            by_id: BTreeMap::new(alloc),
+        }
+    }
+
+    fn object_of_id(&self, id: &Id) -> Option<&Object>
+        ensures { option_map (λ object. whole id.now object.now) result ≡ content_of_id id.now self.now }
+    {
+        self.by_id.get(id)
+    }
+
+    fn object(&self, dir: &DirRef) -> Option<&Object>
+        ensures { option_map (λ object. whole dir.now.id object.now) result ≡ content_at dir.now self.now }
+    {
+        let object = self.object_of_id(&dir.id)?;
+        if object.born != dir.born {
+            return None;
+        }
+        Some(object)
+    }
+
+    /// The place of birth of the directory of this identifier.
+    pub fn born(&self, id: &Id) -> Option<Place>
+        ensures { result ≡ born_of (content_of_id id.now self.now) }
+    {
+        match self.object_of_id(id) {
+            None => None,
+            Some(object) => Some(object.born),
+        }
+    }
+
+    /// The call that sealed the directory.
+    pub fn sealed(&self, dir: &DirRef) -> Option<CallRef>
+        ensures { result ≡ seal_of (content_at dir.now self.now) }
+    {
+        match self.object(dir) {
+            None => None,
+            Some(object) => object.seal,
+        }
+    }
+
+    /// What is seen of a name of the directory.
+    pub fn look(&self, dir: &DirRef, name: &Name) -> Seen
+        ensures { result ≡ look dir.now name.now self.now }
+    {
+        match self.object(dir) {
+            None => Seen::Gone,
+            Some(object) => object.slots.look(name),
+        }
+    }
+
+    /// A copy of the access object under a name, where a directory stands there.
+    pub fn access_of(&self, dir: &DirRef, name: &Name) -> Result<Option<Access>, NoMemory>
+        ensures { IfOk result (λ access. access ≡ access_found name.now (content_at dir.now self.now)) }
+    {
+        match self.object(dir) {
+            None => Ok(None),
+            Some(object) => object.slots.access_of(self.alloc, name),
+        }
+    }
+
+    /// The call of the first slot of the directory that is held or reserved.
+    pub fn busy(&self, dir: &DirRef) -> Option<CallRef>
+        ensures { result ≡ first_taker (slots_at dir.now self.now) }
+    {
+        match self.object(dir) {
+            None => None,
+            Some(object) => object.slots.busy(),
+        }
+    }
+
+    /// What stands in the directory; which call asks makes no difference.
+    pub fn inside(&self, dir: &DirRef, _by: CallRef) -> Inside
+        ensures { result ≡ inside_of (slots_at dir.now self.now) }
+    {
+        match self.object(dir) {
+            None => Inside::Empty,
+            Some(object) => object.slots.inside(),
+        }
+    }
+
+    /// The names of the directory in their order, with their kinds.
+    pub fn list(&self, dir: &DirRef) -> Result<Items, NoMemory>
+        ensures { IfOk result (λ items. items ≡ items_of (slots_at dir.now self.now)) }
+    {
+        match self.object(dir) {
+            None => Ok(Items::new(Vec::new(self.alloc))),
+            Some(object) => object.slots.list(self.alloc),
+        }
+    }
+
+    fn is_here(&self, dir: &DirRef) -> bool
+        ensures { result ≡ is_some (content_at dir.now self.now) }
+    {
+        self.object(dir).is_some()
+    }
+
+    /// Gives the first slot that the call holds in the directory the mode that was kept for it, and lifts its hold.
+    pub fn settle(&mut self, dir: &DirRef, by: CallRef) -> bool
+        ensures told { result ≡ is_some (first (holds by) (slots_at dir.now self.old)) }
+        ensures settled { self.new ≡ settled_at dir.now by self.old }
+    {
+        if !self.is_here(dir) {
+            return false;
+        }
+        let Some(object) = self.by_id.get_mut(&dir.id) else {
+            unreachable!()
+        };
+        object.slots.settle(by)
+    }
+
+    /// Changes the metadata of the file under a name.
+    pub fn set_file(&mut self, dir: &DirRef, name: &Name, meta: FileMeta)
+        ensures { self.new ≡ with_meta_at dir.now name.now meta self.old }
+    {
+        if !self.is_here(dir) {
+            return;
+        }
+        let Some(object) = self.by_id.get_mut(&dir.id) else {
+            unreachable!()
+        };
+        object.slots.set_file(name, meta);
+    }
+
+    /// Removes a slot.
+    pub fn take_out(&mut self, dir: &DirRef, name: &Name)
+        ensures { self.new ≡ without_slot_at dir.now name.now self.old }
+    {
+        if !self.is_here(dir) {
+            return;
+        }
+        let Some(object) = self.by_id.get_mut(&dir.id) else {
+            unreachable!()
+        };
+        object.slots.take_out(name);
+    }
+
+    /// Lets a call hold the slot under a name, with the mode to come.
+    pub fn hold(&mut self, dir: &DirRef, name: &Name, by: CallRef, mode: Option<u16>)
+        ensures { self.new ≡ held_at dir.now name.now by mode self.old }
+    {
+        if !self.is_here(dir) {
+            return;
+        }
+        let Some(object) = self.by_id.get_mut(&dir.id) else {
+            unreachable!()
+        };
+        object.slots.hold(name, by, mode);
+    }
+
+    /// Lifts each hold of the call in the directory, and removes what it reserved there.
+    pub fn lift(&mut self, dir: &DirRef, by: CallRef)
+        ensures { self.new ≡ lifted_at dir.now by self.old }
+    {
+        if !self.is_here(dir) {
+            return;
+        }
+        let Some(object) = self.by_id.get_mut(&dir.id) else {
+            unreachable!()
+        };
+        object.slots.lift(by);
+    }
+
+    /// Makes what the call reserved first in the directory a directory: that of the link, where there is one. Tells
+    /// which directory stands there then, and whether it lives where it was made.
+    pub fn fill(
+        &mut self,
+        dir: &DirRef,
+        by: CallRef,
+        link: Option<(DirRef, u16, Caller)>,
+    ) -> Option<(DirRef, bool)>
+        ensures told { result ≡ told_of_filled dir.now.id link (first (reserves by) (slots_at dir.now self.old)) }
+        ensures filled { self.new ≡ filled_at dir.now by link self.old }
+    {
+        if !self.is_here(dir) {
+            return None;
+        }
+        let Some(object) = self.by_id.get_mut(&dir.id) else {
+            unreachable!()
+        };
+        object.slots.fill(&dir.id, by, link)
+    }
+
+    /// Removes the first slot that the call holds in the directory with no mode to come, and gives its name and, of a
+    /// directory, its access object.
+    pub fn erase(&mut self, dir: &DirRef, by: CallRef) -> Option<(Name, Option<Access>)>
+        ensures told { result ≡ told_of_erased (first (erases by) (slots_at dir.now self.old)) }
+        ensures erased { self.new ≡ erased_at dir.now by self.old }
+    {
+        if !self.is_here(dir) {
+            return None;
+        }
+        let Some(object) = self.by_id.get_mut(&dir.id) else {
+            unreachable!()
+        };
+        object.slots.erase(by)
+    }
+
+    /// Seals the directory.
+    pub fn seal(&mut self, dir: &DirRef, by: CallRef)
+        ensures { self.new ≡ sealed_at dir.now by self.old }
+    {
+        if !self.is_here(dir) {
+            return;
+        }
+        let Some(object) = self.by_id.get_mut(&dir.id) else {
+            unreachable!()
+        };
+        object.seal = Some(by);
+    }
+
+    /// Lifts the seal, if it is the call's own.
+    pub fn unseal(&mut self, dir: &DirRef, by: CallRef)
+        ensures { self.new ≡ unsealed_at dir.now by self.old }
+    {
+        if !self.is_here(dir) {
+            return;
+        }
+        let Some(object) = self.by_id.get_mut(&dir.id) else {
+            unreachable!()
+        };
+        object.seal = seal_left(by, object.seal);
+    }
+
+    /// Reserves a name for a directory to come, whose access object is kept.
+    pub fn reserve(
+        &mut self,
+        dir: &DirRef,
+        name: Name,
+        by: CallRef,
+        access: Access,
+    ) -> Result<(), NoMemory>
+        ensures ok { OnOk result (self.new ≡ reserved_at dir.now name by access self.old) }
+        ensures err { OnErr result (self.new ≡ self.old) }
+    {
+        if !self.is_here(dir) {
+            return Ok(());
+        }
+        let Some(object) = self.by_id.get_mut(&dir.id) else {
+            unreachable!()
+        };
+        object.slots.reserve(name, by, access)?;
+        Ok(())
+    }
+
+    /// Puts a file under a name.
+    pub fn put_file(&mut self, dir: &DirRef, name: Name, meta: FileMeta) -> Result<(), NoMemory>
+        ensures ok { OnOk result (self.new ≡ with_file_at dir.now name meta self.old) }
+        ensures err { OnErr result (self.new ≡ self.old) }
+    {
+        if !self.is_here(dir) {
+            return Ok(());
+        }
+        let Some(object) = self.by_id.get_mut(&dir.id) else {
+            unreachable!()
+        };
+        object.slots.put_file(name, meta)?;
+        Ok(())
+    }
+
+    fn may_drop(&self, dir: &DirRef, by: CallRef) -> bool
+        ensures { result ≡ may_drop_found by (content_at dir.now self.now) }
+    {
+        match self.object(dir) {
+            None => false,
+            Some(object) => object.may_drop(by),
+        }
+    }
+
+    /// Drops the directory, if the call sealed or made it.
+    pub fn drop_dir(&mut self, dir: &DirRef, by: CallRef)
+        ensures { self.new ≡ dropped_at dir.now by self.old }
+    {
+        if !self.may_drop(dir, by) {
+            return;
+        }
+        self.by_id.remove(&dir.id);
+    }
+
+    /// Makes an empty directory, where none of its identifier is there.
+    pub fn make(
+        &mut self,
+        id: Id,
+        triple: Triple,
+        born: Place,
+        by: CallRef,
+    ) -> Result<Made, NoMemory>
+        ensures told { IfOk result (λ made. made ≡ made_of triple (content_of_id id self.old)) }
+        ensures ok { OnOk result (self.new ≡ made_at id born triple by self.old) }
+        ensures err { OnErr result (self.new ≡ self.old) }
+    {
+        if let Some(object) = self.object_of_id(&id) {
+            return object.made(self.alloc, &triple);
+        }
+        let object = Object {
+            born,
+            triple,
+            maker: by,
+            seal: None,
+            slots: Slots::new(self.alloc),
+        };
+        self.by_id.insert(id, object)?;
+        Ok(Made::New)
+    }
+}

@@ -1,0 +1,22 @@
+//! The content objects of a server: what it keeps of the directories that it serves.
+#![tactic(auto)]
+
+mod contents;
+mod examples;
+mod inside;
+mod made;
+mod object;
+mod seen;
+mod slot;
+mod slots;
+#[cfg(test)]
+mod tests;
+
+pub use contents::Contents;
+pub use examples::{
+    example_of_filling, example_of_holds, example_of_insides, example_of_looks, example_of_making,
+    example_of_seals,
+};
+pub use inside::Inside;
+pub use made::Made;
+pub use seen::Seen;

@@ -1,0 +1,200 @@
+//! Each call once where it does its work, and at its other answers.
+
+use super::*;
+use inf_base::{Access, CallRef, DirRef, FileMeta, Id, Kind, Name, NoMemory, Place, Triple};
+use std::alloc::Global;
+use std::test::Fail;
+
+const LOW: Id = Id { bytes: [0; 32] };
+
+const HIGH: Id = Id { bytes: [1; 32] };
+
+const DIR: DirRef = DirRef { id: LOW, born: 3 };
+
+const LATER: DirRef = DirRef { id: LOW, born: 4 };
+
+const CALL: CallRef = CallRef {
+    client: 0,
+    number: 1,
+};
+
+const OTHER: CallRef = CallRef {
+    client: 1,
+    number: 1,
+};
+
+const META: FileMeta = FileMeta {
+    mode: 0o640,
+    owner: 7,
+    group: 7,
+    length: 0,
+};
+
+fn a(alloc: Global) -> Result<Name, NoMemory> {
+    Name::from_slice(alloc, b"a")
+}
+
+fn b(alloc: Global) -> Result<Name, NoMemory> {
+    Name::from_slice(alloc, b"b")
+}
+
+/// A directory that was made in `DIR` as `a`.
+fn access(alloc: Global) -> Result<Access, NoMemory> {
+    Ok(Access {
+        id: HIGH,
+        born: 5,
+        mode: 0o755,
+        owner: 7,
+        group: 7,
+        birth: Triple::Of {
+            parent: LOW,
+            name: a(alloc)?,
+            version: 0,
+        },
+    })
+}
+
+/// What comes of making a directory of the root's triple.
+fn is_new(contents: &mut Contents, id: Id, born: Place) -> Result<bool, NoMemory> {
+    let made = contents.make(id, Triple::Root, born, CALL)?;
+    Ok(matches!(made, Made::New))
+}
+
+/// The contents with `DIR` alone.
+fn with_dir(alloc: Global) -> Result<Contents, NoMemory> {
+    let mut contents = Contents::new(alloc);
+    is_new(&mut contents, LOW, 3)?;
+    Ok(contents)
+}
+
+/// The contents with `DIR`, in which `a` is a file.
+fn with_file(alloc: Global) -> Result<Contents, NoMemory> {
+    let mut contents = with_dir(alloc)?;
+    contents.put_file(&DIR, a(alloc)?, META)?;
+    Ok(contents)
+}
+
+#[test]
+fn makes(rt: HostRuntime) -> Result<(), Fail> {
+    let mut contents = with_dir(rt.alloc())?;
+    assert!(rt; is_new(&mut contents, HIGH, 4)?);
+    assert!(rt; !is_new(&mut contents, LOW, 9)?);
+    assert_eq!(rt; contents.born(&LOW), Some(3));
+    Ok(())
+}
+
+#[test]
+fn makes_none_beside_another(rt: HostRuntime) -> Result<(), Fail> {
+    let mut contents = with_dir(rt.alloc())?;
+    contents.seal(&DIR, OTHER);
+    let beside = contents.make(LOW, access(rt.alloc())?.birth, 9, OTHER)?;
+    assert!(rt; matches!(beside, Made::Clash(Triple::Root)));
+    let again = contents.make(LOW, Triple::Root, 9, CALL)?;
+    assert!(rt;
+        matches!(
+            again,
+            Made::Bearer(CallRef {
+                client: 1,
+                number: 1
+            })
+        )
+    );
+    Ok(())
+}
+
+#[test]
+fn looks(rt: HostRuntime) -> Result<(), Fail> {
+    let mut contents = with_file(rt.alloc())?;
+    let name = a(rt.alloc())?;
+    assert_eq!(rt; contents.look(&LATER, &name), Seen::Gone);
+    contents.set_file(&DIR, &name, FileMeta { length: 9, ..META });
+    let seen = contents.look(&DIR, &name);
+    assert!(rt;
+        matches!(
+            seen,
+            Seen::File {
+                meta: FileMeta { length: 9, .. },
+                held: None
+            }
+        )
+    );
+    contents.take_out(&DIR, &name);
+    assert_eq!(rt; contents.look(&DIR, &name), Seen::Missing);
+    Ok(())
+}
+
+#[test]
+fn fills(rt: HostRuntime) -> Result<(), Fail> {
+    let mut contents = with_dir(rt.alloc())?;
+    let name = a(rt.alloc())?;
+    contents.reserve(&DIR, a(rt.alloc())?, CALL, access(rt.alloc())?)?;
+    assert_eq!(rt; contents.look(&DIR, &name), Seen::Reserved(CALL));
+    assert_eq!(rt; contents.fill(&DIR, OTHER, None), None);
+    assert_eq!(rt;
+        contents.fill(&DIR, CALL, None),
+        Some((DirRef { id: HIGH, born: 5 }, true))
+    );
+    assert!(rt; contents.access_of(&DIR, &name)?.is_some());
+    assert!(rt; contents.access_of(&LATER, &name)?.is_none());
+    Ok(())
+}
+
+#[test]
+fn holds(rt: HostRuntime) -> Result<(), Fail> {
+    let mut contents = with_file(rt.alloc())?;
+    let name = a(rt.alloc())?;
+    contents.hold(&DIR, &name, CALL, Some(0o600));
+    assert_eq!(rt; contents.busy(&DIR), Some(CALL));
+    assert_eq!(rt; contents.inside(&DIR, OTHER), Inside::Busy(CALL));
+    assert!(rt; contents.erase(&DIR, CALL).is_none());
+    assert!(rt; contents.settle(&DIR, CALL));
+    let seen = contents.look(&DIR, &name);
+    assert!(rt;
+        matches!(
+            seen,
+            Seen::File {
+                meta: FileMeta { mode: 0o600, .. },
+                held: None
+            }
+        )
+    );
+    Ok(())
+}
+
+#[test]
+fn erases(rt: HostRuntime) -> Result<(), Fail> {
+    let mut contents = with_file(rt.alloc())?;
+    contents.reserve(&DIR, b(rt.alloc())?, OTHER, access(rt.alloc())?)?;
+    assert_eq!(rt; contents.inside(&DIR, CALL), Inside::Full);
+    contents.hold(&DIR, &a(rt.alloc())?, CALL, None);
+    assert!(rt; contents.erase(&DIR, CALL).is_some());
+    contents.lift(&DIR, OTHER);
+    assert_eq!(rt; contents.inside(&DIR, CALL), Inside::Empty);
+    Ok(())
+}
+
+#[test]
+fn drops(rt: HostRuntime) -> Result<(), Fail> {
+    let mut contents = with_dir(rt.alloc())?;
+    contents.seal(&DIR, CALL);
+    contents.unseal(&DIR, OTHER);
+    assert_eq!(rt; contents.sealed(&DIR), Some(CALL));
+    contents.unseal(&DIR, CALL);
+    contents.drop_dir(&DIR, OTHER);
+    assert_eq!(rt; contents.born(&LOW), Some(3));
+    contents.drop_dir(&DIR, CALL);
+    assert_eq!(rt; contents.born(&LOW), None);
+    Ok(())
+}
+
+#[test]
+fn lists(rt: HostRuntime) -> Result<(), Fail> {
+    let mut contents = with_file(rt.alloc())?;
+    contents.reserve(&DIR, b(rt.alloc())?, CALL, access(rt.alloc())?)?;
+    let items = contents.list(&DIR)?;
+    assert_eq!(rt; items.len(), 1);
+    for item in items.iter() {
+        assert_eq!(rt; item.kind, Kind::File);
+    }
+    Ok(())
+}
