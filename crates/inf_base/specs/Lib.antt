@@ -6,4 +6,5 @@ pub mod Marks
 pub mod Memory
 pub mod Path
 pub mod Renames
+pub mod Same
 pub mod Setup
