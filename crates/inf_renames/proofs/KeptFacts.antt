@@ -9,7 +9,7 @@ use Rattle.std.proofs.lemmas.Map.Steps.{le-length_from_below}
 use Rattle.inf_base.specs.declared.directory.DirRef.{DirRef}
 use Rattle.inf_renames.specs.declared.row.Row.{Row}
 use Rattle.inf_renames.specs.Kept.{Kept, has_version, without_dir}
-use Rattle.inf_renames.specs.Rows.{is_same_dir}
+use Rattle.inf_base.specs.Same.{is_same_dir}
 
 abbrev versions_of : List Row → List ℕ
 versions_of rows = map (λ (r : Row). r.version) rows

@@ -10,7 +10,8 @@ use Rattle.inf_base.specs.declared.id.Id.{Id}
 use Rattle.inf_base.specs.Renames.{RenameRow}
 use Rattle.inf_renames.specs.Kept.{Kept}
 use Rattle.inf_renames.specs.Renames.{HasRows, OthersStay, rows_of}
-use Rattle.inf_renames.specs.Rows.{IsLeastFree, is_same_dir, is_same_id, is_taken, of_parent, without_row}
+use Rattle.inf_base.specs.Same.{is_same_dir, is_same_id}
+use Rattle.inf_renames.specs.Rows.{IsLeastFree, is_taken, of_parent, without_row}
 use Rattle.inf_renames.proofs.RenamesFacts.{same_self}
 
 pub least_unique : (parent : Id) (name : List ℕ) (rows : List RenameRow) (m n : ℕ) → IsLeastFree parent name rows m → IsLeastFree parent name rows n → m ≡ n

@@ -14,7 +14,8 @@ use Rattle.inf_base.specs.declared.id.Id.{Id}
 use Rattle.inf_renames.specs.declared.row.Row.{Row}
 use Rattle.inf_renames.specs.Kept.{Kept, nothing_kept, has_version, without_dir}
 use Rattle.inf_renames.specs.Renames.{OthersStay, kept_of, row_in, rows_of, spare_of}
-use Rattle.inf_renames.specs.Rows.{is_same_dir, is_same_id, is_taken, without_row}
+use Rattle.inf_base.specs.Same.{is_same_dir, is_same_id}
+use Rattle.inf_renames.specs.Rows.{is_taken, without_row}
 
 abbrev pub id_cmp : Id → Id → Ordering
 id_cmp = id_order.cmp-value.it

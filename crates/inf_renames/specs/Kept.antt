@@ -4,7 +4,7 @@ use Rattle.std.specs.List.{list_any}
 use Rattle.std.specs.Str.{bytes_eq}
 use Rattle.inf_base.specs.declared.directory.DirRef.{DirRef}
 use Rattle.inf_renames.specs.declared.row.Row.{Row}
-use Rattle.inf_renames.specs.Rows.{is_same_dir}
+use Rattle.inf_base.specs.Same.{is_same_dir}
 
 -- the rows in the order of adding, and for how many more there is room
 pub record Kept : Type 0 where

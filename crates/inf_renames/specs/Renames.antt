@@ -5,7 +5,8 @@ use Rattle.inf_base.specs.declared.id.Id.{Id}
 use Rattle.inf_base.specs.Renames.{RenameRow}
 use Rattle.inf_renames.specs.declared.row.Row.{Row}
 use Rattle.inf_renames.specs.Kept.{Kept, nothing_kept}
-use Rattle.inf_renames.specs.Rows.{is_same_id, of_parent}
+use Rattle.inf_base.specs.Same.{is_same_id}
+use Rattle.inf_renames.specs.Rows.{of_parent}
 
 -- what is kept of a parent: nothing, where it is not listed
 abbrev pub kept_of : Id → List (Id × Kept) → Kept

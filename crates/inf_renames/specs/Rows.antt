@@ -5,14 +5,7 @@ use Rattle.std.specs.Str.{bytes_eq}
 use Rattle.inf_base.specs.declared.directory.DirRef.{DirRef}
 use Rattle.inf_base.specs.declared.id.Id.{Id}
 use Rattle.inf_base.specs.Renames.{RenameRow}
-
--- the same 32 bytes
-abbrev pub is_same_id : Id → Id → Bool
-is_same_id a b = bytes_eq a.bytes b.bytes
-
--- the same identifier, born at the same place
-abbrev pub is_same_dir : DirRef → DirRef → Bool
-is_same_dir a b = is_same_id a.id b.id && a.born == b.born
+use Rattle.inf_base.specs.Same.{is_same_dir, is_same_id}
 
 -- whether a row of this parent and name has this version
 abbrev pub is_taken : Id → List ℕ → ℕ → List RenameRow → Bool

@@ -2,7 +2,7 @@
 
 ghost use Rattle.std.specs.Prelude.{◌≡◌, ℕ, ◌+◌, ◌-◌, ◌<◌, ◌≤◌, true, false, [], ◌∷◌, ◌++◌, OnOk, OnErr, position};
 ghost use Rattle.inf_renames.specs.Kept.{nothing_kept, has_version, without_dir};
-ghost use Rattle.inf_renames.specs.Rows.{is_same_dir};
+ghost use Rattle.inf_base.specs.Same.{is_same_dir};
 
 use crate::row::Row;
 use inf_base::{DirRef, Name, NoMemory};
