@@ -1,14 +1,14 @@
 -- The rows of one parent: how many versions they can take, and what is left without the first row of a directory.
-use Rattle.std.proofs.Common.{◌≡◌, ℕ, ◌+◌, ◌<◌, ◌≤◌, Bool, true, false, cond, not, ◌==◌, ◌&&◌, eqb, nat_lt, List, [], ◌∷◌, length, map, remove, None, Some, position, refl, sym, ap, subst, ◌∙◌, ⊎_elim, arith, add_comm, add-one}
+use Rattle.std.proofs.Common.{◌≡◌, ℕ, zero, suc, ◌+◌, ◌<◌, ◌≤◌, Bool, true, false, cond, not, ◌==◌, ◌&&◌, eqb, nat_lt, List, [], ◌∷◌, length, map, remove, None, Some, position, refl, sym, ap, subst, ◌∙◌, ⊎_elim, arith, add_comm, add-one}
 use Rattle.std.specs.List.{list_any, position_or_len}
 use Rattle.std.specs.Str.{bytes_eq}
-use Rattle.std.proofs.lemmas.Bool.{or_cases, and_parts, or_left, or_right, false_from_ne_true, ltb-false, eqb-true, eq-eqb}
+use Rattle.std.proofs.lemmas.Bool.{cases_lt, or_cases, and_parts, or_left, or_right, false_from_ne_true, ltb-false, eqb-true, eq-eqb}
 use borrow.Author.Count.{below_more}
 use Rattle.std.proofs.lemmas.List.{length-map}
 use Rattle.std.proofs.lemmas.Map.Steps.{le-length_from_below}
 use Rattle.inf_base.specs.declared.directory.DirRef.{DirRef}
 use Rattle.inf_renames.specs.declared.row.Row.{Row}
-use Rattle.inf_renames.specs.Kept.{Kept, has_version, without_dir}
+use Rattle.inf_renames.specs.Kept.{Kept, has_version, kept_least_version, least_from, without_dir}
 use Rattle.inf_base.specs.Same.{is_same_dir}
 
 abbrev versions_of : List Row → List ℕ
@@ -33,6 +33,59 @@ taken_within name rows n taken =
 pub free_past : (name : List ℕ) (rows : List Row) (n : ℕ) → length rows ≤ n → ((v : ℕ) → v < n → has_version name v rows ≡ true) → has_version name n rows ≡ false
 free_past name rows n all taken =
     false_from_ne_true _ (λ also. let within = taken_within name rows (n + 1) (below_more (λ v. has_version name v rows ≡ true) n taken also) in absurd (omega arith))
+
+-- a number below which all are taken, and which is free or the last to try, is what the tries find
+least_from_is : (taken : ℕ → Bool) (more v n : ℕ) → v ≤ n → n ≤ v + more → ((u : ℕ) → u < n → taken u ≡ true) → (n < v + more → taken n ≡ false) → least_from taken more v ≡ n
+least_from_is taken zero v n low high below here = omega arith
+least_from_is taken (suc more) v n low high below here = ⊎_elim
+    (λ (less : v < n).
+    let used : taken v ≡ true = below v less in
+    rw used (least_from_is taken more (v + 1) n (omega arith) (omega arith) below (λ within. here (omega arith))))
+    (λ (past : n ≤ v).
+    let same : n ≡ v = omega arith in
+    let free : taken v ≡ false = subst (λ k. taken k ≡ false) same (here (omega arith)) in
+    rw free (sym same))
+    (cases_lt v n)
+
+pub least_found : (name : List ℕ) (kept : Kept) (n : ℕ) → n ≤ length kept.rows → ((v : ℕ) → v < n → has_version name v kept.rows ≡ true)
+    → (n < length kept.rows → has_version name n kept.rows ≡ false) → kept_least_version name kept ≡ n
+least_found name kept n within taken free = least_from_is (λ v. has_version name v kept.rows) (length kept.rows) 0 n (omega arith) (omega arith) taken (λ less. free (omega arith))
+
+-- what the tries find is free or the last, and all from the first to it are taken
+record IsFound (taken : ℕ → Bool) (more v n : ℕ) : Type 0 where
+  low : v ≤ n
+  high : n ≤ v + more
+  below : (u : ℕ) → v ≤ u → u < n → taken u ≡ true
+  here : n < v + more → taken n ≡ false
+
+found_from : (taken : ℕ → Bool) (more v : ℕ) → IsFound taken more v (least_from taken more v)
+found_from taken zero v = record { low = omega arith; high = omega arith; below = λ u after before. absurd (omega arith); here = λ less. absurd (omega arith) }
+found_from taken (suc more) v = by (taken v) refl (found_from taken more (v + 1))
+  where
+    by : (b : Bool) → taken v ≡ b → IsFound taken more (v + 1) (least_from taken more (v + 1)) → IsFound taken (suc more) v (cond b (least_from taken more (v + 1)) v)
+    by true used next = record {
+      low = let low = next.low in omega arith;
+      high = let high = next.high in omega arith;
+      below = λ u after before. ⊎_elim
+          (λ (past : v < u). next.below u (omega arith) before)
+          (λ (first : u ≤ v). let same : v ≡ u = omega arith in subst (λ k. taken k ≡ true) same used)
+          (cases_lt v u);
+      here = λ less. next.here (omega arith);
+    }
+    by false free next = record { low = omega arith; high = omega arith; below = λ u after before. absurd (omega arith); here = λ less. free }
+
+module _ (name : List ℕ) (kept : Kept) where
+  found : IsFound (λ v. has_version name v kept.rows) (length kept.rows) 0 (kept_least_version name kept)
+  found = found_from (λ v. has_version name v kept.rows) (length kept.rows) 0
+
+  pub below_least : (v : ℕ) → v < kept_least_version name kept → has_version name v kept.rows ≡ true
+  below_least v less = found.below v (omega arith) less
+
+  pub least_is_free : has_version name (kept_least_version name kept) kept.rows ≡ false
+  least_is_free = ⊎_elim
+      (λ (less : kept_least_version name kept < length kept.rows). found.here (omega arith))
+      (λ (last : length kept.rows ≤ kept_least_version name kept). free_past name kept.rows _ last below_least)
+      (cases_lt _ _)
 
 abbrev place_of : DirRef → List Row → ℕ
 place_of dir rows = position_or_len (λ (r : Row). is_same_dir r.dir dir) rows

@@ -1,3 +1,4 @@
+pub mod Entries
 pub mod KeptFacts
 pub mod OneList
 pub mod RenamesFacts

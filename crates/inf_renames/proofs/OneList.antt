@@ -1,10 +1,9 @@
 -- Rename lists against one list of all rows in the order of adding.
 use Rattle.std.proofs.Common.{◌≡◌, ℕ, Bool, true, false, cond, ◌==◌, ◌&&◌, ◌||◌, List, [], ◌∷◌, ◌++◌, refl, sym, ap, subst, ◌∙◌, ⊎_elim}
 use Rattle.std.specs.Str.{bytes_eq}
-use Rattle.std.proofs.lemmas.Bool.{both_ways, cases_Bool, cases_order, false_from_ne_true}
+use Rattle.std.proofs.lemmas.Bool.{both_ways, cases_Bool, cases_order}
 use Rattle.std.proofs.lemmas.List.{append-nil}
 use Rattle.std.proofs.lemmas.List.Elements.{filter-append}
-use Rattle.std.proofs.lemmas.Slice.Eq.{bytes_eq-Decides}
 use Rattle.inf_base.specs.declared.directory.DirRef.{DirRef}
 use Rattle.inf_base.specs.declared.id.Id.{Id}
 use Rattle.inf_base.specs.Renames.{RenameRow}
@@ -12,7 +11,7 @@ use Rattle.inf_renames.specs.Kept.{Kept}
 use Rattle.inf_renames.specs.Renames.{HasRows, OthersStay, rows_of}
 use Rattle.inf_base.specs.Same.{is_same_dir, is_same_id}
 use Rattle.inf_renames.specs.Rows.{IsLeastFree, is_taken, of_parent, without_row}
-use Rattle.inf_renames.proofs.RenamesFacts.{same_self}
+use Rattle.inf_renames.proofs.RenamesFacts.{apart_back, same_id, same_self}
 
 pub least_unique : (parent : Id) (name : List ℕ) (rows : List RenameRow) (m n : ℕ) → IsLeastFree parent name rows m → IsLeastFree parent name rows n → m ≡ n
 least_unique parent name rows m n a b =
@@ -20,12 +19,6 @@ least_unique parent name rows m n a b =
     (λ same. same)
     (⊎_elim (λ less. absurd (both_ways _ a.free (b.least m less))) (λ more. absurd (both_ways _ b.free (a.least n more))))
     (cases_order m n)
-
-same_id : (p q : Id) → is_same_id p q ≡ true → p ≡ q
-same_id p q same = let bytes = (bytes_eq-Decides p.bytes q.bytes).0 same in ap (λ b. record { bytes = b }) bytes
-
-apart_back : (p q : Id) → is_same_id p q ≡ false → is_same_id q p ≡ false
-apart_back p q apart = false_from_ne_true _ (λ same. both_ways _ apart (subst (λ x. is_same_id x q ≡ true) (same_id q p same) (same_self q)))
 
 -- what holds of a parent and of the others
 of_each : (p q : Id) (P : Id → Type 0) → P p → (is_same_id p q ≡ false → P q) → P q

@@ -1,7 +1,7 @@
 //! The rename list of one parent.
 
-ghost use Rattle.std.specs.Prelude.{◌≡◌, ℕ, ◌+◌, ◌-◌, ◌<◌, ◌≤◌, true, false, [], ◌∷◌, ◌++◌, OnOk, OnErr, position};
-ghost use Rattle.inf_renames.specs.Kept.{nothing_kept, has_version, without_dir};
+ghost use Rattle.std.specs.Prelude.{◌≡◌, ◌<◌, OnOk, OnErr, position};
+ghost use Rattle.inf_renames.specs.Kept.{has_version, kept_least_version, kept_with_room, kept_with_row, kept_without, nothing_kept};
 ghost use Rattle.inf_base.specs.Same.{is_same_dir};
 
 use crate::row::Row;
@@ -47,8 +47,7 @@ impl KeptRows {
 
     /// The least number that no row of this name has.
     pub fn least_version(&self, name: &Name) -> u64
-        ensures free { has_version name.now result self.now.rows ≡ false }
-        ensures least { (v : ℕ) → v < result → has_version name.now v self.now.rows ≡ true }
+        ensures { result ≡ kept_least_version name.now self.now }
     {
         let count = self.rows.len() as u64;
         for version in 0..count {
@@ -61,7 +60,7 @@ impl KeptRows {
 
     /// Makes room for one more row.
     pub fn reserve(&mut self) -> Result<(), NoMemory>
-        ensures ok { OnOk result (self.new ≡ record { rows = self.old.rows; spare = self.old.spare + 1 }) }
+        ensures ok { OnOk result (self.new ≡ kept_with_room self.old) }
         ensures err { OnErr result (self.new ≡ self.old) }
     {
         self.rows.reserve(self.spare + 1)?;
@@ -71,7 +70,7 @@ impl KeptRows {
 
     pub fn add(&mut self, row: Row)
         requires { 0 < self.old.spare }
-        ensures { self.new ≡ record { rows = self.old.rows ++ row ∷ []; spare = self.old.spare - 1 } }
+        ensures { self.new ≡ kept_with_row row self.old }
     {
         self.rows.push_reserved(row);
         self.spare -= 1;
@@ -80,7 +79,7 @@ impl KeptRows {
     #[tactic(auto, using(crate::proofs::KeptFacts::without_found))]
     /// Removes the first row of the directory, if there is one.
     pub fn remove(&mut self, dir: &DirRef)
-        ensures { self.new ≡ record { rows = without_dir dir.now self.old.rows; spare = self.old.spare } }
+        ensures { self.new ≡ kept_without dir.now self.old }
     {
         if let Some(index) = place_of(self.rows.as_slice(), dir) {
             let _ = self.rows.remove(index);

@@ -10,5 +10,8 @@ mod row;
 mod tests;
 
 pub use examples::{example_of_others, example_of_removals, example_of_versions};
-pub use laws::{least_versions_are_unique, lists_follow_one_list};
+pub use laws::{
+    least_versions_are_free, least_versions_are_unique, lists_follow_one_list,
+    room_is_for_one_parent, rows_are_added_to_one_parent, rows_are_forgotten_of_one_parent,
+};
 pub use renames::Renames;

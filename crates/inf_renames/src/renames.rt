@@ -1,8 +1,8 @@
 //! The rename lists of all parents.
 
-ghost use Rattle.std.specs.Prelude.{◌≡◌, ℕ, ◌+◌, ◌<◌, ◌≤◌, true, false, [], ◌∷◌, ◌++◌, OnOk, OnErr};
-ghost use Rattle.inf_renames.specs.Renames.{OthersStay, rows_of, spare_of};
-ghost use Rattle.inf_renames.specs.Rows.{is_taken, without_row};
+ghost use Rattle.std.specs.Prelude.{◌≡◌, ℕ, ◌<◌, ◌≤◌, true, false, [], OnOk, OnErr};
+ghost use Rattle.inf_renames.specs.Renames.{forgotten, least_version, rows_of, spare_of, with_room, with_row};
+ghost use Rattle.inf_renames.specs.Rows.{is_taken};
 
 use crate::kept_rows::KeptRows;
 use crate::row::Row;
@@ -42,6 +42,7 @@ impl Renames {
 
     /// The least version of the name in the parent that no row has.
     pub fn least_version(&self, parent: &Id, name: &Name) -> u64
+        ensures value { result ≡ least_version parent.now name.now self.now }
         ensures free { is_taken parent.now name.now result (rows_of parent.now self.now) ≡ false }
         ensures least { (v : ℕ) → v < result → is_taken parent.now name.now v (rows_of parent.now self.now) ≡ true }
     {
@@ -53,9 +54,7 @@ impl Renames {
 
     /// Makes room for one more row of the parent.
     pub fn reserve(&mut self, parent: &Id) -> Result<(), NoMemory>
-        ensures rows { rows_of parent.now self.new ≡ rows_of parent.now self.old }
-        ensures spare { OnOk result (spare_of parent.now self.new ≡ spare_of parent.now self.old + 1) }
-        ensures others { OthersStay parent.now self.old self.new }
+        ensures ok { OnOk result (self.new ≡ with_room parent.now self.old) }
         ensures err { OnErr result (self.new ≡ self.old) }
     {
         if let Some(kept) = self.lists.get_mut(parent) {
@@ -71,10 +70,7 @@ impl Renames {
     /// Adds a row in the room that was reserved.
     pub fn add(&mut self, parent: &Id, name: Name, version: u64, dir: DirRef)
         requires { 1 ≤ spare_of parent.now self.old }
-        ensures rows { rows_of parent.now self.new
-            ≡ rows_of parent.now self.old ++ record { parent = parent.now; name = name; version = version; dir = dir } ∷ [] }
-        ensures spare { spare_of parent.now self.new + 1 ≡ spare_of parent.now self.old }
-        ensures others { OthersStay parent.now self.old self.new }
+        ensures { self.new ≡ with_row parent.now (record { name = name; version = version; dir = dir }) self.old }
     {
         let Some(kept) = self.lists.get_mut(parent) else {
             unreachable!()
@@ -84,9 +80,7 @@ impl Renames {
 
     /// Removes the first row of the directory in the parent, if there is one.
     pub fn remove(&mut self, parent: &Id, dir: &DirRef)
-        ensures rows { rows_of parent.now self.new ≡ without_row parent.now dir.now (rows_of parent.now self.old) }
-        ensures spare { spare_of parent.now self.new ≡ spare_of parent.now self.old }
-        ensures others { OthersStay parent.now self.old self.new }
+        ensures { self.new ≡ forgotten parent.now dir.now self.old }
     {
         let Some(kept) = self.lists.get_mut(parent) else {
             return;

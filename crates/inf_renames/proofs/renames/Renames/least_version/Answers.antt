@@ -1,18 +1,19 @@
-use Rattle.std.proofs.Common.{refl}
-use Rattle.inf_renames.proofs.RenamesFacts.{kept_found, taken_found}
+use Rattle.std.proofs.Common.{sym, ap, ◌∙◌}
+use Rattle.inf_renames.specs.Kept.{kept_least_version}
+use Rattle.inf_renames.proofs.Entries.{kept_found}
+use Rattle.inf_renames.proofs.RenamesFacts.{least_version_found}
 use Rattle.inf_renames.proofs.renames.Renames.least_version.Goals as goal
 
-pub returns-in-Some-clause-free : goal.returns-in-Some-clause-free
-returns-in-Some-clause-free c =
+pub returns-in-Some : goal.returns-in-Some
+returns-in-Some c =
     let here = kept_found c.args.parent.now c.self.inside.lists _ _ c.self.view_is c.in-Some.ensures.value in
-    taken_found c.args.parent.now c.args.name.now _ _ _ _ here c.least_version.ensures.free
+    let is = c.least_version.ensures ∙ ap (kept_least_version c.args.name.now) (sym here) in
+    let least = least_version_found c.args.parent.now c.args.name.now c.args.self.now _ is in
+    record { value = is; free = least.free; least = least.least }
 
-pub returns-in-Some-clause-least : goal.returns-in-Some-clause-least
-returns-in-Some-clause-least c =
-    let here = kept_found c.args.parent.now c.self.inside.lists _ _ c.self.view_is c.in-Some.ensures.value in
-    λ v less. taken_found c.args.parent.now c.args.name.now _ _ _ _ here (c.least_version.ensures.least v less)
-
-pub returns-in-None-clause-free : goal.returns-in-None-clause-free
-returns-in-None-clause-free c =
+pub returns-in-None : goal.returns-in-None
+returns-in-None c =
     let none = kept_found c.args.parent.now c.self.inside.lists _ _ c.self.view_is c.in-None.ensures.value in
-    taken_found c.args.parent.now c.args.name.now _ _ _ _ none refl
+    let is = ap (kept_least_version c.args.name.now) (sym none) in
+    let least = least_version_found c.args.parent.now c.args.name.now c.args.self.now 0 is in
+    record { value = is; free = least.free; least = least.least }
