@@ -1,7 +1,8 @@
-//! Which of the versions 0, 1 and 2 small rename lists leave free: each clause is computed.
+//! Which versions small rename lists leave free, and what the calls make of them: each clause is computed.
 
 ghost use Rattle.std.specs.Prelude.{◌≡◌, [], ◌∷◌, true, false, codes};
-ghost use Rattle.inf_renames.specs.Examples.{dir_born, first_taken, gap_rows, id_of, two_rows};
+ghost use Rattle.inf_renames.specs.Examples.{dir_born, entry, first_taken, gap_lists, gap_rows, id_of, row_a, two_rows};
+ghost use Rattle.inf_renames.specs.Renames.{forgotten, least_version, with_room, with_row};
 ghost use Rattle.inf_renames.specs.Rows.{without_row};
 
 /// Where 0 and 1 are taken, 2 is the least free version; where 0 and 2 are, it is 1.
@@ -23,4 +24,37 @@ pub fn example_of_removals()
     ensures second { first_taken 1 (codes "a") (without_row (id_of 1) (dir_born 6) two_rows) ≡ true ∷ false ∷ false ∷ [] }
     ensures elsewhere { without_row (id_of 2) (dir_born 5) two_rows ≡ two_rows }
     ensures unborn { without_row (id_of 1) (dir_born 7) two_rows ≡ two_rows }
+{}
+
+/// Between two versions that are taken the least free one is found, and past three of them it is the next.
+pub fn example_of_least_versions()
+    ensures gap { least_version (id_of 1) (codes "a") gap_lists ≡ 1 }
+    ensures past { least_version (id_of 1) (codes "a") (with_row (id_of 1) (row_a 1 7) gap_lists) ≡ 3 }
+    ensures name { least_version (id_of 1) (codes "b") gap_lists ≡ 0 }
+    ensures unlisted { least_version (id_of 2) (codes "a") gap_lists ≡ 0 }
+{}
+
+/// Room is made where the parent stands, or where it comes in the order of identifiers.
+pub fn example_of_room()
+    ensures listed { with_room (id_of 3) gap_lists ≡ entry 1 (row_a 0 5 ∷ row_a 2 6 ∷ []) 1 ∷ entry 3 [] 2 ∷ [] }
+    ensures between { with_room (id_of 2) gap_lists
+        ≡ entry 1 (row_a 0 5 ∷ row_a 2 6 ∷ []) 1 ∷ entry 2 [] 1 ∷ entry 3 [] 1 ∷ [] }
+    ensures last { with_room (id_of 4) gap_lists
+        ≡ entry 1 (row_a 0 5 ∷ row_a 2 6 ∷ []) 1 ∷ entry 3 [] 1 ∷ entry 4 [] 1 ∷ [] }
+{}
+
+/// A row is added behind the others and takes the room of one.
+pub fn example_of_rows_added()
+    ensures behind { with_row (id_of 1) (row_a 1 7) gap_lists
+        ≡ entry 1 (row_a 0 5 ∷ row_a 2 6 ∷ row_a 1 7 ∷ []) 0 ∷ entry 3 [] 1 ∷ [] }
+    ensures first { with_row (id_of 3) (row_a 0 7) gap_lists
+        ≡ entry 1 (row_a 0 5 ∷ row_a 2 6 ∷ []) 1 ∷ entry 3 (row_a 0 7 ∷ []) 0 ∷ [] }
+{}
+
+/// The row of the directory is forgotten and leaves no room; where there is none, nothing changes.
+pub fn example_of_rows_forgotten()
+    ensures first { forgotten (id_of 1) (dir_born 5) gap_lists ≡ entry 1 (row_a 2 6 ∷ []) 1 ∷ entry 3 [] 1 ∷ [] }
+    ensures second { forgotten (id_of 1) (dir_born 6) gap_lists ≡ entry 1 (row_a 0 5 ∷ []) 1 ∷ entry 3 [] 1 ∷ [] }
+    ensures unborn { forgotten (id_of 1) (dir_born 7) gap_lists ≡ gap_lists }
+    ensures unlisted { forgotten (id_of 2) (dir_born 5) gap_lists ≡ gap_lists }
 {}
