@@ -24,32 +24,34 @@ is_listed name v (r ∷ rows) has =
     (or_cases (bytes_eq r.name name && r.version == v) (has_version name v rows) has)
 
 -- as many rows as there are versions from 0 on that are taken
-taken_within : (name : List ℕ) (rows : List Row) (n : ℕ) → ((v : ℕ) → v < n → has_version name v rows ≡ true) → n ≤ length rows
+pub taken_within : (name : List ℕ) (rows : List Row) (n : ℕ) → ((v : ℕ) → v < n → has_version name v rows ≡ true) → n ≤ length rows
 taken_within name rows n taken =
     let below = le-length_from_below (versions_of rows) n (λ v less. is_listed name v rows (taken v less)) in
     simp length-map at below
 
 -- past as many taken versions as there are rows, none is taken
-pub free_past : (name : List ℕ) (rows : List Row) (n : ℕ) → length rows ≤ n → ((v : ℕ) → v < n → has_version name v rows ≡ true) → has_version name n rows ≡ false
+free_past : (name : List ℕ) (rows : List Row) (n : ℕ) → length rows ≤ n → ((v : ℕ) → v < n → has_version name v rows ≡ true) → has_version name n rows ≡ false
 free_past name rows n all taken =
     false_from_ne_true _ (λ also. let within = taken_within name rows (n + 1) (below_more (λ v. has_version name v rows ≡ true) n taken also) in absurd (omega arith))
 
--- a number below which all are taken, and which is free or the last to try, is what the tries find
-least_from_is : (taken : ℕ → Bool) (more v n : ℕ) → v ≤ n → n ≤ v + more → ((u : ℕ) → u < n → taken u ≡ true) → (n < v + more → taken n ≡ false) → least_from taken more v ≡ n
-least_from_is taken zero v n low high below here = omega arith
-least_from_is taken (suc more) v n low high below here = ⊎_elim
+-- a free number below which all are taken is what the tries find
+least_from_is : (taken : ℕ → Bool) (more v n : ℕ) → v ≤ n → n ≤ v + more → ((u : ℕ) → u < n → taken u ≡ true) → taken n ≡ false → least_from taken more v ≡ n
+least_from_is taken zero v n low high below free = omega arith
+least_from_is taken (suc more) v n low high below free =
+    ⊎_elim
     (λ (less : v < n).
     let used : taken v ≡ true = below v less in
-    rw used (least_from_is taken more (v + 1) n (omega arith) (omega arith) below (λ within. here (omega arith))))
+    rw used (least_from_is taken more (v + 1) n (omega arith) (omega arith) below free))
     (λ (past : n ≤ v).
     let same : n ≡ v = omega arith in
-    let free : taken v ≡ false = subst (λ k. taken k ≡ false) same (here (omega arith)) in
-    rw free (sym same))
+    let here : taken v ≡ false = subst (λ k. taken k ≡ false) same free in
+    rw here (sym same))
     (cases_lt v n)
 
-pub least_found : (name : List ℕ) (kept : Kept) (n : ℕ) → n ≤ length kept.rows → ((v : ℕ) → v < n → has_version name v kept.rows ≡ true)
-    → (n < length kept.rows → has_version name n kept.rows ≡ false) → kept_least_version name kept ≡ n
-least_found name kept n within taken free = least_from_is (λ v. has_version name v kept.rows) (length kept.rows) 0 n (omega arith) (omega arith) taken (λ less. free (omega arith))
+pub least_found : (name : List ℕ) (kept : Kept) (n : ℕ) → ((v : ℕ) → v < n → has_version name v kept.rows ≡ true) → has_version name n kept.rows ≡ false → kept_least_version name kept ≡ n
+least_found name kept n taken free =
+    let within = taken_within name kept.rows n taken in
+    least_from_is (λ v. has_version name v kept.rows) (length kept.rows) 0 n (omega arith) (omega arith) taken free
 
 -- what the tries find is free or the last, and all from the first to it are taken
 record IsFound (taken : ℕ → Bool) (more v n : ℕ) : Type 0 where

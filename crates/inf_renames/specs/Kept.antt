@@ -24,12 +24,12 @@ abbrev pub without_dir : DirRef → List Row → List Row
 without_dir dir [] = []
 without_dir dir (r ∷ rows) = if is_same_dir r.dir dir then rows else r ∷ without_dir dir rows
 
--- the least number from v on that is not taken, or the last after so many more tries
+-- the least number from v on that is not taken, of so many; where all are, the number after them
 abbrev pub least_from : (ℕ → Bool) → ℕ → ℕ → ℕ
 least_from taken zero v = v
 least_from taken (suc more) v = if taken v then least_from taken more (v + 1) else v
 
--- the least version of this name that no row has: as many rows cannot take one version more
+-- the least version of this name that no row has: so many rows take no more versions than that
 abbrev pub kept_least_version : List ℕ → Kept → ℕ
 kept_least_version name kept = least_from (λ (version : ℕ). has_version name version kept.rows) (length kept.rows) 0
 

@@ -1,6 +1,6 @@
 //! The rename list of one parent.
 
-ghost use Rattle.std.specs.Prelude.{◌≡◌, ◌<◌, OnOk, OnErr, position};
+ghost use Rattle.std.specs.Prelude.{◌≡◌, ℕ, ◌<◌, ◌≤◌, true, false, OnOk, OnErr, position};
 ghost use Rattle.inf_renames.specs.Kept.{has_version, kept_least_version, kept_with_room, kept_with_row, kept_without, nothing_kept};
 ghost use Rattle.inf_base.specs.Same.{is_same_dir};
 
@@ -37,25 +37,18 @@ impl KeptRows {
         }
     }
 
-    fn has_version(&self, name: &Name, version: u64) -> bool
-        ensures { result ≡ has_version name.now version self.now.rows }
-    {
-        self.rows
-            .iter()
-            .any(|row| row.name == *name && row.version == version)
-    }
-
     /// The least number that no row of this name has.
     pub fn least_version(&self, name: &Name) -> u64
         ensures { result ≡ kept_least_version name.now self.now }
     {
-        let count = self.rows.len() as u64;
-        for version in 0..count {
-            if !self.has_version(name, version) {
+        let mut version = 0;
+        loop {
+            let next = next_version(self.rows.as_slice(), name, version);
+            if next == version {
                 return version;
             }
+            version = next;
         }
-        count
     }
 
     /// Makes room for one more row.
@@ -91,4 +84,22 @@ fn place_of(rows: &[Row], dir: &DirRef) -> Option<usize>
     ensures { result ≡ position (λ r. is_same_dir r.dir dir.now) rows.now }
 {
     rows.iter().position(|row| row.dir == *dir)
+}
+
+/// Counts up from a version as rows take it, in one walk. Rows are mostly added in the order of their versions: one walk
+/// then passes them all, and the next one finds the version free.
+fn next_version(rows: &[Row], name: &Name, version: u64) -> u64
+    requires { (v : ℕ) → v < version → has_version name.now v rows.now ≡ true }
+    ensures taken { (v : ℕ) → v < result → has_version name.now v rows.now ≡ true }
+    ensures not_less { version ≤ result }
+    ensures free { result ≡ version → has_version name.now version rows.now ≡ false }
+{
+    let mut next = version;
+    for index in 0..rows.len() {
+        let row = &rows[index];
+        if row.name == *name && row.version == next {
+            next += 1;
+        }
+    }
+    next
 }

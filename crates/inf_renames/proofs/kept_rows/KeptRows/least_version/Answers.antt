@@ -1,14 +1,18 @@
-use Rattle.std.proofs.Common.{◌≡◌, sym, ap, arith, length, rules}
-use Rattle.inf_renames.specs.Kept.{Kept}
-use Rattle.inf_renames.proofs.KeptFacts.{least_found}
+use Rattle.std.proofs.Common.{◌≡◌, false, length, sym, ap, subst, ◌∙◌, arith}
+use Rattle.inf_renames.specs.Kept.{Kept, has_version}
+use Rattle.inf_renames.proofs.KeptFacts.{least_found, taken_within}
 use Rattle.inf_renames.proofs.kept_rows.KeptRows.least_version.Goals as goal
 
-pub returns-then-not-has_version : goal.returns-then-not-has_version
-returns-then-not-has_version c =
-    let count : c.len-count.result ≡ length c.args.self.now.rows = cc (ap (λ (k : Kept). length k.rows) c.self.view_is) in
-    sym (least_found c.args.name.now c.args.self.now c.loop-version.version (omega (arith, count)) c.loop-version.invariant (λ within. search rules))
+pub returns-then-next-version : goal.returns-then-next-version
+returns-then-next-version c =
+    let same = c.as_slice.ensures.value ∙ ap (λ (k : Kept). k.rows) c.self.view_is in
+    let free = subst (λ rows. has_version c.args.name.now c.loop-version.version rows ≡ false) same (c.next_version-next.ensures.free c.if-next-version.true) in
+    sym (least_found c.args.name.now c.args.self.now c.loop-version.version c.loop-version.invariant free)
 
-pub returns : goal.returns
-returns c =
-    let count : c.len-count.result ≡ length c.args.self.now.rows = cc (ap (λ (k : Kept). length k.rows) c.self.view_is) in
-    sym (least_found c.args.name.now c.args.self.now c.len-count.result (omega (arith, count)) (λ v less. c.loop-version.invariant v (omega arith)) (λ within. absurd (omega (arith, count))))
+pub loop-version-smaller : goal.loop-version-smaller
+loop-version-smaller c =
+    let same = ap length (c.as_slice.ensures.value ∙ ap (λ (k : Kept). k.rows) c.self.view_is) in
+    let within = taken_within c.args.name.now c.as_slice.result.now c.next_version-next.result c.next_version-next.ensures.taken in
+    let not_less = c.next_version-next.ensures.not_less in
+    let more = c.if-next-version.false in
+    omega (arith, same, within, not_less, more)
