@@ -35,7 +35,7 @@ kept_least_version name kept = least_from (λ (version : ℕ). has_version name 
 
 -- with room for one more row
 abbrev pub kept_with_room : Kept → Kept
-kept_with_room kept = record { rows = kept.rows; spare = kept.spare + 1 }
+kept_with_room kept = record kept { spare = kept.spare + 1 }
 
 -- with a row added, in the room for one
 abbrev pub kept_with_row : Row → Kept → Kept
@@ -43,4 +43,4 @@ kept_with_row row kept = record { rows = kept.rows ++ row ∷ []; spare = kept.s
 
 -- without the first row of this directory
 abbrev pub kept_without : DirRef → Kept → Kept
-kept_without dir kept = record { rows = without_dir dir kept.rows; spare = kept.spare }
+kept_without dir kept = record kept { rows = without_dir dir kept.rows }
