@@ -1,6 +1,6 @@
 //! The rename lists of all parents.
 
-ghost use Rattle.std.specs.Prelude.{◌≡◌, ℕ, ◌<◌, ◌≤◌, true, false, [], OnOk, OnErr};
+ghost use Rattle.std.specs.Prelude.{◌≡◌, ℕ, ◌+◌, ◌<◌, ◌≤◌, true, false, [], OnOk, OnErr};
 ghost use Rattle.inf_renames.specs.Renames.{forgotten, least_version, rows_of, spare_of, with_room, with_row};
 ghost use Rattle.inf_renames.specs.Rows.{is_taken};
 
@@ -55,6 +55,7 @@ impl Renames {
     /// Makes room for one more row of the parent.
     pub fn reserve(&mut self, parent: &Id) -> Result<(), NoMemory>
         ensures ok { OnOk result (self.new ≡ with_room parent.now self.old) }
+        ensures spare { OnOk result (spare_of parent.now self.new ≡ spare_of parent.now self.old + 1) }
         ensures err { OnErr result (self.new ≡ self.old) }
     {
         if let Some(kept) = self.lists.get_mut(parent) {
