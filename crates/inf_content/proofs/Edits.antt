@@ -1,17 +1,15 @@
 -- What edits of the slots of a directory leave.
-use Rattle.std.proofs.Common.{◌≡◌, ℕ, Bool, true, false, cond, ◌||◌, List, [], ◌∷◌, Option, Some, None, is_some, refl, ap, ◌∙◌, subst}
+use Rattle.std.proofs.Common.{◌≡◌, ℕ, Bool, true, false, cond, ◌||◌, List, [], ◌∷◌, Option, Some, None, Less, refl, ap, subst}
 use Rattle.std.specs.BTreeMap.{is_at}
-use Rattle.std.specs.Cmp.Lexicographic.{slice_cmp}
-use Rattle.std.specs.Map.{lookup, set_value}
-use Rattle.std.specs.Map.Calls.{RetainsPairs}
-use Rattle.std.specs.Ordering.{nat_cmp}
+use Rattle.std.specs.List.Sorted.{IsStrictlySortedBy}
+use Rattle.std.specs.Map.{keys_of, lookup, remove_entry, set_value}
+use Rattle.std.specs.Ordering.{is_eq}
+use Rattle.std.proofs.lemmas.Map.Keys.{sorted_head, sorted_tail}
 use Rattle.inf_base.specs.declared.caller.CallRef.{CallRef}
-use Rattle.inf_base.specs.declared.caller.Caller.{Caller}
-use Rattle.inf_base.specs.declared.directory.DirRef.{DirRef}
-use Rattle.inf_base.specs.declared.id.Id.{Id}
-use Rattle.inf_base.specs.Content.{Slot, reserved, file, directory}
-use Rattle.inf_content.specs.Slot.{access_in, filled, freed, reserves}
-use Rattle.inf_content.specs.Slots.{changed_slot, first, first_changed, lifted, lives, told_of_filled}
+use Rattle.inf_base.specs.Content.{Hold, Slot, reserved, file, directory}
+use Rattle.inf_content.specs.Slot.{freed, holds, is_held_by, let_go, reserves}
+use Rattle.inf_content.specs.Slots.{changed_slot, first, first_changed, lifted, slot_in, without_first}
+use Rattle.inf_content.proofs.Listed.{IsBelow, above, name_cmp, same_name}
 
 -- a slot under a name that is there, written back changed
 found_step : (b : Bool) (e : List ℕ × Slot) (es changed written : List (List ℕ × Slot)) (later : Option Slot) (change : Slot → Slot) (v w : Slot)
@@ -21,11 +19,11 @@ found_step true e es changed written later change v w is at rest = let same : e.
 found_step false e es changed written later change v w is at rest = ap (λ xs. e ∷ xs) (rest at)
 
 pub changed_slot-found : (name : List ℕ) (change : Slot → Slot) (es : List (List ℕ × Slot)) (v w : Slot)
-    → lookup (is_at (slice_cmp nat_cmp name)) es ≡ Some v → w ≡ change v
-    → set_value (is_at (slice_cmp nat_cmp name)) es w ≡ changed_slot name change es
+    → lookup (is_at (name_cmp name)) es ≡ Some v → w ≡ change v
+    → set_value (is_at (name_cmp name)) es w ≡ changed_slot name change es
 changed_slot-found name change [] v w at is = refl
 changed_slot-found name change (e ∷ es) v w at is =
-    found_step (is_at (slice_cmp nat_cmp name) e.0) e es _ _ _ change v w is at (λ later. changed_slot-found name change es v w later is)
+    found_step (is_at (name_cmp name) e.0) e es _ _ _ change v w is at (λ later. changed_slot-found name change es v w later is)
 
 missing_step : (b : Bool) (e : List ℕ × Slot) (es changed : List (List ℕ × Slot)) (later : Option Slot) (change : Slot → Slot)
     → cond b (Some e.1) later ≡ None → (later ≡ None → changed ≡ es)
@@ -34,88 +32,115 @@ missing_step true e es changed later change at rest = cc
 missing_step false e es changed later change at rest = ap (λ xs. e ∷ xs) (rest at)
 
 pub changed_slot-missing : (name : List ℕ) (change : Slot → Slot) (es : List (List ℕ × Slot))
-    → lookup (is_at (slice_cmp nat_cmp name)) es ≡ None → changed_slot name change es ≡ es
+    → lookup (is_at (name_cmp name)) es ≡ None → changed_slot name change es ≡ es
 changed_slot-missing name change [] at = refl
 changed_slot-missing name change (e ∷ es) at =
-    missing_step (is_at (slice_cmp nat_cmp name) e.0) e es _ _ change at (changed_slot-missing name change es)
+    missing_step (is_at (name_cmp name) e.0) e es _ _ change at (changed_slot-missing name change es)
 
-none_step : (b : Bool) (e : List ℕ × Slot) (es changed : List (List ℕ × Slot)) (later : Option (List ℕ × Slot)) (change : Slot → Slot)
-    → cond b (Some e) later ≡ None → (later ≡ None → changed ≡ es)
-    → cond b ((e.0, change e.1) ∷ es) (e ∷ changed) ≡ e ∷ es
-none_step true e es changed later change at rest = cc
-none_step false e es changed later change at rest = ap (λ xs. e ∷ xs) (rest at)
+-- where no slot passes, none is changed or removed
+none_step : (b : Bool) (e w : List ℕ × Slot) (es changed removed : List (List ℕ × Slot)) (later : Option (List ℕ × Slot))
+    → cond b (Some e) later ≡ None → (later ≡ None → (changed ≡ es) × (removed ≡ es))
+    → (cond b (w ∷ es) (e ∷ changed) ≡ e ∷ es) × (cond b es (e ∷ removed) ≡ e ∷ es)
+none_step true e w es changed removed later none rest = cc
+none_step false e w es changed removed later none rest = (ap (λ xs. e ∷ xs) (rest none).0, ap (λ xs. e ∷ xs) (rest none).1)
 
--- where no slot passes, none is changed
-pub first_changed-none : (test : Slot → Bool) (change : Slot → Slot) (es : List (List ℕ × Slot))
-    → first test es ≡ None → first_changed test change es ≡ es
-first_changed-none test change [] at = refl
-first_changed-none test change (e ∷ es) at = none_step (test e.1) e es _ _ change at (first_changed-none test change es)
+pub none_passes : (test : Slot → Bool) (change : Slot → Slot) (es : List (List ℕ × Slot)) → first test es ≡ None
+    → (first_changed test change es ≡ es) × (without_first test es ≡ es)
+none_passes test change [] none = (refl, refl)
+none_passes test change (e ∷ es) none = none_step (test e.1) e (e.0, change e.1) es _ _ _ none (none_passes test change es)
 
-none_from_false : {X : Type 0} (o : Option X) → is_some o ≡ false → o ≡ None
-none_from_false None h = refl
-none_from_false (Some x) h = cc
+-- ---- the first slot that passes, by its name
+pub record IsFirst (test : Slot → Bool) (es : List (List ℕ × Slot)) (name : List ℕ) (slot : Slot) : Type 0 where
+  pub found : first test es ≡ Some (name, slot)
+  pub at : slot_in name es ≡ Some slot
+  pub passes : test slot ≡ true
+  pub changed : (change : Slot → Slot) → first_changed test change es ≡ set_value (is_at (name_cmp name)) es (change slot)
+  pub removed : without_first test es ≡ remove_entry (is_at (name_cmp name)) es
 
-pub first_changed-unless : (test : Slot → Bool) (change : Slot → Slot) (es : List (List ℕ × Slot))
-    → is_some (first test es) ≡ false → first_changed test change es ≡ es
-first_changed-unless test change es h = first_changed-none test change es (none_from_false _ h)
+above_step : (b : Bool) (k : List ℕ) (e p : List ℕ × Slot) (later : Option (List ℕ × Slot)) → name_cmp k e.0 ≡ Less
+    → (later ≡ Some p → name_cmp k p.0 ≡ Less) → cond b (Some e) later ≡ Some p → name_cmp k p.0 ≡ Less
+above_step true k e p later less rest found = let same : e ≡ p = cc in subst (λ (x : List ℕ × Slot). name_cmp k x.0 ≡ Less) same less
+above_step false k e p later less rest found = rest found
 
--- a closure that changes the first value that passes, and notes that it did
-change_step : (done passes : Bool) (e : List ℕ × Slot) (es rest changed : List (List ℕ × Slot)) (w changed_value : Slot)
-    → w ≡ cond done e.1 (cond passes changed_value e.1)
-    → rest ≡ cond (done || passes) es changed
-    → (e.0, w) ∷ rest ≡ cond done (e ∷ es) (cond passes ((e.0, changed_value) ∷ es) (e ∷ changed))
-change_step true passes e es rest changed w v is tail = rw (is, tail) refl
-change_step false true e es rest changed w v is tail = rw (is, tail) refl
-change_step false false e es rest changed w v is tail = rw (is, tail) refl
+first_above : (test : Slot → Bool) (k : List ℕ) (es : List (List ℕ × Slot)) (p : List ℕ × Slot) → IsBelow k (keys_of es) → first test es ≡ Some p → name_cmp k p.0 ≡ Less
+first_above test k [] p below found = cc
+first_above test k (e ∷ es) p below found = above_step (test e.1) k e p (first test es) below.0 (first_above test k es p below.1) found
 
-same_empty : {X : Type 0} (b : Bool) (xs : List X) → xs ≡ cond b xs xs
-same_empty true xs = refl
-same_empty false xs = refl
+here : (test : Slot → Bool) (e : List ℕ × Slot) (es : List (List ℕ × Slot)) → test e.1 ≡ true → IsFirst test (e ∷ es) e.0 e.1
+here test e es is =
+    let same : is_at (name_cmp e.0) e.0 ≡ true = ap is_eq (same_name e.0) in
+    record { found = rw is refl; at = rw same refl; passes = is; changed = λ change. rw (is, same) refl; removed = rw (is, same) refl }
 
-pub first_changed-from_retain : {F : Type 0} (T : F → List ℕ → Slot → Bool → Slot → F → Type 0) (I : F → Type 0) (done : F → Bool)
-    (test : Slot → Bool) (change : Slot → Slot)
-    → ((f : F) (k : List ℕ) (v : Slot) (b : Bool) (w : Slot) (f' : F) → I f → T f k v b w f'
-    → (b ≡ true) × (w ≡ cond (done f) v (cond (test v) (change v) v)) × (done f' ≡ (done f || test v)) × I f')
-    → (f : F) → I f → (es kept : List (List ℕ × Slot)) → RetainsPairs T f es kept → kept ≡ cond (done f) es (first_changed test change es)
-first_changed-from_retain T I done test change h f i [] kept r = r ∙ same_empty (done f) []
-first_changed-from_retain T I done test change h f i (e ∷ es) kept r =
-    let a = h f e.0 e.1 r.0 r.1 r.2 i r.4 in
-    let rest = first_changed-from_retain T I done test change h r.2 a.3 es r.3 r.5 in
-    let tail : r.3 ≡ cond (done f || test e.1) es (first_changed test change es) = rest ∙ ap (λ b. cond b es (first_changed test change es)) a.2 in
-    r.6 ∙ ap (λ b. cond b ((e.0, r.1) ∷ r.3) r.3) a.0 ∙ change_step (done f) (test e.1) e es r.3 (first_changed test change es) r.1 (change e.1) a.1 tail
+there : (test : Slot → Bool) (e : List ℕ × Slot) (es : List (List ℕ × Slot)) (name : List ℕ) (slot : Slot) → test e.1 ≡ false → name_cmp e.0 name ≡ Less
+    → IsFirst test es name slot → IsFirst test (e ∷ es) name slot
+there test e es name slot is less later =
+    let apart : is_at (name_cmp name) e.0 ≡ false = ap is_eq (above name e.0 less) in record {
+      found = rw is later.found;
+      at = rw apart later.at;
+      passes = later.passes;
+      changed = λ change. rw (is, apart) (ap (λ xs. e ∷ xs) (later.changed change));
+      removed = rw (is, apart) (ap (λ xs. e ∷ xs) later.removed);
+    }
 
-lift_step : (b : Bool) (e : List ℕ × Slot) (w : Slot) (kept rest done : List (List ℕ × Slot))
-    → kept ≡ cond (cond b false true) ((e.0, w) ∷ rest) rest → rest ≡ done
-    → kept ≡ cond b done ((e.0, w) ∷ done)
-lift_step true e w kept rest done is same = is ∙ same
-lift_step false e w kept rest done is same = is ∙ ap (λ xs. (e.0, w) ∷ xs) same
+first_step : (b : Bool) (test : Slot → Bool) (e : List ℕ × Slot) (es : List (List ℕ × Slot)) (p : List ℕ × Slot) → test e.1 ≡ b
+    → (test e.1 ≡ false → first test es ≡ Some p → IsFirst test (e ∷ es) p.0 p.1)
+    → cond b (Some e) (first test es) ≡ Some p → IsFirst test (e ∷ es) p.0 p.1
+first_step true test e es p is later found = let same : e ≡ p = cc in subst (λ (x : List ℕ × Slot). IsFirst test (e ∷ es) x.0 x.1) same (here test e es is)
+first_step false test e es p is later found = later is found
 
--- a closure that frees each slot, and keeps those that are not reserved
-pub lifted-from_retain : {F : Type 0} (T : F → List ℕ → Slot → Bool → Slot → F → Type 0) (by : CallRef) (f : F)
-    → ((k : List ℕ) (v : Slot) (b : Bool) (w : Slot) (f' : F) → T f k v b w f'
-    → (b ≡ cond (reserves by v) false true) × (w ≡ freed by v) × (f' ≡ f))
-    → (es kept : List (List ℕ × Slot)) → RetainsPairs T f es kept → kept ≡ lifted by es
-lifted-from_retain T by f h [] kept r = r
-lifted-from_retain T by f h (e ∷ es) kept r =
-    let a = h e.0 e.1 r.0 r.1 r.2 r.4 in
-    let rest = lifted-from_retain T by f h es r.3 (subst (λ u. RetainsPairs T u es r.3) a.2 r.5) in
-    lift_step (reserves by e.1) e (freed by e.1) kept r.3 (lifted by es)
-    (r.6 ∙ ap (λ b. cond b ((e.0, r.1) ∷ r.3) r.3) a.0 ∙ ap (λ w. cond (cond (reserves by e.1) false true) ((e.0, w) ∷ r.3) r.3) a.1) rest
+pub first_is : (test : Slot → Bool) (es : List (List ℕ × Slot)) (p : List ℕ × Slot) → IsStrictlySortedBy name_cmp (keys_of es)
+    → first test es ≡ Some p → IsFirst test es p.0 p.1
+first_is test [] p sorted found = cc
+first_is test (e ∷ es) p sorted found =
+    first_step (test e.1) test e es p refl
+    (λ is later. there test e es p.0 p.1 is (first_above test e.0 es p (sorted_head name_cmp e.0 (keys_of es) sorted) later)
+    (first_is test es p (sorted_tail name_cmp e.0 (keys_of es) sorted) later))
+    found
 
--- what is reserved can be filled, so what is told of it is a directory
-told_of_reserved : (id : Id) (name : List ℕ) (link : Option (DirRef × ℕ × Caller)) (by : CallRef) (slot : Slot)
-    → reserves by slot ≡ true → lives id name (access_in (filled link slot)) ≡ None → ⊥
-told_of_reserved id name link by (reserved other access) is h = cc
-told_of_reserved id name link by (file meta held) is h = cc
-told_of_reserved id name link by (directory access held) is h = cc
+-- ---- what a call took, let go slot by slot
+freed_hold : (b : Bool) (by : CallRef) (held : Option Hold) → is_held_by by held ≡ b → let_go by (let_go by held) ≡ let_go by held
+freed_hold true by held is = rw is refl
+freed_hold false by held is = rw (is, is) refl
 
-told_step : (id : Id) (link : Option (DirRef × ℕ × Caller)) (by : CallRef) (e : List ℕ × Slot) (later : Option (List ℕ × Slot))
-    (b : Bool) → reserves by e.1 ≡ b → (told_of_filled id link later ≡ None → later ≡ None)
-    → told_of_filled id link (cond b (Some e) later) ≡ None → cond b (Some e) later ≡ None
-told_step id link by e later true is rest h = absurd (told_of_reserved id e.0 link by e.1 is h)
-told_step id link by e later false is rest h = rest h
+freed_again : (by : CallRef) (slot : Slot) → reserves by slot ≡ false → (reserves by (freed by slot) ≡ false) × (freed by (freed by slot) ≡ freed by slot)
+freed_again by (reserved other access) is = (is, refl)
+freed_again by (file meta held) is = (refl, ap (λ h. file meta h) (freed_hold _ by held refl))
+freed_again by (directory access held) is = (refl, ap (λ h. directory access h) (freed_hold _ by held refl))
 
-pub first-from_told : (id : Id) (link : Option (DirRef × ℕ × Caller)) (by : CallRef) (es : List (List ℕ × Slot))
-    → told_of_filled id link (first (reserves by) es) ≡ None → first (reserves by) es ≡ None
-first-from_told id link by [] h = refl
-first-from_told id link by (e ∷ es) h = told_step id link by e _ (reserves by e.1) refl (first-from_told id link by es) h
+not_held : (by : CallRef) (slot : Slot) → holds by slot ≡ false → freed by slot ≡ slot
+not_held by (reserved other access) is = refl
+not_held by (file meta held) is = rw is refl
+not_held by (directory access held) is = rw is refl
+
+freed_step : (b : Bool) (by : CallRef) (e : List ℕ × Slot) (es written : List (List ℕ × Slot)) (slot : Slot) (later : Option Slot) → reserves by slot ≡ false
+    → cond b (Some e.1) later ≡ Some slot → (later ≡ Some slot → lifted by written ≡ lifted by es)
+    → lifted by (cond b ((e.0, freed by slot) ∷ es) (e ∷ written)) ≡ lifted by (e ∷ es)
+freed_step true by e es written slot later is found rest = let same : e.1 ≡ slot = cc in let again = freed_again by slot is in rw (same, is, again.0, again.1) refl
+freed_step false by e es written slot later is found rest = ap (λ xs. cond (reserves by e.1) xs ((e.0, freed by e.1) ∷ xs)) (rest found)
+
+pub lifted-freed : (by : CallRef) (test : List ℕ → Bool) (es : List (List ℕ × Slot)) (slot : Slot) → lookup test es ≡ Some slot → reserves by slot ≡ false
+    → lifted by (set_value test es (freed by slot)) ≡ lifted by es
+lifted-freed by test [] slot found is = refl
+lifted-freed by test (e ∷ es) slot found is = freed_step (test e.0) by e es _ slot _ is found (λ later. lifted-freed by test es slot later is)
+
+removed_step : (b : Bool) (by : CallRef) (e : List ℕ × Slot) (es removed : List (List ℕ × Slot)) (slot : Slot) (later : Option Slot) → reserves by slot ≡ true
+    → cond b (Some e.1) later ≡ Some slot → (later ≡ Some slot → lifted by removed ≡ lifted by es)
+    → lifted by (cond b es (e ∷ removed)) ≡ lifted by (e ∷ es)
+removed_step true by e es removed slot later is found rest = let same : e.1 ≡ slot = cc in rw (same, is) refl
+removed_step false by e es removed slot later is found rest = ap (λ xs. cond (reserves by e.1) xs ((e.0, freed by e.1) ∷ xs)) (rest found)
+
+pub lifted-removed : (by : CallRef) (test : List ℕ → Bool) (es : List (List ℕ × Slot)) (slot : Slot) → lookup test es ≡ Some slot → reserves by slot ≡ true
+    → lifted by (remove_entry test es) ≡ lifted by es
+lifted-removed by test [] slot found is = refl
+lifted-removed by test (e ∷ es) slot found is = removed_step (test e.0) by e es _ slot _ is found (λ later. lifted-removed by test es slot later is)
+
+lifted_step : (r h : Bool) (by : CallRef) (e : List ℕ × Slot) (es lifted_rest : List (List ℕ × Slot)) (later : Option (List ℕ × Slot)) → holds by e.1 ≡ h
+    → cond (r || h) (Some e) later ≡ None → (later ≡ None → lifted_rest ≡ es) → cond r lifted_rest ((e.0, freed by e.1) ∷ lifted_rest) ≡ e ∷ es
+lifted_step true h by e es lifted_rest later is none rest = cc
+lifted_step false true by e es lifted_rest later is none rest = cc
+lifted_step false false by e es lifted_rest later is none rest = rw (not_held by e.1 is, rest none) refl
+
+-- where a call took nothing
+pub lifted-none : (by : CallRef) (es : List (List ℕ × Slot)) → first (λ slot. reserves by slot || holds by slot) es ≡ None → lifted by es ≡ es
+lifted-none by [] none = refl
+lifted-none by (e ∷ es) none = lifted_step (reserves by e.1) (holds by e.1) by e es (lifted by es) _ refl none (lifted-none by es)

@@ -3,28 +3,32 @@ use Rattle.std.proofs.Common.{◌≡◌, ℕ, Bool, true, false, cond, ◌&&◌,
 use Rattle.std.specs.BTreeMap.{insert_entry, is_at}
 use Rattle.std.specs.Map.{lookup, remove_entry, set_value}
 use Rattle.std.specs.Option.{option_copied, option_map}
-use Rattle.std.specs.Ordering.{is_eq, match_ordering}
+use Rattle.std.specs.Ordering.{match_ordering}
 use Rattle.std.specs.declared.cmp.Ordering.{Ordering}
 use Rattle.std.specs.declared.cmp.Ordering.TheVariants.{Less, Equal, Greater}
 use Rattle.std.proofs.lemmas.Map.Lookups.{exact_bytes}
 use Rattle.std.proofs.lemmas.Map.Steps.{set_value_same}
+use Rattle.std.proofs.lemmas.Map.Text.{is_eq-slice_cmp}
+use Rattle.std.proofs.lemmas.Slice.Eq.{bytes_eq-Decides}
 use Rattle.inf_base.specs.declared.caller.CallRef.{CallRef}
 use Rattle.inf_base.specs.declared.directory.DirRef.{DirRef}
 use Rattle.inf_base.specs.declared.id.Id.{Id}
 use Rattle.inf_base.specs.declared.triple.Triple.{Triple}
 use Rattle.inf_base.specs.Content.{Content, Slot}
+use Rattle.inf_base.specs.Same.{is_same_id}
 use Rattle.inf_content.specs.declared.object.Object.{Object}
-use Rattle.inf_content.specs.Contents.{changed_at, content_at, content_of_id, dropped_at, empty_content, id_cmp, if_born, is_same_id, made_at, may_drop, may_drop_found, placed, slots_at, slots_found, with_new, with_slots_at}
+use Rattle.inf_content.specs.Contents.{changed_at, content_at, content_of_id, dropped_at, empty_content, id_cmp, if_born, made_at, may_drop, may_drop_found, placed, slots_at, slots_found, with_new, with_slots_at}
 use Rattle.inf_content.specs.Objects.{contents_of, whole}
 
-equal_from_is_eq : (o : Ordering) → is_eq o ≡ true → o ≡ Equal
-equal_from_is_eq Less h = cc
-equal_from_is_eq Equal h = refl
-equal_from_is_eq Greater h = cc
+abbrev id_from : List ℕ → Id
+id_from bytes = record { bytes = bytes }
 
 same_id : (a b : Id) → is_same_id a b ≡ true → a ≡ b
-same_id a b h = let e : a.bytes ≡ b.bytes = exact_bytes a.bytes b.bytes (equal_from_is_eq (id_cmp a b) h) in
-    let made : List ℕ → Id = λ (bs : List ℕ). record { bytes = bs } in ap made e
+same_id a b h = ap id_from ((bytes_eq-Decides a.bytes b.bytes).0 h)
+
+-- the map finds by the order, and the definitions by the bytes
+pub same_test : (a b : Id) → is_at (id_cmp a) b ≡ is_same_id a b
+same_test a b = is_eq-slice_cmp a.bytes b.bytes
 
 of_id_step : (b : Bool) (id : Id) (e : Id × Object) (later : Option Content) (found : Option Object)
     → (b ≡ true → id ≡ e.0) → later ≡ option_map (whole id) found
@@ -36,7 +40,7 @@ pub content_of_id-kept : (id : Id) (es : List (Id × Object))
     → content_of_id id (contents_of es) ≡ option_map (whole id) (lookup (is_at (id_cmp id)) es)
 content_of_id-kept id [] = refl
 content_of_id-kept id (e ∷ es) =
-    of_id_step (is_same_id id e.0) id e _ _ (same_id id e.0) (content_of_id-kept id es)
+    rw (same_test id e.0) (of_id_step (is_same_id id e.0) id e _ _ (same_id id e.0) (content_of_id-kept id es))
 
 pub option_map-copied : {X B : Type 0} (f : X → B) (r : Option (Bor X)) → option_map (λ (x : Bor X). f x.now) r ≡ option_map f (option_copied r)
 option_map-copied f None = refl
@@ -96,7 +100,7 @@ changed_at-kept : (dir : DirRef) (change : Content → Content) (es : List (Id �
     → contents_of (set_value (is_at (id_cmp dir.id)) es w) ≡ changed_at dir change (contents_of es)
 changed_at-kept dir change [] v w born is at = refl
 changed_at-kept dir change (e ∷ es) v w born is at =
-    changed_step (is_same_id dir.id e.0) dir change e.0 e.1 v w es _ _ _ born (is e.0) at (changed_at-kept dir change es v w born is)
+    rw (same_test dir.id e.0) (changed_step (is_same_id dir.id e.0) dir change e.0 e.1 v w es _ _ _ born (is e.0) (rw (same_test dir.id e.0) at at) (changed_at-kept dir change es v w born is))
 
 pub changed_at-here : (dir : DirRef) (change : Content → Content) (es : List (Id × Object)) (cs : List Content) (v w : Object)
     → contents_of es ≡ cs → is_some (content_at dir cs) ≡ true → lookup (is_at (id_cmp dir.id)) es ≡ Some v
@@ -140,13 +144,6 @@ changed_at-gone dir change [] h = refl
 changed_at-gone dir change (c ∷ cs) h =
     gone_step (is_same_id dir.id c.dir.id) dir change c cs _ _ h (changed_at-gone dir change cs)
 
-slots_found-gone : (o : Option Content) → is_some o ≡ false → slots_found o ≡ []
-slots_found-gone None h = refl
-slots_found-gone (Some c) h = cc
-
-pub slots_at-gone : (dir : DirRef) (cs : List Content) → is_some (content_at dir cs) ≡ false → slots_at dir cs ≡ []
-slots_at-gone dir cs h = slots_found-gone (content_at dir cs) h
-
 -- a directory dropped, as its object is
 may_drop_step : (b : Bool) (by : CallRef) (c : Content) → may_drop_found by (cond b (Some c) None) ≡ (b && may_drop by c)
 may_drop_step true by c = refl
@@ -172,7 +169,7 @@ dropped_at-kept : (b : Bool) (dir : DirRef) (by : CallRef) (es : List (Id × Obj
 dropped_at-kept true dir by [] h = refl
 dropped_at-kept false dir by [] h = refl
 dropped_at-kept b dir by (e ∷ es) h =
-    drop_step (is_same_id dir.id e.0) b dir by e.0 e.1 es _ _ _ h (dropped_at-kept b dir by es)
+    rw (same_test dir.id e.0) (drop_step (is_same_id dir.id e.0) b dir by e.0 e.1 es _ _ _ h (dropped_at-kept b dir by es))
 
 pub dropped_at-found : (b : Bool) (dir : DirRef) (by : CallRef) (es : List (Id × Object)) (cs : List Content)
     → contents_of es ≡ cs → may_drop_found by (content_at dir cs) ≡ b
@@ -189,14 +186,11 @@ placed_step Less id object e es inserted put same is = refl
 placed_step Equal id object e es inserted put same is = ap (λ k. whole k object ∷ contents_of es) (sym (same refl))
 placed_step Greater id object e es inserted put same is = ap (λ xs. whole e.0 e.1 ∷ xs) (sym is)
 
-is_eq_from_equal : (o : Ordering) → o ≡ Equal → is_eq o ≡ true
-is_eq_from_equal o h = ap is_eq h
-
 pub placed-kept : (id : Id) (object : Object) (es : List (Id × Object))
     → contents_of (insert_entry id_cmp es id object) ≡ placed (whole id object) (contents_of es)
 placed-kept id object [] = refl
 placed-kept id object (e ∷ es) =
-    placed_step (id_cmp id e.0) id object e es _ _ (λ h. same_id id e.0 (is_eq_from_equal (id_cmp id e.0) h)) (sym (placed-kept id object es))
+    placed_step (id_cmp id e.0) id object e es _ _ (λ h. ap id_from (exact_bytes id.bytes e.0.bytes h)) (sym (placed-kept id object es))
 
 pub made_at-new : (id : Id) (born : ℕ) (triple : Triple) (by : CallRef) (es : List (Id × Object)) (cs : List Content) (slots : List (List ℕ × Slot))
     → contents_of es ≡ cs → slots ≡ [] → content_of_id id cs ≡ None

@@ -1,9 +1,8 @@
 -- The content objects of a server, in the order of their identifiers: one definition for each call.
-use Rattle.std.specs.Prelude.{ℕ, ◌==◌, Bool, true, false, ◌&&◌, ◌||◌, if◌then◌else◌, List, [], ◌∷◌, Option, Some, None}
+use Rattle.std.specs.Prelude.{ℕ, ◌==◌, Bool, false, ◌&&◌, ◌||◌, if◌then◌else◌, List, [], ◌∷◌, Option, Some, None}
 use Rattle.std.specs.Cmp.Lexicographic.{slice_cmp}
 use Rattle.std.specs.declared.cmp.Ordering.{Ordering}
-use Rattle.std.specs.Ordering.{nat_cmp, is_eq, match_ordering}
-use Rattle.std.specs.Str.{bytes_eq}
+use Rattle.std.specs.Ordering.{nat_cmp, match_ordering}
 use Rattle.inf_base.specs.declared.access.Access.{Access}
 use Rattle.inf_base.specs.declared.caller.Caller.{Caller}
 use Rattle.inf_base.specs.declared.caller.CallRef.{CallRef}
@@ -11,22 +10,18 @@ use Rattle.inf_base.specs.declared.directory.DirRef.{DirRef}
 use Rattle.inf_base.specs.declared.file.FileMeta.{FileMeta}
 use Rattle.inf_base.specs.declared.id.Id.{Id}
 use Rattle.inf_base.specs.declared.triple.Triple.{Triple}
-use Rattle.inf_base.specs.declared.triple.Triple.TheVariants as triple
 use Rattle.inf_base.specs.Content.{Content, Slot, reserved, file}
+use Rattle.inf_base.specs.Same.{is_same_call, is_same_id, is_same_triple}
 use Rattle.inf_content.specs.declared.made.Made.{Made}
 use Rattle.inf_content.specs.declared.made.Made.TheVariants as made
 use Rattle.inf_content.specs.declared.seen.Seen.{Seen}
 use Rattle.inf_content.specs.declared.seen.Seen.TheVariants as seen
-use Rattle.inf_content.specs.Slot.{held_slot, is_same_call, with_meta}
+use Rattle.inf_content.specs.Slot.{held_slot, with_meta}
 use Rattle.inf_content.specs.Slots.{access_of, changed_slot, erased, filled_in, lifted, seen_of, settled_in, slot_in, with_slot, without_slot}
 
 -- identifiers are in the order of their bytes
 abbrev pub id_cmp : Id → Id → Ordering
 id_cmp a b = slice_cmp nat_cmp a.bytes b.bytes
-
--- identifiers are the same if their bytes are
-abbrev pub is_same_id : Id → Id → Bool
-is_same_id a b = is_eq (id_cmp a b)
 
 -- the content object of an identifier, whenever it was born
 abbrev pub content_of_id : Id → List Content → Option Content
@@ -172,14 +167,6 @@ dropped_at dir by [] = []
 dropped_at dir by (c ∷ cs) =
     if is_same_id dir.id c.dir.id then (if c.dir.born == dir.born && may_drop by c then cs else c ∷ cs)
     else c ∷ dropped_at dir by cs
-
--- triples are the same if their parents, names and versions are
-abbrev pub is_same_triple : Triple → Triple → Bool
-is_same_triple triple.Root triple.Root = true
-is_same_triple triple.Root (triple.Of parent name version) = false
-is_same_triple (triple.Of parent name version) triple.Root = false
-is_same_triple (triple.Of parent name version) (triple.Of other_parent other_name other_version) =
-    bytes_eq parent.bytes other_parent.bytes && bytes_eq name other_name && version == other_version
 
 -- what comes of making a directory of this triple, where another is kept, of that triple and that call
 abbrev pub made_beside : Triple → Triple → CallRef → Made

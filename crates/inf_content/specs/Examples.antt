@@ -35,6 +35,9 @@ a = codes "a"
 abbrev pub b : List ℕ
 b = codes "b"
 
+abbrev pub c : List ℕ
+c = codes "c"
+
 abbrev pub meta : FileMeta
 meta = record { mode = 0o640; owner = 0; group = 0; length = 0 }
 

@@ -1,6 +1,10 @@
+pub mod BusyNames
 pub mod Contents
 pub mod Examples
 pub mod Kept
+pub mod Named
 pub mod Objects
+pub mod Order
 pub mod Slot
 pub mod Slots
+pub mod Wanted

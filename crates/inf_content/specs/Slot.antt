@@ -1,5 +1,5 @@
 -- What stands under one name, and what calls do with it.
-use Rattle.std.specs.Prelude.{ℕ, ◌==◌, Bool, false, ◌&&◌, if◌then◌else◌, Option, Some, None, is_none}
+use Rattle.std.specs.Prelude.{ℕ, Bool, false, ◌&&◌, if◌then◌else◌, Option, Some, None, is_none}
 use Rattle.std.specs.Option.{option_map, unwrap_or}
 use Rattle.inf_base.specs.declared.access.Access.{Access}
 use Rattle.inf_base.specs.declared.caller.Caller.{Caller}
@@ -9,16 +9,9 @@ use Rattle.inf_base.specs.declared.file.FileMeta.{FileMeta}
 use Rattle.inf_base.specs.declared.item.Kind.{Kind}
 use Rattle.inf_base.specs.declared.item.Kind.TheVariants as kind
 use Rattle.inf_base.specs.Content.{Hold, Slot, reserved, file, directory}
+use Rattle.inf_base.specs.Same.{dir_of, is_same_call}
 use Rattle.inf_content.specs.declared.seen.Seen.{Seen}
 use Rattle.inf_content.specs.declared.seen.Seen.TheVariants as seen
-
--- a call is known by its client and its number
-abbrev pub is_same_call : CallRef → CallRef → Bool
-is_same_call a b = a.client == b.client && a.number == b.number
-
--- the directory that an access object is of
-abbrev pub dir_of : Access → DirRef
-dir_of access = record { id = access.id; born = access.born }
 
 -- the call that holds an entry, if one does
 abbrev pub holder : Option Hold → Option CallRef

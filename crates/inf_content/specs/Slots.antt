@@ -16,11 +16,12 @@ use Rattle.inf_base.specs.declared.item.Kind.{Kind}
 use Rattle.inf_base.specs.declared.triple.Triple.{Triple}
 use Rattle.inf_base.specs.declared.triple.Triple.TheVariants as triple
 use Rattle.inf_base.specs.Content.{Slot}
+use Rattle.inf_base.specs.Same.{dir_of, is_same_id}
 use Rattle.inf_content.specs.declared.inside.Inside.{Inside}
 use Rattle.inf_content.specs.declared.inside.Inside.TheVariants as inside
 use Rattle.inf_content.specs.declared.seen.Seen.{Seen}
 use Rattle.inf_content.specs.declared.seen.Seen.TheVariants as seen
-use Rattle.inf_content.specs.Slot.{access_in, dir_of, erases, filled, freed, holds, kind_in, reserves, seen_slot, settled, taker}
+use Rattle.inf_content.specs.Slot.{access_in, erases, filled, freed, holds, kind_in, reserves, seen_slot, settled, taker}
 
 -- what stands under a name
 abbrev pub slot_in : List ℕ → List (List ℕ × Slot) → Option Slot
@@ -77,7 +78,7 @@ first_taker (e ∷ es) = or_later (taker e.1) (first_taker es)
 -- whether the birth triple of a directory is this place: the directory of this identifier, and this name
 abbrev pub is_birth_place : Id → List ℕ → Triple → Bool
 is_birth_place id name triple.Root = false
-is_birth_place id name (triple.Of parent birth_name version) = bytes_eq id.bytes parent.bytes && bytes_eq name birth_name
+is_birth_place id name (triple.Of parent birth_name version) = is_same_id id parent && bytes_eq name birth_name
 
 -- the directory of a slot, and whether it lives where it was made
 abbrev pub lives : Id → List ℕ → Option Access → Option (DirRef × Bool)

@@ -1,11 +1,12 @@
 //! The content objects of a server.
 
-ghost use Rattle.std.specs.Prelude.{◌≡◌, [], is_some, false, if◌then◌else◌, IfOk, OnOk, OnErr};
+ghost use Rattle.std.specs.Prelude.{◌≡◌, [], All, is_some, false, if◌then◌else◌, IfOk, OnOk, OnErr};
 ghost use Rattle.std.specs.Option.{option_map};
 ghost use Rattle.inf_base.specs.declared.caller.CallRef.{CallRef};
 ghost use Rattle.inf_content.specs.Contents.{access_found, born_of, content_at, content_of_id, dropped_at, erased_at, filled_at, held_at, lifted_at, look, made_at, made_of, may_drop_found, reserved_at, seal_of, sealed_at, settled_at, slots_at, unsealed_at, with_file_at, with_meta_at, without_slot_at};
 ghost use Rattle.inf_content.specs.Slot.{erases, holds, reserves};
 ghost use Rattle.inf_content.specs.Objects.{whole};
+ghost use Rattle.inf_content.specs.Order.{IdentifiersRise, NamesRise};
 ghost use Rattle.inf_content.specs.Slots.{first, first_taker, inside_of, items_of, told_of_erased, told_of_filled};
 
 use crate::inside::Inside;
@@ -31,10 +32,13 @@ impl Model for Contents {
     ghost use Rattle.std.specs.Prelude.{List};
     ghost use Rattle.inf_base.specs.Content.{Content};
     ghost use Rattle.inf_content.specs.Objects.{contents_of};
+    ghost use Rattle.inf_content.specs.Order.{AreInOrder};
 
     ghost Value = { List Content };
 
     ghost view = { λ c. contents_of c.by_id.entries };
+
+    ghost invariant = { λ c. AreInOrder (contents_of c.by_id.entries) };
 }
 
 impl Contents {
@@ -45,6 +49,14 @@ impl Contents {
             alloc,
             by_id: BTreeMap::new(alloc),
         }
+    }
+
+    /// Content objects are in the order of their identifiers' bytes, and the slots of each in that of their names' bytes.
+    pub fn in_order(&self)
+        ensures identifiers { IdentifiersRise self.now }
+        ensures names { All (λ c. NamesRise c.slots) self.now }
+    {
+        let _ = &self.by_id;
     }
 
     fn object_of_id(&self, id: &Id) -> Option<&Object>
@@ -280,10 +292,11 @@ impl Contents {
         if !self.is_here(dir) {
             return Ok(());
         }
+        let alloc = self.alloc;
         let Some(object) = self.by_id.get_mut(&dir.id) else {
             unreachable!()
         };
-        object.slots.reserve(name, by, access)?;
+        object.slots.reserve(alloc, name, by, access)?;
         Ok(())
     }
 
@@ -295,10 +308,11 @@ impl Contents {
         if !self.is_here(dir) {
             return Ok(());
         }
+        let alloc = self.alloc;
         let Some(object) = self.by_id.get_mut(&dir.id) else {
             unreachable!()
         };
-        object.slots.put_file(name, meta)?;
+        object.slots.put_file(alloc, name, meta)?;
         Ok(())
     }
 

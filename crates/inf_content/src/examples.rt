@@ -6,8 +6,10 @@ ghost use Rattle.inf_base.specs.declared.triple.Triple.TheVariants as triple;
 ghost use Rattle.inf_content.specs.declared.inside.Inside.TheVariants as inside;
 ghost use Rattle.inf_content.specs.declared.made.Made.TheVariants as made;
 ghost use Rattle.inf_content.specs.declared.seen.Seen.TheVariants as seen;
+ghost use Rattle.inf_content.specs.BusyNames.{busy_names, with_name, without_name};
 ghost use Rattle.inf_content.specs.Contents.{content_of_id, dropped_at, empty_content, erased_at, filled_at, held_at, lifted_at, look, made_at, made_of, reserved_at, sealed_at, settled_at, slots_at, unsealed_at, with_file_at};
-ghost use Rattle.inf_content.specs.Examples.{a, access, b, call, changing_file, dir, empty, held_file, high_id, holding, later_dir, low_id, meta, moved, other_call, owner};
+ghost use Rattle.inf_content.specs.Examples.{a, access, b, c, call, changing_file, dir, empty, held_file, high_id, holding, later_dir, low_id, meta, moved, other_call, owner};
+ghost use Rattle.inf_content.specs.Order.{NamesRise};
 ghost use Rattle.inf_content.specs.Slot.{reserves};
 ghost use Rattle.inf_content.specs.Slots.{first, inside_of, told_of_filled};
 
@@ -67,4 +69,19 @@ pub fn example_of_seals()
     ensures stranger { dropped_at dir other_call empty ≡ empty }
     ensures sealer { dropped_at dir other_call (sealed_at dir other_call empty) ≡ [] }
     ensures maker { dropped_at dir call empty ≡ [] }
+{}
+
+/// What calls hold or reserve is listed by name; a name is listed once, in its place.
+pub fn example_of_busy_names()
+    ensures listed { busy_names ((a, held_file call) ∷ (b, file meta None) ∷ (c, reserved call access) ∷ []) ≡ a ∷ c ∷ [] }
+    ensures added { with_name b (a ∷ c ∷ []) ≡ a ∷ b ∷ c ∷ [] }
+    ensures once { with_name c (a ∷ c ∷ []) ≡ a ∷ c ∷ [] }
+    ensures removed { without_name a (a ∷ c ∷ []) ≡ c ∷ [] }
+{}
+
+/// Names rise by their bytes, and none stands twice.
+pub fn example_of_order()
+    ensures rise { NamesRise ((a, file meta None) ∷ (b, file meta None) ∷ []) }
+    ensures fall { ¬ NamesRise ((b, file meta None) ∷ (a, file meta None) ∷ []) }
+    ensures twice { ¬ NamesRise ((a, file meta None) ∷ (a, held_file call) ∷ []) }
 {}

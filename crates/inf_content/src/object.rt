@@ -1,11 +1,10 @@
 //! What is kept of one directory.
 
 ghost use Rattle.std.specs.Prelude.{◌≡◌, ◌&&◌, ◌||◌, IfOk};
-ghost use Rattle.inf_content.specs.Contents.{bearer_or, is_call, is_same_triple, made_beside, seal_left};
-ghost use Rattle.inf_content.specs.Slot.{is_same_call};
+ghost use Rattle.inf_base.specs.Same.{is_same_call};
+ghost use Rattle.inf_content.specs.Contents.{bearer_or, is_call, made_beside, seal_left};
 
 use crate::made::Made;
-use crate::slot::is_same_call;
 use crate::slots::Slots;
 use inf_base::{CallRef, NoMemory, Place, Triple, TryClone};
 use std::alloc::Global;
@@ -26,7 +25,7 @@ impl Object {
         ensures { IfOk result (λ made.
             made ≡ made_beside triple.now self.now.triple (bearer_or self.now.maker self.now.seal)) }
     {
-        if is_same_triple(&self.triple, triple) {
+        if self.triple == *triple {
             return Ok(Made::Bearer(bearer_or(self.maker, self.seal)));
         }
         Ok(Made::Clash(self.triple.try_clone(alloc)?))
@@ -36,31 +35,7 @@ impl Object {
     pub(crate) fn may_drop(&self, by: CallRef) -> bool
         ensures { result ≡ (is_call by self.now.seal || is_same_call self.now.maker by) }
     {
-        is_call(by, self.seal) || is_same_call(self.maker, by)
-    }
-}
-
-fn is_same_triple(a: &Triple, b: &Triple) -> bool
-    ensures { result ≡ is_same_triple a.now b.now }
-{
-    match a {
-        Triple::Root => matches!(b, Triple::Root),
-        Triple::Of {
-            parent,
-            name,
-            version,
-        } => match b {
-            Triple::Root => false,
-            Triple::Of {
-                parent: other_parent,
-                name: other_name,
-                version: other_version,
-            } => {
-                parent.bytes.as_slice() == other_parent.bytes.as_slice()
-                    && name.as_slice() == other_name.as_slice()
-                    && *version == *other_version
-            }
-        },
+        is_call(by, self.seal) || self.maker == by
     }
 }
 
@@ -78,7 +53,7 @@ fn is_call(by: CallRef, seal: Option<CallRef>) -> bool
 {
     match seal {
         None => false,
-        Some(other) => is_same_call(other, by),
+        Some(other) => other == by,
     }
 }
 

@@ -1,14 +1,17 @@
 //! What stands under a name of a directory.
 
-ghost use Rattle.std.specs.Prelude.{◌≡◌, true, false, ◌||◌, if◌then◌else◌, IfOk};
+ghost use Rattle.std.specs.Prelude.{◌≡◌, IfOk};
 ghost use Rattle.std.specs.Option.{option_map};
 ghost use Rattle.inf_content.specs.declared.slot.Holder.{Holder};
 ghost use Rattle.inf_base.specs.Content.{file, reserved};
+ghost use Rattle.inf_base.specs.Same.{dir_of};
 ghost use Rattle.inf_content.specs.Kept.{hold_of};
 ghost use Rattle.inf_content.specs.Slots.{is_birth_place, lives};
-ghost use Rattle.inf_content.specs.Slot.{access_in, dir_of, erases, filled, freed, held_slot, holds, is_held_by, is_same_call, is_to_go, kind_in, linked, mode_after, reserves, seen_slot, settled, taker, with_meta};
+ghost use Rattle.inf_content.specs.Slot.{access_in, erases, filled, freed, held_slot, holds, is_held_by, is_to_go, kind_in, linked, mode_after, reserves, seen_slot, settled, taker, with_meta};
+ghost use Rattle.inf_content.specs.Wanted.{is_wanted};
 
 use crate::seen::Seen;
+use crate::wanted::Wanted;
 use inf_base::{
     Access, CallRef, Caller, DirRef, FileMeta, Id, Kind, Name, NoMemory, Triple, TryClone,
 };
@@ -135,7 +138,7 @@ impl Kept {
         ensures { result ≡ reserves by self.now }
     {
         match &self.what {
-            What::Reserved(caller, _) => is_same_call(*caller, by),
+            What::Reserved(caller, _) => *caller == by,
             What::File(_) => false,
             What::Dir(_) => false,
         }
@@ -161,6 +164,17 @@ impl Kept {
         }
     }
 
+    pub(crate) fn is_wanted(&self, wanted: Wanted, by: CallRef) -> bool
+        ensures { result ≡ is_wanted wanted by self.now }
+    {
+        match wanted {
+            Wanted::Reserved => self.reserves(by),
+            Wanted::Held => self.holds(by),
+            Wanted::Going => self.erases(by),
+            Wanted::Taken => self.reserves(by) || self.holds(by),
+        }
+    }
+
     pub(crate) fn set_meta(&mut self, meta: FileMeta)
         ensures { self.new ≡ with_meta meta self.old }
     {
@@ -175,50 +189,13 @@ impl Kept {
         self.held = Some(Holder { by, mode });
     }
 
-    /// Lifts the call's hold, and tells whether it is to stay, as what the call did not reserve.
-    pub(crate) fn free(&mut self, by: CallRef) -> bool
-        ensures told { result ≡ (if reserves by self.old then false else true) }
-        ensures freed { self.new ≡ freed by self.old }
+    /// Lifts the call's hold.
+    pub(crate) fn free(&mut self, by: CallRef)
+        ensures { self.new ≡ freed by self.old }
     {
         if is_held_by(by, self.held) {
             self.held = None;
         }
-        !self.reserves(by)
-    }
-
-    /// Settles what the call holds unless one was before, and tells whether one is now.
-    pub(crate) fn settle_once(&mut self, is_done: bool, by: CallRef) -> bool
-        ensures told { result ≡ (is_done || holds by self.old) }
-        ensures value { self.new ≡ (if is_done then self.old else (if holds by self.old then settled self.old else self.old)) }
-    {
-        if is_done {
-            return true;
-        }
-        if !self.holds(by) {
-            return false;
-        }
-        self.settle();
-        true
-    }
-
-    /// Fills what the call reserved unless one was before, and tells whether one is now.
-    pub(crate) fn fill_once(
-        &mut self,
-        is_done: bool,
-        by: CallRef,
-        link: Option<(DirRef, u16, Caller)>,
-    ) -> bool
-        ensures told { result ≡ (is_done || reserves by self.old) }
-        ensures value { self.new ≡ (if is_done then self.old else (if reserves by self.old then filled link self.old else self.old)) }
-    {
-        if is_done {
-            return true;
-        }
-        if self.reserves(by) {
-            self.fill(link);
-            return true;
-        }
-        false
     }
 
     /// Gives it the mode that was kept for it, and lifts its hold.
@@ -293,18 +270,12 @@ fn holder_of(held: Option<Holder>) -> Option<CallRef>
     }
 }
 
-pub(crate) fn is_same_call(a: CallRef, b: CallRef) -> bool
-    ensures { result ≡ is_same_call a b }
-{
-    a.client == b.client && a.number == b.number
-}
-
 fn is_held_by(by: CallRef, held: Option<Holder>) -> bool
     ensures { result ≡ is_held_by by (option_map hold_of held) }
 {
     match held {
         None => false,
-        Some(holder) => is_same_call(holder.by, by),
+        Some(holder) => holder.by == by,
     }
 }
 
@@ -313,7 +284,7 @@ fn is_to_go(by: CallRef, held: Option<Holder>) -> bool
 {
     match held {
         None => false,
-        Some(holder) => is_same_call(holder.by, by) && holder.mode.is_none(),
+        Some(holder) => holder.by == by && holder.mode.is_none(),
     }
 }
 
@@ -369,7 +340,6 @@ fn is_birth_place(id: &Id, name: &Name, birth: &Triple) -> bool
             parent,
             name: birth_name,
             version: _,
-        } => id.bytes.as_slice() == parent.bytes.as_slice()
-            && name.as_slice() == birth_name.as_slice(),
+        } => *id == *parent && *name == *birth_name,
     }
 }

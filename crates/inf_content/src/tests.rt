@@ -198,3 +198,44 @@ fn lists(rt: HostRuntime) -> Result<(), Fail> {
     }
     Ok(())
 }
+
+/// The name of the last two digits of a number.
+fn digits(alloc: Global, number: u8) -> Result<Name, NoMemory> {
+    Name::from_slice(alloc, &[b'0' + number / 10 % 10, b'0' + number % 10])
+}
+
+/// The contents with `DIR`, in which the even numbers below 80 are files.
+fn with_many(alloc: Global) -> Result<Contents, NoMemory> {
+    let mut contents = with_dir(alloc)?;
+    for half in 0..40u8 {
+        contents.put_file(&DIR, digits(alloc, 2 * half)?, META)?;
+    }
+    Ok(contents)
+}
+
+/// What the first slot is called that the other call may erase.
+fn erased(contents: &mut Contents) -> Option<Name> {
+    let (name, _) = contents.erase(&DIR, OTHER)?;
+    Some(name)
+}
+
+#[test]
+fn finds_among_many(rt: HostRuntime) -> Result<(), Fail> {
+    let mut contents = with_many(rt.alloc())?;
+    assert_eq!(rt; contents.busy(&DIR), None);
+    contents.reserve(&DIR, digits(rt.alloc(), 33)?, CALL, access(rt.alloc())?)?;
+    assert_eq!(rt; contents.busy(&DIR), Some(CALL));
+    contents.hold(&DIR, &digits(rt.alloc(), 10)?, OTHER, Some(0o600));
+    contents.hold(&DIR, &digits(rt.alloc(), 50)?, OTHER, None);
+    assert_eq!(rt; contents.busy(&DIR), Some(OTHER));
+    assert_eq!(rt;
+        contents.fill(&DIR, CALL, None),
+        Some((DirRef { id: HIGH, born: 5 }, false))
+    );
+    assert_eq!(rt; erased(&mut contents), Some(digits(rt.alloc(), 50)?));
+    assert_eq!(rt; erased(&mut contents), None);
+    assert!(rt; contents.settle(&DIR, OTHER));
+    assert_eq!(rt; contents.busy(&DIR), None);
+    assert_eq!(rt; contents.list(&DIR)?.len(), 40);
+    Ok(())
+}

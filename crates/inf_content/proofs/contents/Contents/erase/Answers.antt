@@ -4,6 +4,7 @@ use Rattle.inf_content.specs.Objects.{contents_of}
 use Rattle.inf_content.specs.Slot.{erases}
 use Rattle.inf_content.specs.Slots.{erased, first, told_of_erased}
 use Rattle.inf_content.proofs.Found.{changed_at-gone, here_without_object, slots_at-here, with_slots_at-here}
+use Rattle.inf_content.proofs.Ordered.{erased_in_order, order_after}
 use Rattle.inf_content.proofs.contents.Contents.erase.Goals as goal
 
 pub returns-then-not-is_here-clause-erased : goal.returns-then-not-is_here-clause-erased
@@ -26,3 +27,6 @@ returns-clause-erased c =
     ∙ with_slots_at-here c.args.dir.now (erased c.args.by) c.self.inside.by_id.entries c.args.self.now c.in-Some.object.now c.erase.new.self
     c.self.view_is (sym c.is_here.ensures ∙ c.if-not-is_here.false)
     (sym c.get_mut.ensures.value ∙ ap option_copied_mut c.in-Some.is) c.erase.ensures.erased
+
+pub invariant_of-self : goal.invariant_of-self
+invariant_of-self c = order_after c.self.view_is c.self.invariant (erased_in_order c.args.dir.now c.args.by c.args.self.now) (returns-clause-erased c)

@@ -4,6 +4,7 @@ use Rattle.inf_content.specs.Objects.{contents_of}
 use Rattle.inf_content.specs.Slot.{reserves}
 use Rattle.inf_content.specs.Slots.{filled_in, first, told_of_filled}
 use Rattle.inf_content.proofs.Found.{changed_at-gone, here_without_object, slots_at-here, with_slots_at-here}
+use Rattle.inf_content.proofs.Ordered.{filled_in_order, order_after}
 use Rattle.inf_content.proofs.contents.Contents.fill.Goals as goal
 
 pub returns-then-not-is_here-clause-filled : goal.returns-then-not-is_here-clause-filled
@@ -26,3 +27,6 @@ returns-clause-filled c =
     ∙ with_slots_at-here c.args.dir.now (filled_in c.args.by c.args.link) c.self.inside.by_id.entries c.args.self.now c.in-Some.object.now c.fill.new.self
     c.self.view_is (sym c.is_here.ensures ∙ c.if-not-is_here.false)
     (sym c.get_mut.ensures.value ∙ ap option_copied_mut c.in-Some.is) c.fill.ensures.filled
+
+pub invariant_of-self : goal.invariant_of-self
+invariant_of-self c = order_after c.self.view_is c.self.invariant (filled_in_order c.args.dir.now c.args.by c.args.link c.args.self.now) (returns-clause-filled c)

@@ -4,6 +4,7 @@ use Rattle.inf_content.specs.Objects.{contents_of}
 use Rattle.inf_content.specs.Slot.{held_slot}
 use Rattle.inf_content.specs.Slots.{changed_slot}
 use Rattle.inf_content.proofs.Found.{changed_at-gone, here_without_object, with_slots_at-here}
+use Rattle.inf_content.proofs.Ordered.{held_in_order, order_after}
 use Rattle.inf_content.proofs.contents.Contents.hold.Goals as goal
 
 pub returns-then-not-is_here : goal.returns-then-not-is_here
@@ -20,3 +21,6 @@ returns c =
     ∙ with_slots_at-here c.args.dir.now (changed_slot c.args.name.now (held_slot c.args.by c.args.mode)) c.self.inside.by_id.entries c.args.self.now c.in-Some.object.now c.hold.new.self
     c.self.view_is (sym c.is_here.ensures ∙ c.if-not-is_here.false)
     (sym c.get_mut.ensures.value ∙ ap option_copied_mut c.in-Some.is) c.hold.ensures
+
+pub invariant_of-self : goal.invariant_of-self
+invariant_of-self c = order_after c.self.view_is c.self.invariant (held_in_order c.args.dir.now c.args.name.now c.args.by c.args.mode c.args.self.now) (returns c)

@@ -3,6 +3,7 @@ use Rattle.std.specs.Option.{option_copied_mut}
 use Rattle.inf_content.specs.Objects.{contents_of}
 use Rattle.inf_content.specs.Slots.{lifted}
 use Rattle.inf_content.proofs.Found.{changed_at-gone, here_without_object, with_slots_at-here}
+use Rattle.inf_content.proofs.Ordered.{lifted_in_order, order_after}
 use Rattle.inf_content.proofs.contents.Contents.lift.Goals as goal
 
 pub returns-then-not-is_here : goal.returns-then-not-is_here
@@ -19,3 +20,6 @@ returns c =
     ∙ with_slots_at-here c.args.dir.now (lifted c.args.by) c.self.inside.by_id.entries c.args.self.now c.in-Some.object.now c.lift.new.self
     c.self.view_is (sym c.is_here.ensures ∙ c.if-not-is_here.false)
     (sym c.get_mut.ensures.value ∙ ap option_copied_mut c.in-Some.is) c.lift.ensures
+
+pub invariant_of-self : goal.invariant_of-self
+invariant_of-self c = order_after c.self.view_is c.self.invariant (lifted_in_order c.args.dir.now c.args.by c.args.self.now) (returns c)

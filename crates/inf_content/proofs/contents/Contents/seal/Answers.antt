@@ -2,6 +2,7 @@ use Rattle.std.proofs.Common.{Some, sym, ap, refl, ◌∙◌}
 use Rattle.std.specs.Option.{option_copied_mut}
 use Rattle.inf_content.specs.Objects.{contents_of}
 use Rattle.inf_content.proofs.Found.{changed_at-gone, changed_at-here, here_without_object}
+use Rattle.inf_content.proofs.Ordered.{order_after, sealed_in_order}
 use Rattle.inf_content.proofs.contents.Contents.seal.Goals as goal
 
 pub returns-then-not-is_here : goal.returns-then-not-is_here
@@ -18,3 +19,6 @@ returns c =
     ∙ changed_at-here c.args.dir.now _ c.self.inside.by_id.entries c.args.self.now c.in-Some.object.now (record c.in-Some.object.now { seal = Some c.args.by })
     c.self.view_is (sym c.is_here.ensures ∙ c.if-not-is_here.false)
     (sym c.get_mut.ensures.value ∙ ap option_copied_mut c.in-Some.is) (λ id. refl)
+
+pub invariant_of-self : goal.invariant_of-self
+invariant_of-self c = order_after c.self.view_is c.self.invariant (sealed_in_order c.args.dir.now c.args.by c.args.self.now) (returns c)

@@ -4,6 +4,7 @@ use Rattle.inf_content.specs.Objects.{contents_of}
 use Rattle.inf_content.specs.Slot.{holds}
 use Rattle.inf_content.specs.Slots.{first, settled_in}
 use Rattle.inf_content.proofs.Found.{changed_at-gone, here_without_object, slots_at-here, with_slots_at-here}
+use Rattle.inf_content.proofs.Ordered.{order_after, settled_in_order}
 use Rattle.inf_content.proofs.contents.Contents.settle.Goals as goal
 
 pub returns-then-not-is_here-clause-settled : goal.returns-then-not-is_here-clause-settled
@@ -26,3 +27,6 @@ returns-clause-settled c =
     ∙ with_slots_at-here c.args.dir.now (settled_in c.args.by) c.self.inside.by_id.entries c.args.self.now c.in-Some.object.now c.settle.new.self
     c.self.view_is (sym c.is_here.ensures ∙ c.if-not-is_here.false)
     (sym c.get_mut.ensures.value ∙ ap option_copied_mut c.in-Some.is) c.settle.ensures.settled
+
+pub invariant_of-self : goal.invariant_of-self
+invariant_of-self c = order_after c.self.view_is c.self.invariant (settled_in_order c.args.dir.now c.args.by c.args.self.now) (returns-clause-settled c)

@@ -1,11 +1,43 @@
-use Rattle.std.proofs.Common.{rules, ◌≡◌, sym, refl}
+use Rattle.std.proofs.Common.{is_some, sym, ap, ◌∙◌}
+use Rattle.inf_content.specs.declared.named.Named.{Named}
+use Rattle.inf_content.specs.declared.wanted.Wanted.TheVariants as wanted
+use Rattle.inf_content.specs.BusyNames.{is_busy}
+use Rattle.inf_content.specs.Named.{slots_of}
 use Rattle.inf_content.specs.Slot.{holds, settled}
-use Rattle.inf_content.proofs.Edits.{first_changed-from_retain, first_changed-unless}
+use Rattle.inf_content.proofs.Edits.{none_passes}
+use Rattle.inf_content.proofs.Firsts.{kept_whole, none_taken, taken_missing}
+use Rattle.inf_content.proofs.KeptSlots.{kept_free, lets_go, slots_first}
+use Rattle.inf_content.proofs.Takers.{settled_free}
 use Rattle.inf_content.proofs.slots.Slots.settle.Goals as goal
 
-pub returns-then-not-has_held-clause-settled : goal.returns-then-not-has_held-clause-settled
-returns-then-not-has_held-clause-settled c = sym (first_changed-unless (holds c.args.by) settled c.args.self.now (search rules))
+pub invariant_of-self : goal.invariant_of-self
+invariant_of-self c =
+    kept_whole wanted.Held c.args.by c.self.inside.by_name.entries c.self.inside.busy c.self.invariant c.take_first.new.self c.in_default.ensures.name c.in_default.ensures.left
 
-pub returns-clause-settled : goal.returns-clause-settled
-returns-clause-settled c = rw (← c.self.view_is)
-    (first_changed-from_retain _ (λ f. f.1 ≡ c.args.by) (λ f. f.0) (holds c.args.by) settled (λ f k v b w f' i t. search rules) _ refl _ _ c.retain.ensures.filtered)
+pub returns-in_default : goal.returns-in_default
+returns-in_default c = rw (← c.self.view_is)
+    (let none = none_taken wanted.Held c.args.by c.self.inside.by_name.entries c.self.inside.busy c.self.invariant c.in_default.ensures.name in
+    record { told = ap is_some (sym none); settled = sym (none_passes (holds c.args.by) settled (slots_of c.self.inside.by_name.entries) none).0 })
+
+pub unreachable-requires : goal.unreachable-requires
+unreachable-requires c =
+    taken_missing wanted.Held c.args.by c.self.inside.by_name.entries c.self.inside.busy c.self.invariant c.in-Some.name c.in-Some.ensures.name
+    c.in_default-get_mut.ensures.value
+
+pub invariant_of-self-2 : goal.invariant_of-self-2
+invariant_of-self-2 c =
+    let w = c.settle.new.self in
+    let go = lets_go wanted.Held c.args.by c.self.inside.by_name (c.get_mut.follows.lender w) c.self.inside.busy c.take_first.new.self c.in-Some.name
+    c.in-Some-get_mut.named.now w c.self.invariant c.in-Some.ensures.name c.in-Some.ensures.left c.in-Some-get_mut.ensures.value (c.get_mut.follows.holds w) in
+    kept_free go.is (ap (λ (n : Named). is_busy n.kept) c.settle.ensures ∙ settled_free c.args.by c.in-Some-get_mut.named.now.kept go.first.passes)
+    (ap (λ (n : Named). n.spare) c.settle.ensures) go.left_is
+
+pub returns : goal.returns
+returns c = rw (← c.self.view_is)
+    (let w = c.settle.new.self in
+    let go = lets_go wanted.Held c.args.by c.self.inside.by_name (c.get_mut.follows.lender w) c.self.inside.busy c.take_first.new.self c.in-Some.name
+    c.in-Some-get_mut.named.now w c.self.invariant c.in-Some.ensures.name c.in-Some.ensures.left c.in-Some-get_mut.ensures.value (c.get_mut.follows.holds w) in
+    record {
+      told = ap is_some (sym go.first.found);
+      settled = slots_first go.is (holds c.args.by) settled go.first (ap (λ (n : Named). n.kept) c.settle.ensures);
+    })
