@@ -1,1 +1,1 @@
-pub mod RootLaws
+mod LinkFacts

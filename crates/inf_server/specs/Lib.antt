@@ -1,12 +1,13 @@
+pub mod Births
 pub mod Chains
 pub mod Checks
 pub mod Examples
 pub mod Files
 pub mod Lookups
 pub mod Machine
+pub mod Names
 pub mod Refusal
+pub mod Removals
 pub mod Response
-pub mod RootFiles
 pub mod Server
-pub mod Slots
 pub mod State

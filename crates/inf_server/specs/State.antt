@@ -1,6 +1,5 @@
 -- The state of one server, and what it knows of itself.
-use Rattle.std.specs.Prelude.{ℕ, ◌==◌, Bool, ◌&&◌, if◌then◌else◌, List, [], ◌∷◌, map, Option, Some, None, find}
-use Rattle.std.specs.Str.{bytes_eq}
+use Rattle.std.specs.Prelude.{ℕ, ◌==◌, Bool, if◌then◌else◌, List, [], ◌∷◌, Option, Some, None}
 use Rattle.inf_base.specs.declared.access.Access.{Access}
 use Rattle.inf_base.specs.declared.caller.CallRef.{CallRef}
 use Rattle.inf_base.specs.declared.directory.DirRef.{DirRef}
@@ -10,7 +9,8 @@ use Rattle.inf_base.specs.Changes.{AdmittedChange}
 use Rattle.inf_base.specs.Content.{Content, TopAccess}
 use Rattle.inf_base.specs.Identity.{identity, server_of}
 use Rattle.inf_base.specs.Marks.{Mark}
-use Rattle.inf_base.specs.Renames.{RenameRow}
+use Rattle.inf_content.specs.Contents.{empty_content}
+use Rattle.inf_renames.specs.Kept.{Kept}
 
 -- which server it is, of how many beside the coordinator, whose number is that number; and the digest of identifiers
 pub record Site : Type 0 where
@@ -21,8 +21,8 @@ pub record Site : Type 0 where
 pub record State : Type 0 where
   -- in the order of the identifiers
   pub contents : List Content
-  -- in the order of adding
-  pub rows : List RenameRow
+  -- by the parent, in the order of the identifiers
+  pub renames : List (Id × Kept)
   -- in the order of marking
   pub marks : List Mark
   -- in the order of admitting
@@ -45,7 +45,7 @@ abbrev pub nobody : CallRef
 nobody = record { client = 0; number = 0 }
 
 abbrev pub root_content : Site → Content
-root_content site = record { dir = root_dir site; triple = triple.Root; maker = nobody; seal = None; slots = [] }
+root_content site = empty_content (root_id site) 0 triple.Root nobody
 
 abbrev pub root_access : Site → Access
 root_access site = record { id = root_id site; born = 0; mode = 0o755; owner = 0; group = 0; birth = triple.Root }
@@ -53,16 +53,9 @@ root_access site = record { id = root_id site; born = 0; mode = 0o755; owner = 0
 -- before its first Serve a server has the root's objects, if it is the root's server, and nothing else
 abbrev pub opening : Site → State
 opening site = if is_here site (root_id site)
-    then record { contents = root_content site ∷ []; rows = []; marks = []; changes = []; top = Some (record { access = root_access site; held = None }) }
-    else record { contents = []; rows = []; marks = []; changes = []; top = None }
+    then record { contents = root_content site ∷ []; renames = []; marks = []; changes = []; top = Some (record { access = root_access site; held = None }) }
+    else record { contents = []; renames = []; marks = []; changes = []; top = None }
 
-abbrev pub is_same_dir : DirRef → DirRef → Bool
-is_same_dir a b = bytes_eq a.id.bytes b.id.bytes && a.born == b.born
-
--- the content object of a directory, by its identifier and its birth
-abbrev pub content_of : DirRef → List Content → Option Content
-content_of dir contents = find (λ (c : Content). is_same_dir dir c.dir) contents
-
--- the content objects with this one in the place of the one of its directory
-abbrev pub with_content : Content → List Content → List Content
-with_content content contents = map (λ (c : Content). if is_same_dir content.dir c.dir then content else c) contents
+-- the state with these content objects
+abbrev pub with_contents : List Content → State → State
+with_contents contents state = record state { contents = contents }

@@ -1,57 +1,108 @@
 //! The checks that come before anything is looked up.
 
-ghost use Rattle.std.specs.Prelude.{◌≡◌, ◌≤◌, Ok, Err, IfOk, IfErr, OnOk};
+ghost use Rattle.std.specs.Prelude.{◌≡◌, Ok, Err, IfOk, IfErr, OnOk};
 ghost use Rattle.std.specs.List.{list_all};
+ghost use Rattle.std.specs.Option.{option_copied};
+ghost use Rattle.inf_base.specs.Same.{dir_of};
 ghost use Rattle.inf_perm.specs.declared.want.Want.TheVariants as want;
-ghost use Rattle.inf_server.specs.Checks.{lets, searched, writable};
+ghost use Rattle.inf_server.specs.Chains.{before_last, last_of};
+ghost use Rattle.inf_server.specs.Checks.{lets, searched, unsealed, writable};
+ghost use Rattle.inf_server.specs.Files.{no_directory};
+ghost use Rattle.inf_server.specs.Names.{is_missing, unless_held, unless_taken};
 ghost use Rattle.inf_server.specs.Refusal.{reply_of};
-ghost use Rattle.inf_server.specs.RootFiles.{asked_entry, is_root};
 
 use crate::refusal::Refusal;
-use inf_base::{Caller, Chain, DirRef, Entry, Errno};
-use inf_birth::server_of;
+use inf_base::{Access, CallRef, Caller, DirRef, Entry, Errno, Place};
+use inf_content::Seen;
+use inf_message::Spot;
 use inf_perm::{Want, may};
 
-/// The entry of the directory asked, which ends the chain, where that is the root and is kept here.
-pub fn asked_entry(
-    number: u32,
-    servers: u32,
-    root: Option<DirRef>,
-    chain: &Chain,
-) -> Result<&Entry, Refusal>
-    requires { 1 ≤ servers }
-    ensures ok { IfOk result (λ entry. asked_entry number servers root chain.now ≡ Ok entry.now) }
-    ensures refused { IfErr result (λ refusal. asked_entry number servers root chain.now ≡ Err (reply_of refusal)) }
+/// The directory that an access object is of.
+pub fn dir_of(access: &Access) -> DirRef
+    ensures { result ≡ dir_of access.now }
 {
-    let Some(entry) = chain.as_slice().last() else {
-        return Err(Refusal::Other);
-    };
-    if number != server_of(&entry.access.id, servers) {
-        return Err(Refusal::Other);
+    DirRef {
+        id: access.id,
+        born: access.born,
     }
-    let dir = DirRef {
-        id: entry.access.id,
-        born: entry.access.born,
-    };
-    if !is_root(root, dir) {
-        return Err(Refusal::Gone);
-    }
-    Ok(entry)
 }
 
-fn is_root(root: Option<DirRef>, dir: DirRef) -> bool
-    ensures { result ≡ is_root root dir }
+pub fn last_of(chain: &[Entry]) -> Option<&Entry>
+    ensures { option_copied result ≡ last_of chain.now }
 {
-    match root {
-        None => false,
-        Some(root) => {
-            dir.id.bytes.as_slice() == root.id.bytes.as_slice() && dir.born == root.born
+    chain.last()
+}
+
+/// The entries of the way to the directory that ends the chain.
+pub fn before_last(chain: &[Entry]) -> &[Entry]
+    ensures { result.now ≡ before_last chain.now }
+{
+    match chain {
+        [] => chain,
+        [way @ .., _] => way,
+    }
+}
+
+/// A seal of another call stands in the way.
+pub fn unsealed(by: CallRef, born: Place, seal: Option<CallRef>) -> Result<(), Refusal>
+    ensures ok { OnOk result (unsealed by born seal ≡ Ok tt) }
+    ensures refused { IfErr result (λ refusal. unsealed by born seal ≡ Err (reply_of refusal)) }
+{
+    match seal {
+        None => Ok(()),
+        Some(sealer) => {
+            if sealer == by {
+                Ok(())
+            } else {
+                Err(Refusal::Busy(sealer, Spot::Sealed, born))
+            }
         }
     }
 }
 
+fn unless_held(
+    by: CallRef,
+    born: Place,
+    found: Seen,
+    held: Option<CallRef>,
+) -> Result<Seen, Refusal>
+    ensures ok { IfOk result (λ there. unless_held by born found held ≡ Ok there) }
+    ensures refused { IfErr result (λ refusal. unless_held by born found held ≡ Err (reply_of refusal)) }
+{
+    match held {
+        None => Ok(found),
+        Some(holder) => {
+            if holder == by {
+                Ok(found)
+            } else {
+                Err(Refusal::Busy(holder, Spot::Slot, born))
+            }
+        }
+    }
+}
+
+/// What another call holds or reserved is in the way.
+pub fn unless_taken(by: CallRef, born: Place, found: Seen) -> Result<Seen, Refusal>
+    ensures ok { IfOk result (λ there. unless_taken by born found ≡ Ok there) }
+    ensures refused { IfErr result (λ refusal. unless_taken by born found ≡ Err (reply_of refusal)) }
+{
+    match found {
+        Seen::Gone => Err(Refusal::Gone),
+        Seen::Missing => Ok(Seen::Missing),
+        Seen::Reserved(other) => {
+            if other == by {
+                Err(Refusal::Other)
+            } else {
+                Err(Refusal::Busy(other, Spot::Slot, born))
+            }
+        }
+        Seen::File { held, .. } => unless_held(by, born, found, held),
+        Seen::Dir { held, .. } => unless_held(by, born, found, held),
+    }
+}
+
 /// Whether each directory of the chain lets the caller search.
-pub fn search(caller: Caller, chain: &Chain) -> Result<(), Refusal>
+pub fn search(caller: Caller, chain: &[Entry]) -> Result<(), Refusal>
     ensures ok { OnOk result (searched caller chain.now ≡ Ok tt) }
     ensures refused { IfErr result (λ refusal. searched caller chain.now ≡ Err (reply_of refusal)) }
 {
@@ -62,7 +113,7 @@ pub fn search(caller: Caller, chain: &Chain) -> Result<(), Refusal>
     }
 }
 
-fn all_let_search(caller: Caller, chain: &Chain) -> bool
+fn all_let_search(caller: Caller, chain: &[Entry]) -> bool
     ensures { result ≡ list_all (lets caller want.Search) chain.now }
 {
     chain.iter().all(|entry| lets(caller, Want::Search, entry))
@@ -85,4 +136,29 @@ fn lets(caller: Caller, want: Want, entry: &Entry) -> bool
 {
     let access = &entry.access;
     may(access.mode, access.owner, access.group, caller, want)
+}
+
+/// Why a path cannot go on from what was found.
+pub fn no_directory(found: Seen) -> Refusal
+    ensures { reply_of result ≡ no_directory found }
+{
+    match found {
+        Seen::Gone => Refusal::Gone,
+        Seen::Missing => Refusal::Denied(Errno::ENOENT),
+        Seen::Reserved(_) => Refusal::Other,
+        Seen::File { .. } => Refusal::Denied(Errno::ENOTDIR),
+        Seen::Dir { .. } => Refusal::Other,
+    }
+}
+
+pub fn is_missing(found: Seen) -> bool
+    ensures { result ≡ is_missing found }
+{
+    match found {
+        Seen::Missing => true,
+        Seen::Gone => false,
+        Seen::Reserved(_) => false,
+        Seen::File { .. } => false,
+        Seen::Dir { .. } => false,
+    }
 }

@@ -1,15 +1,19 @@
 //! Laws of servers as machines.
 
-ghost use Rattle.std.specs.Prelude.{◌≡◌, ◌≤◌, ℕ, false, List, [], ◌∷◌};
+ghost use Rattle.std.specs.Prelude.{◌≡◌, ◌≤◌, ℕ, false, Some, List, [], ◌∷◌, Err};
+ghost use Rattle.inf_base.specs.declared.caller.CallRef.{CallRef};
 ghost use Rattle.inf_base.specs.declared.entry.Entry.{Entry};
 ghost use Rattle.inf_base.specs.declared.id.Id.{Id};
+ghost use Rattle.inf_base.specs.declared.triple.Triple.{Triple};
+ghost use Rattle.inf_base.specs.Identity.{identity};
 ghost use Rattle.inf_message.specs.declared.ask.Ask.{Ask};
 ghost use Rattle.inf_message.specs.declared.reply.Reply.{Reply};
 ghost use Rattle.inf_message.specs.declared.reply.Reply.TheVariants as reply;
 ghost use Rattle.inf_message.specs.History.{Served, served_ask};
-ghost use Rattle.inf_server.specs.Checks.{last_of};
-ghost use Rattle.inf_server.specs.Files.{create, stat};
-ghost use Rattle.inf_server.specs.Lookups.{lookup_top};
+ghost use Rattle.inf_server.specs.Chains.{last_of};
+ghost use Rattle.inf_server.specs.Births.{make};
+ghost use Rattle.inf_server.specs.Checks.{asked_of};
+ghost use Rattle.inf_server.specs.Lookups.{lookup_at, lookup_top};
 ghost use Rattle.inf_server.specs.Machine.{Serves, state_after};
 ghost use Rattle.inf_server.specs.Server.{site};
 ghost use Rattle.inf_server.specs.State.{Site, State, is_here, opening, root_id};
@@ -22,18 +26,18 @@ pub fn states_follow_serves()
         → state_after here (served_ask ask place reply ∷ earlier) ≡ new }
 {}
 
-/// A request whose chain ends in a directory that another server keeps, or in none, is turned away.
+/// A request whose chain ends in a directory that another server keeps, or in none, is turned away, and so is one that
+/// names such a directory.
 pub fn others_are_turned_away()
     ensures lookups { (here : Site) (state : State) → is_here here (root_id here) ≡ false
         → lookup_top here state ≡ Err reply.Other }
-    ensures creates { (here : Site) (state : State) (ask : Ask) (chain : List Entry) (entry : Entry) (name : List ℕ) (mode : ℕ)
-        → last_of chain ≡ Some entry → is_here here entry.access.id ≡ false
-        → create here state ask chain name mode ≡ Err reply.Other }
-    ensures stats { (here : Site) (state : State) (ask : Ask) (chain : List Entry) (entry : Entry) (name : List ℕ)
-        → last_of chain ≡ Some entry → is_here here entry.access.id ≡ false
-        → stat here state ask chain name ≡ Err reply.Other }
-    ensures no_chain { (here : Site) (state : State) (ask : Ask) (name : List ℕ) (mode : ℕ)
-        → (create here state ask [] name mode ≡ Err reply.Other) × (stat here state ask [] name ≡ Err reply.Other) }
+    ensures chains { (here : Site) (state : State) (by : CallRef) (chain : List Entry) (entry : Entry)
+        → last_of chain ≡ Some entry → is_here here entry.access.id ≡ false → asked_of here state by chain ≡ Err reply.Other }
+    ensures no_chain { (here : Site) (state : State) (by : CallRef) → asked_of here state by [] ≡ Err reply.Other }
+    ensures names { (here : Site) (state : State) (id : Id) (name : List ℕ) → is_here here id ≡ false
+        → lookup_at here state id name ≡ Err reply.Other }
+    ensures births { (here : Site) (state : State) (place : ℕ) (ask : Ask) (birth : Triple)
+        → is_here here (identity here.digest birth) ≡ false → make here state place ask birth ≡ Err reply.Other }
 {}
 
 /// The coordinator, whose number is that of the servers, keeps no directory.

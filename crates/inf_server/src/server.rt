@@ -1,45 +1,51 @@
 //! A server, and how it replies.
 
-ghost use Rattle.std.specs.Prelude.{◌≡◌, ◌≤◌, true, Err, IfOk, IfErr, OnErr};
-ghost use Rattle.inf_base.specs.declared.key.Key.TheVariants as key;
+ghost use Rattle.std.specs.Prelude.{◌≡◌, ◌≢◌, ◌≤◌, true, false, is_some, Ok, Err, IfOk, IfErr, OnOk, OnErr};
 ghost use Rattle.inf_base.specs.declared.item.Kind.TheVariants as kind;
+ghost use Rattle.inf_content.specs.Contents.{content_at};
 ghost use Rattle.inf_message.specs.declared.reply.Reply.TheVariants as reply;
 ghost use Rattle.inf_server.specs.Chains.{HasShortChains};
-ghost use Rattle.inf_server.specs.Files.{create, stat};
-ghost use Rattle.inf_server.specs.Lookups.{lookup_top};
-ghost use Rattle.inf_server.specs.Machine.{Serves, is_built};
+ghost use Rattle.inf_server.specs.declared.refusal.Refusal.TheVariants as refusals;
+ghost use Rattle.inf_server.specs.Checks.{asked_of};
+ghost use Rattle.inf_server.specs.Machine.{Serves, is_built, is_built_op, is_change, may_want_op, on_change, on_op};
+ghost use Rattle.inf_server.specs.Names.{found_by};
 ghost use Rattle.inf_server.specs.Refusal.{reply_of};
 ghost use Rattle.inf_server.specs.Response.{Gives, done};
 ghost use Rattle.inf_server.specs.Server.{IsSameServer, site_of};
-ghost use Rattle.inf_server.specs.State.{opening};
+ghost use Rattle.inf_server.specs.State.{is_here, opening};
 
-use crate::checks::{asked_entry, search, write};
-use crate::files::Files;
+mod births;
+mod files;
+mod lookups;
+mod removals;
+
+use crate::checks::{dir_of, last_of, no_directory, unless_taken, unsealed};
 use crate::refusal::Refusal;
 use inf_base::{
-    Access, Chain, DirRef, Errno, FileMeta, Key, Kind, LookKey, Name, NoMemory, Place, Setup,
-    Triple,
+    CallRef, Chain, DirRef, Entry, Id, Key, LookKey, Name, NoMemory, Place, Setup, Triple,
 };
 use inf_birth::{IdRule, identify, server_of};
+use inf_content::{Contents, Seen};
 use inf_message::{Ask, Op, Reply, Request};
+use inf_renames::Renames;
 use std::alloc::Global;
 use std::marker::Model;
 
 /// One server of a service. The server whose number is that of the servers is the coordinator.
 #[derive(Drop)]
 pub struct Server<R: IdRule> {
+    alloc: Global,
     rule: R,
     number: u32,
     servers: u32,
     /// The root, where it is kept here.
     root: Option<DirRef>,
-    /// The root's files.
-    files: Files,
+    contents: Contents,
+    renames: Renames,
 }
 
 impl<R: IdRule> Model for Server<R> {
-    ghost use Rattle.inf_server.specs.RootFiles.{state_with};
-    ghost use Rattle.inf_server.specs.Server.{Standing, KeepsRoot, site};
+    ghost use Rattle.inf_server.specs.Server.{Standing, KeepsRoot, site, state_with};
 
     ghost Value = { Standing R };
 
@@ -47,7 +53,7 @@ impl<R: IdRule> Model for Server<R> {
       rule = s.rule;
       number = s.number;
       servers = s.servers;
-      state = state_with s.root s.files;
+      state = state_with s.root s.contents s.renames;
     } };
 
     ghost invariant = { λ s. KeepsRoot (site s.number s.servers (R.digest_of s.rule)) s.root };
@@ -64,17 +70,20 @@ impl<R: IdRule> Server<R> {
         ensures state { IfOk result (λ server. server.state ≡ opening (site_of R.digest_of server)) }
     {
         let id = identify(alloc, &rule, &Triple::Root)?;
-        let root = if number == server_of(&id, setup.servers) {
-            Some(DirRef { id, born: 0 })
-        } else {
-            None
-        };
+        let mut contents = Contents::new(alloc);
+        let mut root = None;
+        if number == server_of(&id, setup.servers) {
+            contents.make(id, Triple::Root, 0, NOBODY)?;
+            root = Some(DirRef { id, born: 0 });
+        }
         Ok(Server {
+            alloc,
             rule,
             number,
             servers: setup.servers,
             root,
-            files: Files::new(alloc),
+            contents,
+            renames: Renames::new(alloc),
         })
     }
 
@@ -106,85 +115,127 @@ impl<R: IdRule> Server<R> {
                 key: Key::Top,
                 access: self.lookup_top()?,
             }),
-            Request::Finish {
-                chain,
-                op: Op::Create(name, mode),
-            } => self.create(ask, chain, name, *mode),
-            Request::Finish {
-                chain,
-                op: Op::Stat(name),
-            } => Ok(Reply::Stat {
-                kind: Kind::File,
-                meta: self.stat(ask, chain, name)?,
-            }),
+            Request::Lookup(LookKey::At { dir, name }) => self.lookup_at(dir, name),
+            Request::Finish { chain, op } => self.finish(ask, chain, op),
+            Request::Reserve { chain, name } => self.reserve(ask, chain, name),
+            Request::Make { triple } => self.make(ask_place, ask, triple),
+            _ => {
+                self.change(ask)?;
+                Ok(Reply::Fine)
+            }
+        }
+    }
+
+    /// The one message of a call that needs no more.
+    fn finish(&mut self, ask: &Ask, chain: &Chain, op: &Op) -> Result<Reply, Refusal>
+        requires { is_built_op op.now ≡ true }
+        ensures done { IfOk result (λ given. Gives self.old.state
+            (on_op (site_of R.digest_of self.old) self.old.state ask.now chain.now op.now) given self.new.state) }
+        ensures plain { IfOk result (λ given. may_want_op op.now ≡ false → given ≢ reply.NoMem) }
+        ensures refused { IfErr result (λ refusal.
+            on_op (site_of R.digest_of self.old) self.old.state ask.now chain.now op.now ≡ Err (reply_of refusal)) }
+        ensures unchanged { OnErr result (self.new ≡ self.old) }
+        ensures same { IsSameServer self.old self.new }
+    {
+        match op {
+            Op::Create(name, mode) => self.create(ask, chain, name, *mode),
+            Op::Stat(name) => {
+                let (kind, meta) = self.stat(ask, chain, name)?;
+                Ok(Reply::Stat { kind, meta })
+            }
+            Op::Walk(name) => Err(no_directory(self.walk(ask, chain, name)?)),
+            Op::RmdirName(name) => Err(no_directory(self.rmdir_name(ask, chain, name)?)),
             _ => unreachable!(),
         }
     }
 
-    /// The root's access object.
-    fn lookup_top(&self) -> Result<Access, Refusal>
-        ensures found { IfOk result (λ access.
-            lookup_top (site_of R.digest_of self.now) self.now.state
-            ≡ done (reply.Found key.Top access) self.now.state) }
+    /// What a request changes that wants no memory, and has nothing to tell.
+    fn change(&mut self, ask: &Ask) -> Result<(), Refusal>
+        requires { is_change ask.now.request ≡ true }
+        ensures done { OnOk result (
+            on_change (site_of R.digest_of self.old) self.old.state ask.now ask.now.request ≡ done reply.Fine self.new.state) }
         ensures refused { IfErr result (λ refusal.
-            lookup_top (site_of R.digest_of self.now) self.now.state ≡ Err (reply_of refusal)) }
-    {
-        let Some(root) = self.root else {
-            return Err(Refusal::Other);
-        };
-        Ok(Access {
-            id: root.id,
-            born: root.born,
-            mode: 0o755,
-            owner: 0,
-            group: 0,
-            birth: Triple::Root,
-        })
-    }
-
-    /// Puts an empty file of the caller's under a name that is free.
-    fn create(&mut self, ask: &Ask, chain: &Chain, name: &Name, mode: u16) -> Result<Reply, Refusal>
-        ensures done { IfOk result (λ given. Gives self.old.state
-            (create (site_of R.digest_of self.old) self.old.state ask.now chain.now name.now mode)
-            given self.new.state) }
-        ensures refused { IfErr result (λ refusal.
-            create (site_of R.digest_of self.old) self.old.state ask.now chain.now name.now mode
-            ≡ Err (reply_of refusal)) }
+            on_change (site_of R.digest_of self.old) self.old.state ask.now ask.now.request ≡ Err (reply_of refusal)) }
         ensures unchanged { OnErr result (self.new ≡ self.old) }
         ensures same { IsSameServer self.old self.new }
     {
-        let entry = asked_entry(self.number, self.servers, self.root, chain)?;
-        search(ask.caller, chain)?;
-        write(ask.caller, entry)?;
-        if self.files.get(name).is_some() {
-            return Err(Refusal::Denied(Errno::EEXIST));
+        match &ask.request {
+            Request::Link {
+                chain,
+                name: _,
+                dir,
+                mode,
+            } => self.link(ask, chain, *dir, *mode),
+            Request::Cancel { dir } => self.cancel(ask, dir),
+            Request::Drop { dir } => self.drop_dir(ask, dir),
+            Request::Seal { chain } => self.seal(ask, chain),
+            Request::Unseal { dir } => self.unseal(ask, dir),
+            Request::Unlink { chain } => self.unlink(ask, chain),
+            Request::Forget { parent, dir } => self.forget(parent, dir),
+            _ => unreachable!(),
         }
-        let meta = FileMeta {
-            mode,
-            owner: ask.caller.uid,
-            group: ask.caller.gid,
-            length: 0,
-        };
-        let Ok(()) = self.files.put(name, meta) else {
-            return Ok(Reply::NoMem);
-        };
-        Ok(Reply::Fine)
     }
 
-    /// The metadata of the file of a name.
-    fn stat(&self, ask: &Ask, chain: &Chain, name: &Name) -> Result<FileMeta, Refusal>
-        ensures found { IfOk result (λ meta.
-            stat (site_of R.digest_of self.now) self.now.state ask.now chain.now name.now
-            ≡ done (reply.Stat kind.File meta) self.now.state) }
-        ensures refused { IfErr result (λ refusal.
-            stat (site_of R.digest_of self.now) self.now.state ask.now chain.now name.now
-            ≡ Err (reply_of refusal)) }
+    fn is_here(&self, id: &Id) -> bool
+        ensures { result ≡ is_here (site_of R.digest_of self.now) id.now }
     {
-        asked_entry(self.number, self.servers, self.root, chain)?;
-        search(ask.caller, chain)?;
-        match self.files.get(name) {
-            Some(meta) => Ok(meta),
-            None => Err(Refusal::Denied(Errno::ENOENT)),
+        let _ = &self.root;
+        self.number == server_of(id, self.servers)
+    }
+
+    /// Whether a directory of this identifier, which a request names, is kept here.
+    fn check_here(&self, id: &Id) -> Result<(), Refusal>
+        ensures ok { OnOk result (is_here (site_of R.digest_of self.now) id.now ≡ true) }
+        ensures refused { IfErr result (λ refusal. is_here (site_of R.digest_of self.now) id.now ≡ false) }
+        ensures other { IfErr result (λ refusal. refusal ≡ refusals.Other) }
+    {
+        if self.is_here(id) {
+            Ok(())
+        } else {
+            Err(Refusal::Other)
         }
     }
+
+    /// The entry of the directory asked, which ends the chain: it is kept here, stands, and no other call sealed it.
+    fn asked<'a>(&self, by: CallRef, chain: &'a [Entry]) -> Result<&'a Entry, Refusal>
+        ensures ok { IfOk result (λ entry.
+            asked_of (site_of R.digest_of self.now) self.now.state by chain.now ≡ Ok entry.now) }
+        ensures refused { IfErr result (λ refusal.
+            asked_of (site_of R.digest_of self.now) self.now.state by chain.now ≡ Err (reply_of refusal)) }
+    {
+        let Some(entry) = last_of(chain) else {
+            return Err(Refusal::Other);
+        };
+        self.check_here(&entry.access.id)?;
+        let dir = dir_of(&entry.access);
+        if !self.stands(&dir) {
+            return Err(Refusal::Gone);
+        }
+        unsealed(by, dir.born, self.contents.sealed(&dir))?;
+        Ok(entry)
+    }
+
+    fn stands(&self, dir: &DirRef) -> bool
+        ensures { result ≡ is_some (content_at dir.now self.now.state.contents) }
+    {
+        match self.contents.born(&dir.id) {
+            None => false,
+            Some(born) => born == dir.born,
+        }
+    }
+
+    /// What the call finds under a name of a directory.
+    fn find(&self, by: CallRef, dir: &DirRef, name: &Name) -> Result<Seen, Refusal>
+        ensures ok { IfOk result (λ found. found_by by dir.now name.now self.now.state.contents ≡ Ok found) }
+        ensures refused { IfErr result (λ refusal.
+            found_by by dir.now name.now self.now.state.contents ≡ Err (reply_of refusal)) }
+    {
+        unless_taken(by, dir.born, self.contents.look(dir, name))
+    }
 }
+
+/// No call has this number.
+const NOBODY: CallRef = CallRef {
+    client: 0,
+    number: 0,
+};

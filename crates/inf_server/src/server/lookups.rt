@@ -1,0 +1,109 @@
+//! What is told of an access object.
+
+ghost use Rattle.std.specs.Prelude.{◌≡◌, true, is_some, Ok, Err, IfOk, IfErr, IfSome, OnOk};
+ghost use Rattle.inf_base.specs.declared.key.Key.TheVariants as key;
+ghost use Rattle.inf_content.specs.Contents.{access_found, content_at};
+ghost use Rattle.inf_message.specs.declared.reply.Reply.TheVariants as reply;
+ghost use Rattle.inf_server.specs.Lookups.{lookup_at, lookup_top, unheld, unless_sealed};
+ghost use Rattle.inf_server.specs.Refusal.{reply_of};
+ghost use Rattle.inf_server.specs.Response.{Gives, done};
+ghost use Rattle.inf_server.specs.Server.{site_of};
+
+use super::Server;
+use crate::refusal::Refusal;
+use inf_base::{Access, CallRef, DirRef, Id, Key, Name, NoMemory, Place, Triple, TryClone};
+use inf_birth::IdRule;
+use inf_content::Seen;
+use inf_message::{Reply, Spot};
+
+impl<R: IdRule> Server<R> {
+    /// The root's access object.
+    pub(super) fn lookup_top(&self) -> Result<Access, Refusal>
+        ensures found { IfOk result (λ access.
+            lookup_top (site_of R.digest_of self.now) self.now.state
+            ≡ done (reply.Found key.Top access) self.now.state) }
+        ensures refused { IfErr result (λ refusal.
+            lookup_top (site_of R.digest_of self.now) self.now.state ≡ Err (reply_of refusal)) }
+    {
+        let Some(root) = self.root else {
+            return Err(Refusal::Other);
+        };
+        Ok(Access {
+            id: root.id,
+            born: root.born,
+            mode: 0o755,
+            owner: 0,
+            group: 0,
+            birth: Triple::Root,
+        })
+    }
+
+    /// The access object under a name of the directory of this identifier.
+    pub(super) fn lookup_at(&self, id: &Id, name: &Name) -> Result<Reply, Refusal>
+        ensures done { IfOk result (λ given. Gives self.now.state
+            (lookup_at (site_of R.digest_of self.now) self.now.state id.now name.now) given self.now.state) }
+        ensures refused { IfErr result (λ refusal.
+            lookup_at (site_of R.digest_of self.now) self.now.state id.now name.now ≡ Err (reply_of refusal)) }
+    {
+        self.check_here(id)?;
+        let Some(born) = self.contents.born(id) else {
+            return Err(Refusal::NoDir);
+        };
+        let dir = DirRef { id: *id, born };
+        unless_sealed(born, self.contents.sealed(&dir))?;
+        match self.contents.look(&dir, name) {
+            Seen::Gone => Ok(Reply::Absent { born }),
+            Seen::Missing => Ok(Reply::Absent { born }),
+            Seen::Reserved(by) => Err(Refusal::Busy(by, Spot::Slot, born)),
+            Seen::File { meta: _, held } => {
+                unheld(born, held)?;
+                Ok(Reply::IsFile { born })
+            }
+            Seen::Dir { held, .. } => {
+                unheld(born, held)?;
+                match self.found(dir, name) {
+                    Ok(reply) => Ok(reply),
+                    Err(NoMemory) => Ok(Reply::NoMem),
+                }
+            }
+        }
+    }
+
+    /// What a lookup is told of the directory that stands under a name.
+    fn found(&self, dir: DirRef, name: &Name) -> Result<Reply, NoMemory>
+        requires stands { is_some (access_found name.now (content_at dir self.now.state.contents)) ≡ true }
+        ensures { IfOk result (λ given. IfSome (access_found name.now (content_at dir self.now.state.contents))
+            (λ access. given ≡ reply.Found (key.At dir name.now) access)) }
+    {
+        let Some(access) = self.contents.access_of(&dir, name)? else {
+            unreachable!()
+        };
+        let key = Key::At {
+            dir,
+            name: name.try_clone(self.alloc)?,
+        };
+        Ok(Reply::Found { key, access })
+    }
+}
+
+/// A lookup is told nothing of what is held, whoever holds it.
+fn unheld(born: Place, held: Option<CallRef>) -> Result<(), Refusal>
+    ensures ok { OnOk result (unheld born held ≡ Ok tt) }
+    ensures refused { IfErr result (λ refusal. unheld born held ≡ Err (reply_of refusal)) }
+{
+    match held {
+        None => Ok(()),
+        Some(by) => Err(Refusal::Busy(by, Spot::Slot, born)),
+    }
+}
+
+/// Nor of what stands in a sealed directory, whoever sealed it.
+fn unless_sealed(born: Place, seal: Option<CallRef>) -> Result<(), Refusal>
+    ensures ok { OnOk result (unless_sealed born seal ≡ Ok tt) }
+    ensures refused { IfErr result (λ refusal. unless_sealed born seal ≡ Err (reply_of refusal)) }
+{
+    match seal {
+        None => Ok(()),
+        Some(sealer) => Err(Refusal::Busy(sealer, Spot::Sealed, born)),
+    }
+}
