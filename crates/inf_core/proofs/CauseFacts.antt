@@ -1,6 +1,6 @@
--- Why calls are answered Again. Of the kinds that are built, none is: nothing is held, reserved or sealed, so that no
--- server replies Busy.
-use Rattle.std.proofs.Common.{◌≡◌, ℕ, suc, ◌+◌, Bool, true, false, cond, eqb, List, [], ◌∷◌, ◌++◌, length, slice_get, Option, None, Some, is_none, Result, Ok, Err, All, sym, ap, subst, ◌∙◌, ⊎_elim}
+-- Why calls are answered Again. With what clients send, none is: nothing is held, reserved or sealed, so that no server
+-- replies Busy.
+use Rattle.std.proofs.Common.{◌≡◌, ℕ, suc, ◌+◌, Bool, true, false, cond, eqb, List, [], ◌∷◌, ◌++◌, length, slice_get, Option, None, Some, is_some, Result, Ok, Err, All, sym, ap, subst, ◌∙◌, ⊎_elim}
 use Rattle.std.proofs.lemmas.List.Elements.{All-append, All-cons, All-nil}
 use Rattle.std.specs.BTreeMap.{is_at}
 use Rattle.std.specs.Cmp.Lexicographic.{slice_cmp}
@@ -11,13 +11,19 @@ use Rattle.inf_base.specs.declared.answer.Answer.{Answer}
 use Rattle.inf_base.specs.declared.answer.Answer.TheVariants as answer
 use Rattle.inf_base.specs.declared.call.Call.{Call}
 use Rattle.inf_base.specs.declared.caller.CallRef.{CallRef}
+use Rattle.inf_base.specs.declared.directory.DirRef.{DirRef}
 use Rattle.inf_base.specs.declared.entry.Entry.{Entry}
 use Rattle.inf_base.specs.declared.file.FileMeta.{FileMeta}
 use Rattle.inf_base.specs.declared.errno.Errno.TheVariants as errno
 use Rattle.inf_base.specs.declared.key.LookKey.TheVariants as look
 use Rattle.inf_base.specs.declared.setup.ClientLine.{ClientLine}
 use Rattle.inf_base.specs.Checks.{◌>>=◌, ◌>>◌, check}
-use Rattle.inf_base.specs.Content.{Content, Slot, reserved, file, directory}
+use Rattle.inf_base.specs.Content.{Content}
+use Rattle.inf_base.specs.Same.{dir_of, is_same_id}
+use Rattle.inf_content.specs.Contents.{content_at, if_born, seal_of, seen_in}
+use Rattle.inf_content.specs.Slots.{seen_of}
+use Rattle.inf_content.specs.declared.seen.Seen.{Seen}
+use Rattle.inf_content.specs.declared.seen.Seen.TheVariants as seen
 use Rattle.inf_message.specs.declared.ask.Ask.{Ask}
 use Rattle.inf_message.specs.declared.call_result.CallResult.{CallResult}
 use Rattle.inf_message.specs.declared.event.Event.{Event}
@@ -29,25 +35,29 @@ use Rattle.inf_message.specs.declared.reply.Reply.TheVariants as reply
 use Rattle.inf_message.specs.declared.request.Request.{Request}
 use Rattle.inf_message.specs.declared.request.Request.TheVariants as request
 use Rattle.inf_message.specs.History.{Told, told_reply}
-use Rattle.inf_server.specs.Checks.{Asked, asked_of, dir_of, last_of, searched, unsealed, writable}
-use Rattle.inf_server.specs.Files.{create, stat, told}
+use Rattle.inf_server.specs.Chains.{last_of}
+use Rattle.inf_server.specs.Checks.{asked_of, searched, unsealed, writable}
+use Rattle.inf_server.specs.Files.{create, stat, stat_of}
 use Rattle.inf_server.specs.Lookups.{lookup_top}
 use Rattle.inf_server.specs.Machine.{Serves, machine, on_op, on_request}
 use Rattle.inf_server.specs.Response.{Response, response}
-use Rattle.inf_server.specs.Slots.{seen_by, slot_for}
-use Rattle.inf_server.specs.State.{Site, State, content_of, is_here, is_same_dir, root_dir, root_id}
+use Rattle.inf_server.specs.Names.{found_by, is_missing, unless_taken}
+use Rattle.inf_server.specs.State.{Site, State, is_here, root_id}
 use Rattle.inf_core.specs.Causes.{IsAgainBecause}
-use Rattle.inf_core.specs.Client.{Client, ended, starting}
-use Rattle.inf_core.specs.Duty.{asked}
-use Rattle.inf_core.specs.Legal.{Legal, MayServe, client_after}
-use Rattle.inf_core.specs.Outcome.{Agrees, Outcome, OutcomeFrom, all_given_up, results_of, unanswered}
-use Rattle.inf_core.specs.Turn.{Turn, act_with, after_lookup, begins_again, ends, goes_on, next_op, recorded, served, success_of, turn_at, turned, unless_success}
-use Rattle.inf_core.specs.World.{World}
-use Rattle.inf_core.specs.declared.stage.Stage.{Stage}
-use Rattle.inf_core.specs.declared.stage.Stage.TheVariants as stage
-use Rattle.inf_core.proofs.Placed.{IsReady, ready, told_completes}
-use Rattle.inf_core.proofs.ResultFacts.{IsKept, all_given_up_keeps, begun_keeps, by_serve, if_both}
-use Rattle.inf_core.proofs.RootState.{Files, content_with, lookup-slots_of, root_number, root_site, serves_by, slot_of_file, state_of}
+use Rattle.inf_duty.specs.Client.{Client, ended, starting}
+use Rattle.inf_duty.specs.Duty.{asked}
+use Rattle.inf_core.specs.Legal.{Legal, MayServe}
+use Rattle.inf_duty.specs.After.{client_after}
+use Rattle.inf_duty.specs.Outcome.{Agrees, Outcome, OutcomeFrom, all_given_up, results_of, unanswered}
+use Rattle.inf_duty.specs.Turn.{Turn, act_with, after_lookup, begins_again, ends, goes_on, next_op, recorded, served, success_of, turn_at, turned, unless_success}
+use Rattle.inf_duty.specs.World.{World, root_of}
+use Rattle.inf_duty.specs.declared.stage.Stage.{Stage}
+use Rattle.inf_duty.specs.declared.stage.Stage.TheVariants as stage
+use Rattle.inf_duty.proofs.Placed.{IsReady, ready, told_completes}
+use Rattle.inf_duty.proofs.ResultFacts.{IsKept, all_given_up_keeps, begun_keeps, if_both}
+use Rattle.inf_core.proofs.ResultFacts.{by_serve}
+use Rattle.inf_core.proofs.RootState.{Files, content_with, root_number, root_site, serves_by, slot_in-slots_of, slot_of_file, state_of}
+use Rattle.inf_core.proofs.Posted.{is_sent, is_sent_op, posted_known}
 use Rattle.inf_core.proofs.ServeFacts.{waits_for_root}
 use Rattle.inf_core.proofs.ServeReplays.{Kept, every_history}
 
@@ -82,89 +92,94 @@ known : {A : Type 0} (o : Option A) (refusal : Reply) → NamesNone refusal → 
 known None refusal none = none
 known (Some x) refusal none = tt
 
--- a directory in which nothing is in the way
-record IsFree (content : Content) : Type 0 where
-  is_open : (by : CallRef) → Clear (λ u. Unit {0}) (unsealed by content content.seal)
-  has_no_hold : (by : CallRef) (name : List ℕ) → Clear (λ found. Unit {0}) (slot_for by content name)
+told_none : (found : Seen) → Clear NamesNone (stat_of found)
+told_none seen.Gone = tt
+told_none seen.Missing = tt
+told_none (seen.Reserved other) = tt
+told_none (seen.File meta held) = tt
+told_none (seen.Dir dir mode owner group held) = tt
 
-abbrev IsFreeAsked : Asked → Type 0
-IsFreeAsked found = IsFree found.content
-
-file_seen : (by : CallRef) (born : ℕ) (found : Option FileMeta) → Clear (λ slot. Unit {0}) (seen_by by born (option_map slot_of_file found))
+file_seen : (by : CallRef) (born : ℕ) (stands : Option FileMeta) → Clear (λ found. Unit {0}) (unless_taken by born (seen_of (option_map slot_of_file stands)))
 file_seen by born None = tt
 file_seen by born (Some meta) = tt
-
-told_none : (slot : Slot) → NamesNone (told slot)
-told_none (reserved by access) = tt
-told_none (file meta held) = tt
-told_none (directory access held) = tt
 
 module _ (world : World) (files : Files) (here : Site) where
   abbrev now : State
   now = state_of world files
 
-  root_free : IsFree (content_with world files)
-  root_free = record {
-    is_open = λ by. tt;
-    has_no_hold = λ by name.
-        subst (λ found. Clear (λ slot. Unit {0}) (seen_by by 0 found)) (sym (lookup-slots_of name files))
-        (file_seen by 0 (lookup (is_at (slice_cmp nat_cmp name)) files));
-  }
+  -- a directory is the root, or it is not there
+  root_or_none : (P : Option Content → Type 0) → P None → P (Some (content_with world files)) → (dir : DirRef) → P (content_at dir now.contents)
+  root_or_none P none root dir = by_id (is_same_id dir.id (root_of world))
+    where
+      by_birth : (same : Bool) → P (cond same (Some (content_with world files)) None)
+      by_birth true = root
+      by_birth false = none
 
-  only_root : (b : Bool) → Clear IsFree (ok_or (cond b (Some (content_with world files)) None) reply.Gone)
-  only_root true = root_free
-  only_root false = tt
+      by_id : (same : Bool) → P (if_born dir.born (cond same (Some (content_with world files)) None))
+      by_id true = by_birth (eqb 0 dir.born)
+      by_id false = none
 
-  asked_free : (by : CallRef) (chain : List Entry) → Clear IsFreeAsked (asked_of here now by chain)
-  asked_free by chain =
-      and_then (λ x. Unit {0}) IsFreeAsked (ok_or (last_of chain) reply.Other) _ (known (last_of chain) reply.Other tt)
-      (λ entry there. and_so IsFreeAsked (check (is_here here entry.access.id) reply.Other) _ (checked _ reply.Other tt)
-      (and_then IsFree IsFreeAsked (ok_or (content_of (dir_of entry) now.contents) reply.Gone) _ (only_root (is_same_dir (dir_of entry) (root_dir (root_site world))))
-      (λ content free. and_so IsFreeAsked (unsealed by content content.seal) _ (free.is_open by) free)))
+  is_open : (by : CallRef) (dir : DirRef) → Clear (λ u. Unit {0}) (unsealed by dir.born (seal_of (content_at dir now.contents)))
+  is_open by dir = root_or_none (λ c. Clear (λ u. Unit {0}) (unsealed by dir.born (seal_of c))) tt tt dir
+
+  finds : (by : CallRef) (dir : DirRef) (name : List ℕ) → Clear (λ found. Unit {0}) (found_by by dir name now.contents)
+  finds by dir name =
+      root_or_none (λ c. Clear (λ found. Unit {0}) (unless_taken by dir.born (seen_in name c))) tt
+      (subst (λ slot. Clear (λ found. Unit {0}) (unless_taken by dir.born (seen_of slot))) (sym (slot_in-slots_of name files))
+      (file_seen by dir.born (lookup (is_at (slice_cmp nat_cmp name)) files)))
+      dir
+
+  asks : (by : CallRef) (chain : List Entry) → Clear (λ entry. Unit {0}) (asked_of here now by chain)
+  asks by chain =
+      and_then (λ entry. Unit {0}) (λ entry. Unit {0}) (ok_or (last_of chain) reply.Other) _ (known (last_of chain) reply.Other tt)
+      (λ entry there. and_so (λ e. Unit {0}) (check (is_here here entry.access.id) reply.Other) _ (checked _ reply.Other tt)
+      (and_so (λ e. Unit {0}) (check (is_some (content_at (dir_of entry.access) now.contents)) reply.Gone) _ (checked _ reply.Gone tt)
+      (and_so (λ e. Unit {0}) (unsealed by entry.access.born (seal_of (content_at (dir_of entry.access) now.contents))) _ (is_open by (dir_of entry.access)) tt)))
 
   looks : Clear Replies (lookup_top here now)
   looks = and_so Replies (check (is_here here (root_id here)) reply.Other) _ (checked _ reply.Other tt) tt
 
   creates : (ask : Ask) (chain : List Entry) (name : List ℕ) (mode : ℕ) → Clear Replies (create here now ask chain name mode)
   creates ask chain name mode =
-      and_then IsFreeAsked Replies (asked_of here now ask.from chain) _ (asked_free ask.from chain)
-      (λ found free. and_so Replies (searched ask.caller chain) _ (checked _ (reply.Refused errno.EACCES) tt)
-      (and_so Replies (writable ask.caller found.entry) _ (checked _ (reply.Refused errno.EACCES) tt)
-      (and_then (λ slot. Unit {0}) Replies (slot_for ask.from found.content name) _ (free.has_no_hold ask.from name)
-      (λ slot seen. and_so Replies (check (is_none slot) (reply.Refused errno.EEXIST)) _ (checked _ (reply.Refused errno.EEXIST) tt) tt))))
+      and_then (λ entry. Unit {0}) Replies (asked_of here now ask.from chain) _ (asks ask.from chain)
+      (λ entry there. and_so Replies (searched ask.caller chain) _ (checked _ (reply.Refused errno.EACCES) tt)
+      (and_so Replies (writable ask.caller entry) _ (checked _ (reply.Refused errno.EACCES) tt)
+      (and_then (λ found. Unit {0}) Replies (found_by ask.from (dir_of entry.access) name now.contents) _ (finds ask.from (dir_of entry.access) name)
+      (λ found seen. and_so Replies (check (is_missing found) (reply.Refused errno.EEXIST)) _ (checked _ (reply.Refused errno.EEXIST) tt) tt))))
 
   stats : (ask : Ask) (chain : List Entry) (name : List ℕ) → Clear Replies (stat here now ask chain name)
   stats ask chain name =
-      and_then IsFreeAsked Replies (asked_of here now ask.from chain) _ (asked_free ask.from chain)
-      (λ found free. and_so Replies (searched ask.caller chain) _ (checked _ (reply.Refused errno.EACCES) tt)
-      (and_then (λ slot. Unit {0}) Replies (slot_for ask.from found.content name) _ (free.has_no_hold ask.from name)
-      (λ found_slot seen. and_then (λ slot. Unit {0}) Replies (ok_or found_slot (reply.Refused errno.ENOENT)) _ (known found_slot (reply.Refused errno.ENOENT) tt)
-      (λ slot there. told_none slot))))
+      and_then (λ entry. Unit {0}) Replies (asked_of here now ask.from chain) _ (asks ask.from chain)
+      (λ entry there. and_so Replies (searched ask.caller chain) _ (checked _ (reply.Refused errno.EACCES) tt)
+      (and_then (λ found. Unit {0}) Replies (found_by ask.from (dir_of entry.access) name now.contents) _ (finds ask.from (dir_of entry.access) name)
+      (λ found seen. and_then NamesNone Replies (stat_of found) _ (told_none found) (λ told none. none))))
 
-  finishes : (ask : Ask) (chain : List Entry) (wanted : Op) → Clear Replies (on_op here now ask chain wanted)
-  finishes ask chain (op.Create name mode) = creates ask chain name mode
-  finishes ask chain (op.Stat name) = stats ask chain name
-  finishes ask chain any_op = tt
+  finishes : (ask : Ask) (chain : List Entry) (wanted : Op) → is_sent_op wanted ≡ true → Clear Replies (on_op here now ask chain wanted)
+  finishes ask chain (op.Create name mode) sent = creates ask chain name mode
+  finishes ask chain (op.Stat name) sent = stats ask chain name
+  finishes ask chain any_op sent = absurd (cc)
 
-  requests : (place : ℕ) (ask : Ask) (wanted : Request) → Clear Replies (on_request here now place ask wanted)
-  requests place ask (request.Lookup look.Top) = looks
-  requests place ask (request.Finish chain wanted) = finishes ask chain wanted
-  requests place ask any_request = tt
+  requests : (place : ℕ) (ask : Ask) (wanted : Request) → is_sent wanted ≡ true → Clear Replies (on_request here now place ask wanted)
+  requests place ask (request.Lookup look.Top) sent = looks
+  requests place ask (request.Finish chain wanted) sent = finishes ask chain wanted sent
+  requests place ask any_request sent = absurd (cc)
 
   responds : (outcome : Result Response Reply) → Clear Replies outcome → NamesNone (response now outcome).reply
   responds (Ok done) clear = clear
   responds (Err refusal) clear = clear
 
-  machine_names_none : (place : ℕ) (ask : Ask) → NamesNone (machine here now place ask).reply
-  machine_names_none place ask = responds (on_request here now place ask ask.request) (requests place ask ask.request)
+  machine_names_none : (place : ℕ) (ask : Ask) → is_sent ask.request ≡ true → NamesNone (machine here now place ask).reply
+  machine_names_none place ask sent = responds (on_request here now place ask ask.request) (requests place ask ask.request sent)
 
 -- a Serve by the root's server
-root_names_none : (world : World) (h : List Event) (ask_place : ℕ) (given : Reply) → Kept world h → MayServe world h (root_number world) ask_place given → NamesNone given
-root_names_none world h ask_place given kept may =
+root_names_none : (world : World) (h : List Event) (ask_place : ℕ) (given : Reply) → Legal world h → MayServe world h (root_number world) ask_place given → NamesNone given
+root_names_none world h ask_place given legal may =
+    let kept : Kept world h = every_history world h legal in
+    let sent : is_sent may.posted.ask.request ≡ true = (posted_known world ask_place may.posted h legal may.made).sent in
     serves_by (root_site world) (state_of world kept.files) ask_place may.posted.ask given may.after
     (subst (λ (old : State). Serves (root_site world) old ask_place may.posted.ask given may.after) kept.state may.reply)
     (λ wants same. subst NamesNone (sym wants) tt)
-    (λ done. subst NamesNone (sym (ap (λ (r : Response). r.reply) done)) (machine_names_none world kept.files (root_site world) ask_place may.posted.ask))
+    (λ done. subst NamesNone (sym (ap (λ (r : Response). r.reply) done)) (machine_names_none world kept.files (root_site world) ask_place may.posted.ask sent))
 
 -- no server replies that a change is in the way
 serve_names_none : (world : World) (h : List Event) (number ask_place : ℕ) (given : Reply) → Legal world h → MayServe world h number ask_place given → NamesNone given
@@ -173,7 +188,7 @@ serve_names_none world h number ask_place given legal may =
     let to_root : number ≡ root_number world =
     sym may.to ∙ waits_for_root world (client_after world may.posted.ask.from.client h) ask_place may.posted.number may.posted.ask
     (kept.sound may.posted.ask.from.client) (kept.pending ask_place may.posted may.made may.waits) in
-    root_names_none world h ask_place given kept (subst (λ n. MayServe world h n ask_place given) to_root may)
+    root_names_none world h ask_place given legal (subst (λ n. MayServe world h n ask_place given) to_root may)
 
 -- ---- what a client makes of such replies
 

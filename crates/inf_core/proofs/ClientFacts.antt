@@ -9,13 +9,13 @@ use Rattle.inf_base.specs.declared.setup.ClientLine.{ClientLine}
 use Rattle.inf_message.specs.declared.ask.Ask.{Ask}
 use Rattle.inf_message.specs.declared.op.Op.{Op}
 use Rattle.inf_message.specs.declared.step.Message.{Message}
-use Rattle.inf_core.specs.World.{World, root_of}
-use Rattle.inf_core.specs.Client.{Client, Sent, Who, placed, starting}
-use Rattle.inf_core.specs.Duty.{Next, Duty, asks, is_over, waits, ask_of, asked, at_call, begun, next_in, next_of, next_step, given_up}
-use Rattle.inf_core.specs.Group.{composed, composed_stage, first_round, first_stage, group, op_of}
-use Rattle.inf_core.specs.Turn.{next_op}
-use Rattle.inf_core.specs.declared.stage.Stage.{Stage}
-use Rattle.inf_core.specs.declared.stage.Stage.TheVariants as stage
+use Rattle.inf_duty.specs.World.{World, root_of}
+use Rattle.inf_duty.specs.Client.{Client, Sent, Who, placed, starting}
+use Rattle.inf_duty.specs.Duty.{Next, Duty, asks, is_over, waits, ask_of, asked, at_call, begun, next_in, next_of, next_step, given_up}
+use Rattle.inf_duty.specs.Group.{composed, composed_stage, first_round, first_stage, group, op_of}
+use Rattle.inf_duty.specs.Turn.{next_op}
+use Rattle.inf_duty.specs.declared.stage.Stage.{Stage}
+use Rattle.inf_duty.specs.declared.stage.Stage.TheVariants as stage
 use Rattle.inf_core.proofs.ServeOwes.{root_chain}
 
 -- at most one Ask, which is not answered yet

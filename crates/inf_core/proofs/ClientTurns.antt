@@ -9,13 +9,13 @@ use Rattle.inf_message.specs.declared.reply.Reply.{Reply}
 use Rattle.inf_message.specs.declared.reply.Reply.TheVariants as reply
 use Rattle.inf_message.specs.declared.step.Message.{Message}
 use Rattle.inf_message.specs.History.{Told}
-use Rattle.inf_core.specs.World.{World, root_of}
-use Rattle.inf_core.specs.Client.{Client, Sent, Who}
+use Rattle.inf_duty.specs.World.{World, root_of}
+use Rattle.inf_duty.specs.Client.{Client, Sent, Who}
 use Rattle.inf_core.specs.Decisions.{decided_by_turn, decided_call, decided_for}
-use Rattle.inf_core.specs.Group.{group}
-use Rattle.inf_core.specs.Turn.{Turn, after_lookup, begins_again, ends, goes_on, next_op, recorded, served, success_of, told_entry, turn_at, turned, unless_success}
-use Rattle.inf_core.specs.declared.stage.Stage.{Stage}
-use Rattle.inf_core.specs.declared.stage.Stage.TheVariants as stage
+use Rattle.inf_duty.specs.Group.{group}
+use Rattle.inf_duty.specs.Turn.{Turn, after_lookup, begins_again, ends, goes_on, next_op, recorded, served, success_of, told_entry, turn_at, turned, unless_success}
+use Rattle.inf_duty.specs.declared.stage.Stage.{Stage}
+use Rattle.inf_duty.specs.declared.stage.Stage.TheVariants as stage
 use Rattle.inf_core.proofs.ClientFacts.{IsAt, IsOpen, IsSound, Waits, open_at}
 use Rattle.inf_core.proofs.ServeOwes.{IsRootTold, decides}
 use Rattle.inf_message.proofs.HistoryLaws.{itself}

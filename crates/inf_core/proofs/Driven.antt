@@ -1,19 +1,21 @@
 -- What a driver of clients rests on: whom an event changes, that a new place is fresh, and how far the counts go.
 use Rattle.std.proofs.Common.{◌≡◌, ℕ, suc, ◌≤◌, Bool, true, false, cond, eqb, List, [], ◌∷◌, length, slice_get, Option, Some, None, refl, ap, ◌∙◌, arith}
 use Rattle.inf_base.specs.declared.setup.ClientLine.{ClientLine}
-use Rattle.inf_core.specs.Client.{Client, has_place, start, starting}
-use Rattle.inf_core.specs.Duty.{asked, begun}
-use Rattle.inf_core.specs.Legal.{Legal, client_after}
-use Rattle.inf_core.specs.Turn.{Turn, after_record, begins_again, ends, goes_on, recorded, served, turned}
-use Rattle.inf_core.specs.World.{World}
+use Rattle.inf_duty.specs.Client.{Client, has_place, start, starting}
+use Rattle.inf_duty.specs.Duty.{asked, begun}
+use Rattle.inf_core.specs.Legal.{Legal}
+use Rattle.inf_duty.specs.After.{client_after}
+use Rattle.inf_duty.specs.Turn.{Turn, after_record, begins_again, ends, goes_on, recorded, served, turned}
+use Rattle.inf_duty.specs.World.{World}
 use Rattle.inf_message.specs.declared.ask.Ask.{Ask}
 use Rattle.inf_message.specs.declared.event.Event.{Event}
 use Rattle.inf_message.specs.declared.event.Event.TheVariants as event
 use Rattle.inf_message.specs.declared.reply.Reply.{Reply}
 use Rattle.inf_message.specs.History.{Posted, Told, asked_at, told_reply}
 use Rattle.inf_message.proofs.HistoryLaws.{asked_within}
-use Rattle.inf_core.proofs.Placed.{IsAskedBy, waits_for_own}
-use Rattle.inf_core.proofs.ResultFacts.{IsKept, begun_keeps, by_serve, if_both}
+use Rattle.inf_duty.proofs.Placed.{IsAskedBy, waits_for_own}
+use Rattle.inf_duty.proofs.ResultFacts.{IsKept, begun_keeps, if_both}
+use Rattle.inf_core.proofs.ResultFacts.{by_serve}
 
 -- ---- whom a Serve changes
 

@@ -3,7 +3,6 @@ pub mod ClientTurns
 pub mod CoreFacts
 pub mod Ordered
 pub mod Pending
-pub mod Placed
 pub mod Posted
 pub mod Replayed
 pub mod ResultFacts
@@ -14,16 +13,7 @@ pub mod ServeLookup
 pub mod ServeOwes
 pub mod ServeReplays
 pub mod ServeStat
-pub mod MessageFacts
-pub mod PathFacts
-pub mod SendingFacts
-pub mod TurnFacts
-pub mod BegunFacts
-pub mod NextFacts
-pub mod StartFacts
-pub mod OwnFacts
 pub mod OwnHistory
-pub mod StepFacts
 pub mod Driven
 pub mod OwnPlaces
 pub mod CauseFacts

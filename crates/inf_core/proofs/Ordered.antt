@@ -9,13 +9,14 @@ use Rattle.std.proofs.Math.Logic.{⊎_elim}
 use Rattle.inf_base.specs.declared.answer.Answer.TheVariants as answer
 use Rattle.inf_base.specs.declared.call.Call.{Call}
 use Rattle.inf_base.specs.declared.setup.ClientLine.{ClientLine}
-use Rattle.inf_core.specs.World.{World}
-use Rattle.inf_core.specs.Client.{Client, ended, has_place}
+use Rattle.inf_duty.specs.World.{World}
+use Rattle.inf_duty.specs.Client.{Client, ended, has_place}
 use Rattle.inf_core.specs.Decisions.{decided_at, decided_by_turn, decided_for, decided_in, decided_when}
 use Rattle.inf_core.specs.Decisions.{decided_call as decides}
-use Rattle.inf_core.specs.Legal.{client_after}
-use Rattle.inf_core.specs.Outcome.{Agrees, Outcome, OutcomeFrom, all_given_up, decided_of, decisions, in_order, results_of, stands_at, unanswered}
-use Rattle.inf_core.specs.Turn.{Turn, begins_again, ends, goes_on, recorded}
+use Rattle.inf_duty.specs.After.{client_after}
+use Rattle.inf_duty.specs.Outcome.{Agrees, Outcome, OutcomeFrom, all_given_up, in_order, results_of, stands_at, unanswered}
+use Rattle.inf_core.specs.Replayed.{decided_of, decisions}
+use Rattle.inf_duty.specs.Turn.{Turn, begins_again, ends, goes_on, recorded}
 use Rattle.inf_message.specs.declared.ask.Ask.{Ask}
 use Rattle.inf_message.specs.declared.call_result.CallResult.{CallResult}
 use Rattle.inf_message.specs.declared.event.Event.{Event}
@@ -23,8 +24,9 @@ use Rattle.inf_message.specs.declared.event.Event.TheVariants as event
 use Rattle.inf_message.specs.declared.reply.Reply.{Reply}
 use Rattle.inf_message.specs.History.{Posted, Told, asked_at, told_reply}
 use Rattle.inf_tree.specs.Replay.{Decided}
-use Rattle.inf_core.proofs.Placed.{IsAskedBy, counted_same, none_later, reads, ready, served_before, served_newly, waits_for_own}
-use Rattle.inf_core.proofs.ResultFacts.{Shows, all_given_up_keeps, asked_shows, by_serve, calls_of, if_both, shows_kept}
+use Rattle.inf_duty.proofs.Placed.{IsAskedBy, counted_same, none_later, reads, ready, served_before, waits_for_own}
+use Rattle.inf_core.proofs.ResultFacts.{served_newly, by_serve}
+use Rattle.inf_duty.proofs.ResultFacts.{Shows, all_given_up_keeps, asked_shows, calls_of, if_both, shows_kept}
 
 -- ---- calls that have no place
 

@@ -7,16 +7,17 @@ use Rattle.std.proofs.lemmas.List.Sums.{fold-append}
 use Rattle.std.proofs.lemmas.List.{map-append}
 use mathlib.Core.List.{reverse-cons}
 use Rattle.std.proofs.lemmas.Option.{slice_get_past}
-use Rattle.inf_core.specs.Client.{Client, Sent, has_place, start}
-use Rattle.inf_core.specs.Duty.{Duty, asked, asks, begun, next_step}
-use Rattle.inf_core.specs.Group.{group}
-use Rattle.inf_core.specs.Legal.{Legal, MayAsk, MayServe, client_after}
-use Rattle.inf_core.specs.Own.{after_own, client_of, own_asks, own_of}
-use Rattle.inf_core.specs.Sending.{new_sent}
-use Rattle.inf_core.specs.Turn.{served}
-use Rattle.inf_core.specs.World.{World}
-use Rattle.inf_core.proofs.NextFacts.{quiet}
-use Rattle.inf_core.proofs.Placed.{IsReady, ready, waits_for_own}
+use Rattle.inf_duty.specs.Client.{Client, Sent, has_place, start}
+use Rattle.inf_duty.specs.Duty.{Duty, asked, asks, begun, next_step}
+use Rattle.inf_duty.specs.Group.{group}
+use Rattle.inf_core.specs.Legal.{Legal, MayAsk, MayServe}
+use Rattle.inf_duty.specs.After.{client_after}
+use Rattle.inf_duty.specs.Own.{after_own, client_of, own_asks, own_of}
+use Rattle.inf_duty.specs.Sending.{new_sent}
+use Rattle.inf_duty.specs.Turn.{served}
+use Rattle.inf_duty.specs.World.{World}
+use Rattle.inf_duty.proofs.NextFacts.{quiet}
+use Rattle.inf_duty.proofs.Placed.{IsReady, ready, waits_for_own}
 use Rattle.inf_message.specs.declared.ask.Ask.{Ask}
 use Rattle.inf_message.specs.declared.event.Event.{Event}
 use Rattle.inf_message.specs.declared.event.Event.TheVariants as event

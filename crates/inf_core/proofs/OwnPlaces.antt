@@ -3,12 +3,13 @@ use Rattle.std.proofs.Common.{◌≡◌, ◌≢◌, ℕ, zero, suc, ◌+◌, ◌
 use Rattle.std.proofs.lemmas.Bool.{cases_eq, cases_lt}
 use Rattle.std.proofs.lemmas.List.Elements.{filter-append}
 use Rattle.inf_base.specs.declared.setup.ClientLine.{ClientLine}
-use Rattle.inf_core.specs.World.{World}
-use Rattle.inf_core.specs.Client.{Client}
-use Rattle.inf_core.specs.Legal.{Legal, client_after}
-use Rattle.inf_core.specs.Outcome.{Outcome, is_place, stands_at}
-use Rattle.inf_core.specs.Places.{HaveOwnPlaces}
-use Rattle.inf_core.specs.Turn.{Turn, begins_again, ends, goes_on, recorded, served, turned}
+use Rattle.inf_duty.specs.World.{World}
+use Rattle.inf_duty.specs.Client.{Client}
+use Rattle.inf_core.specs.Legal.{Legal}
+use Rattle.inf_duty.specs.After.{client_after}
+use Rattle.inf_duty.specs.Outcome.{Outcome, is_place, stands_at}
+use Rattle.inf_duty.specs.Places.{HaveOwnPlaces}
+use Rattle.inf_duty.specs.Turn.{Turn, begins_again, ends, goes_on, recorded, served, turned}
 use Rattle.inf_message.specs.declared.call_result.CallResult.{CallResult}
 use Rattle.inf_message.specs.declared.event.Event.{Event}
 use Rattle.inf_message.specs.declared.event.Event.TheVariants as event
@@ -16,8 +17,9 @@ use Rattle.inf_message.specs.History.{Told, told_reply}
 use Rattle.inf_message.proofs.HistoryLaws.{itself}
 use Rattle.inf_core.proofs.Driven.{others_stay}
 use Rattle.inf_core.proofs.Ordered.{ask_shows, outcome_at, serve_shows, shown, shown_later, shown_same}
-use Rattle.inf_core.proofs.Placed.{none_later, starting_shows}
-use Rattle.inf_core.proofs.ResultFacts.{by_serve, if_both}
+use Rattle.inf_duty.proofs.Placed.{none_later, starting_shows}
+use Rattle.inf_duty.proofs.ResultFacts.{if_both}
+use Rattle.inf_core.proofs.ResultFacts.{by_serve}
 
 -- ---- one client
 

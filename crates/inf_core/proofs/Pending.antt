@@ -7,11 +7,12 @@ use Rattle.inf_message.specs.declared.event.Event.{Event}
 use Rattle.inf_message.specs.declared.event.Event.TheVariants as event
 use Rattle.inf_message.specs.declared.reply.Reply.{Reply}
 use Rattle.inf_message.specs.History.{Posted, asked_at, is_served, posted_ask, told_reply}
-use Rattle.inf_core.specs.World.{World}
-use Rattle.inf_core.specs.Client.{Client}
-use Rattle.inf_core.specs.Duty.{asked}
-use Rattle.inf_core.specs.Legal.{MayAsk, client_after}
-use Rattle.inf_core.specs.Turn.{served}
+use Rattle.inf_duty.specs.World.{World}
+use Rattle.inf_duty.specs.Client.{Client}
+use Rattle.inf_duty.specs.Duty.{asked}
+use Rattle.inf_core.specs.Legal.{MayAsk}
+use Rattle.inf_duty.specs.After.{client_after}
+use Rattle.inf_duty.specs.Turn.{served}
 use Rattle.inf_core.proofs.ClientFacts.{Begun, IsSound, Waits, ask_begins, sound_start}
 use Rattle.inf_core.proofs.ClientTurns.{served_sound, unaffected}
 use Rattle.inf_core.proofs.ServeOwes.{IsRootTold}

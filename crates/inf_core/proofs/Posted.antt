@@ -1,5 +1,5 @@
--- The Asks of a legal history: servers know what is asked for, and a server that there is is asked.
-use Rattle.std.proofs.Common.{◌≡◌, ℕ, zero, suc, ◌<◌, ◌≤◌, true, eqb, List, [], ◌∷◌, length, slice_get, Option, None, Some, IfSome, refl, sym, subst, arith, rules}
+-- The Asks of a legal history: clients send few kinds of request, which servers know, and a server that there is is asked.
+use Rattle.std.proofs.Common.{◌≡◌, ℕ, zero, suc, ◌<◌, ◌≤◌, Bool, true, false, eqb, List, [], ◌∷◌, length, slice_get, Option, None, Some, IfSome, refl, sym, subst, arith, rules}
 use Rattle.inf_base.specs.declared.call.Call.{Call}
 use Rattle.inf_base.specs.declared.call.Call.TheVariants as call
 use Rattle.inf_base.specs.declared.answer.Answer.{Answer}
@@ -7,18 +7,20 @@ use Rattle.inf_base.specs.declared.entry.Entry.{Entry}
 use Rattle.inf_base.specs.declared.key.LookKey.TheVariants as look
 use Rattle.inf_base.specs.declared.setup.ClientLine.{ClientLine}
 use Rattle.inf_base.specs.Path.{path_of}
-use Rattle.inf_core.specs.World.{World}
-use Rattle.inf_core.specs.Client.{Client, Who, starting}
-use Rattle.inf_core.specs.Duty.{asks, ask_of, asked, begun, next_in, next_of}
-use Rattle.inf_core.specs.Group.{composed_stage, create_op, first_round, first_stage, group, only_name, op_of, stat_op}
-use Rattle.inf_core.specs.Legal.{Legal, MayAsk, client_after}
-use Rattle.inf_core.specs.Turn.{Turn, act_with, after_lookup, begins_again, ends, first_told, goes_on, next_op, recorded, served, success_of, turn_at, turned, unless_success}
-use Rattle.inf_core.specs.declared.stage.Stage.{Stage}
-use Rattle.inf_core.specs.declared.stage.Stage.TheVariants as stage
+use Rattle.inf_duty.specs.World.{World}
+use Rattle.inf_duty.specs.Client.{Client, Who, starting}
+use Rattle.inf_duty.specs.Duty.{asks, ask_of, asked, begun, next_in, next_of}
+use Rattle.inf_duty.specs.Group.{composed_stage, create_op, first_round, first_stage, group, only_name, op_of, stat_op}
+use Rattle.inf_core.specs.Legal.{Legal, MayAsk}
+use Rattle.inf_duty.specs.After.{client_after}
+use Rattle.inf_duty.specs.Turn.{Turn, act_with, after_lookup, begins_again, ends, first_told, goes_on, next_op, recorded, served, success_of, turn_at, turned, unless_success}
+use Rattle.inf_duty.specs.declared.stage.Stage.{Stage}
+use Rattle.inf_duty.specs.declared.stage.Stage.TheVariants as stage
 use Rattle.inf_message.specs.declared.ask.Ask.{Ask}
 use Rattle.inf_message.specs.declared.event.Event.{Event}
 use Rattle.inf_message.specs.declared.event.Event.TheVariants as event
 use Rattle.inf_message.specs.declared.op.Op.{Op}
+use Rattle.inf_message.specs.declared.op.Op.TheVariants as op
 use Rattle.inf_message.specs.declared.reply.Reply.{Reply}
 use Rattle.inf_message.specs.declared.reply.Reply.TheVariants as reply
 use Rattle.inf_message.specs.declared.request.Request.{Request}
@@ -28,18 +30,42 @@ use Rattle.inf_message.specs.History.{Posted, Told, asked_at, posted_ask, told_r
 use Rattle.inf_message.proofs.HistoryLaws.{by_test}
 use Rattle.inf_server.specs.Chains.{HasShortChains}
 use Rattle.inf_server.specs.Machine.{is_built, is_built_op}
-use Rattle.inf_core.proofs.ResultFacts.{IsKept, begun_keeps, by_serve, if_both}
+use Rattle.inf_duty.proofs.ResultFacts.{IsKept, begun_keeps, if_both}
+use Rattle.inf_core.proofs.ResultFacts.{by_serve}
+
+-- ---- the kinds of request that clients send
+
+abbrev pub is_sent_op : Op → Bool
+is_sent_op (op.Create name mode) = true
+is_sent_op (op.Stat name) = true
+is_sent_op other_op = false
+
+abbrev pub is_sent : Request → Bool
+is_sent (request.Lookup look.Top) = true
+is_sent (request.Finish chain asked) = is_sent_op asked
+is_sent other_request = false
+
+op_is_built : (asked : Op) → is_sent_op asked ≡ true → is_built_op asked ≡ true
+op_is_built (op.Create name mode) sent = refl
+op_is_built (op.Stat name) sent = refl
+op_is_built other_op sent = absurd (cc)
+
+-- servers know them
+pub sent_is_built : (asked : Request) → is_sent asked ≡ true → is_built asked ≡ true
+sent_is_built (request.Lookup look.Top) sent = refl
+sent_is_built (request.Finish chain asked) sent = op_is_built asked sent
+sent_is_built other_request sent = absurd (cc)
 
 -- ---- what a client asks for next
 
--- the round looks up the root; what decides is of a kind that is built, and carries one entry at most
+-- the round looks up the root; what decides is of a kind that clients send, and carries one entry at most
 abbrev pub IsKnownStage : Stage → Type 0
 IsKnownStage stage.Compose = Unit {0}
 IsKnownStage (stage.Round keys) = keys ≡ look.Top ∷ []
-IsKnownStage (stage.Act chain asked) = (length chain ≤ 1) × (is_built_op asked ≡ true)
+IsKnownStage (stage.Act chain asked) = (length chain ≤ 1) × (is_sent_op asked ≡ true)
 
 abbrev IsKnownOp : Option Op → Type 0
-IsKnownOp asked = IfSome asked (λ op. is_built_op op ≡ true)
+IsKnownOp asked = IfSome asked (λ op. is_sent_op op ≡ true)
 
 create_known : (mode : ℕ) (name : Option (List ℕ)) → IsKnownOp (create_op mode name)
 create_known mode None = tt
@@ -156,7 +182,7 @@ knows_after world client (event.Serve number ask_place given ∷ h) =
 
 -- what servers may be asked, of so many beside the coordinator
 pub record IsKnown (servers number : ℕ) (asked : Request) : Type 0 where
-  pub built : is_built asked ≡ true
+  pub sent : is_sent asked ≡ true
   pub short_chains : HasShortChains asked
   pub there : 1 ≤ servers → number < servers
 
@@ -174,9 +200,9 @@ group_known : (who : Who) (next : Stage) → IsKnownStage next → AreKnown who.
 group_known who stage.Compose known = tt
 group_known who (stage.Round keys) known =
     subst (λ k. AreKnown who.servers (group who (stage.Round k))) (sym known)
-    (record { built = refl; short_chains = no_chains; there = λ some. omega arith }, tt)
+    (record { sent = refl; short_chains = no_chains; there = λ some. omega arith }, tt)
 group_known who (stage.Act chain asked) known =
-    (record { built = known.1; short_chains = one_chain chain asked known.0; there = λ some. omega arith }, tt)
+    (record { sent = known.1; short_chains = one_chain chain asked known.0; there = λ some. omega arith }, tt)
 
 message_known : (servers index : ℕ) (messages : List Message) (message : Message) → AreKnown servers messages → slice_get messages index ≡ Some message → IsKnown servers message.number message.request
 message_known servers index [] message known found = absurd (cc)

@@ -1,8 +1,8 @@
 -- Every legal history replays: what its Serves decide replays, and that is what its outcomes show in order of place.
 use Rattle.std.proofs.Common.{◌≡◌, List, reverse, subst, sym}
 use Rattle.inf_core.specs.Legal.{Legal}
-use Rattle.inf_core.specs.Outcome.{AllReplay}
-use Rattle.inf_core.specs.World.{World}
+use Rattle.inf_core.specs.Replayed.{AllReplay}
+use Rattle.inf_duty.specs.World.{World}
 use Rattle.inf_core.proofs.Ordered.{outcome_is_decided}
 use Rattle.inf_core.proofs.ServeReplays.{every_history}
 use Rattle.inf_message.specs.declared.event.Event.{Event}

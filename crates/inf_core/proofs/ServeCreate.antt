@@ -23,12 +23,12 @@ use Rattle.inf_server.specs.Response.{Response}
 use Rattle.inf_server.specs.State.{State}
 use Rattle.inf_tree.specs.Apply.{Applied, apply}
 use Rattle.inf_tree.specs.Tree.{file}
-use Rattle.inf_core.specs.World.{World, root_of}
-use Rattle.inf_core.specs.Client.{Client}
-use Rattle.inf_core.specs.Duty.{ask_of}
-use Rattle.inf_core.specs.declared.stage.Stage.TheVariants as stage
+use Rattle.inf_duty.specs.World.{World}
+use Rattle.inf_duty.specs.Client.{Client, call_ref}
+use Rattle.inf_duty.specs.Duty.{ask_of}
+use Rattle.inf_duty.specs.declared.stage.Stage.TheVariants as stage
 use Rattle.inf_tree.proofs.FlatFiles.{entries_of-insert_entry, found-entries_of}
-use Rattle.inf_core.proofs.RootState.{Files, bytes_same, lookup-slots_of, root_number, root_site, serves_by, slot_of_file, slots_of-insert_entry, state_of, tree_of_files}
+use Rattle.inf_core.proofs.RootState.{Files, bytes_same, root_found, root_number, root_site, root_with_file, serves_by, state_of, tree_of_files}
 use Rattle.inf_core.proofs.ServeOwes.{Owes, owes_nothing, owes_one, root_chain, root_lets}
 use Rattle.inf_message.proofs.HistoryLaws.{itself}
 
@@ -75,8 +75,8 @@ module _ (world : World) (files : Files) (s : Client) (ask_place place : ℕ) (k
   taken : (meta : FileMeta) → path_of path ≡ Ok (name ∷ []) → root_lets s.who.caller want.Search ≡ true → root_lets s.who.caller want.Write ≡ true → standing ≡ Some meta → Agree (refuses errno.EEXIST) (is_refused errno.EEXIST)
   taken meta names searches writes stands = record {
     server =
-        let slot = lookup-slots_of name files ∙ ap (option_map slot_of_file) stands in
-        rw (itself (root_number world), bytes_same, searches, writes, slot) refl;
+        let found = root_found world files name (call_ref s) (Some meta) stands in
+        rw (itself (root_number world), bytes_same, searches, writes, found) refl;
     tree =
         let node = found-entries_of name files ∙ ap (option_map file) stands in
         rw (names, searches, writes, node) refl;
@@ -85,8 +85,8 @@ module _ (world : World) (files : Files) (s : Client) (ask_place place : ℕ) (k
   free : path_of path ≡ Ok (name ∷ []) → root_lets s.who.caller want.Search ≡ true → root_lets s.who.caller want.Write ≡ true → standing ≡ None → Agree (record { reply = reply.Fine; state = state_of world files_with }) (record { answer = answer.Done; tree = tree_of_files files_with })
   free names searches writes stands = record {
     server =
-        let slot = lookup-slots_of name files ∙ ap (option_map slot_of_file) stands in
-        rw (itself (root_number world), bytes_same, searches, writes, slot, slots_of-insert_entry files name new_meta, bytes_same (root_of world).bytes) refl;
+        let found = root_found world files name (call_ref s) None stands in
+        rw (itself (root_number world), bytes_same, searches, writes, found, root_with_file world files name new_meta) refl;
     tree =
         let node = found-entries_of name files ∙ ap (option_map file) stands in
         rw (names, searches, writes, node, entries_of-insert_entry files name new_meta) refl;

@@ -17,13 +17,13 @@ use Rattle.inf_message.specs.declared.request.Request.TheVariants as request
 use Rattle.inf_message.specs.declared.step.Message.{Message}
 use Rattle.inf_server.specs.Machine.{Serves}
 use Rattle.inf_server.specs.State.{State}
-use Rattle.inf_core.specs.World.{World, root_of}
-use Rattle.inf_core.specs.Client.{Client}
-use Rattle.inf_core.specs.Duty.{ask_of}
-use Rattle.inf_core.specs.Group.{create_op, group, last_id, only_name, op_of, stat_op}
-use Rattle.inf_core.specs.Turn.{next_op}
-use Rattle.inf_core.specs.declared.stage.Stage.{Stage}
-use Rattle.inf_core.specs.declared.stage.Stage.TheVariants as stage
+use Rattle.inf_duty.specs.World.{World, root_of}
+use Rattle.inf_duty.specs.Client.{Client}
+use Rattle.inf_duty.specs.Duty.{ask_of}
+use Rattle.inf_duty.specs.Group.{create_op, group, last_id, only_name, op_of, stat_op}
+use Rattle.inf_duty.specs.Turn.{next_op}
+use Rattle.inf_duty.specs.declared.stage.Stage.{Stage}
+use Rattle.inf_duty.specs.declared.stage.Stage.TheVariants as stage
 use Rattle.inf_core.proofs.ClientFacts.{IsAt, IsSound, Waits}
 use Rattle.inf_core.proofs.RootState.{Files, root_number, root_site, state_of}
 use Rattle.inf_core.proofs.ServeCreate.{create_owes}

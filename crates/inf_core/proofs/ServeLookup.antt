@@ -9,12 +9,12 @@ use Rattle.inf_message.specs.declared.request.Request.TheVariants as request
 use Rattle.inf_server.specs.Machine.{Serves, machine}
 use Rattle.inf_server.specs.Response.{Response}
 use Rattle.inf_server.specs.State.{State, root_access}
-use Rattle.inf_core.specs.World.{World}
-use Rattle.inf_core.specs.Client.{Client}
+use Rattle.inf_duty.specs.World.{World}
+use Rattle.inf_duty.specs.Client.{Client}
 use Rattle.inf_core.specs.Decisions.{decided_by_turn}
-use Rattle.inf_core.specs.Duty.{ask_of}
-use Rattle.inf_core.specs.Turn.{after_lookup, next_op}
-use Rattle.inf_core.specs.declared.stage.Stage.TheVariants as stage
+use Rattle.inf_duty.specs.Duty.{ask_of}
+use Rattle.inf_duty.specs.Turn.{after_lookup, next_op}
+use Rattle.inf_duty.specs.declared.stage.Stage.TheVariants as stage
 use Rattle.inf_core.proofs.RootState.{Files, root_number, root_site, serves_by, state_of}
 use Rattle.inf_core.proofs.ServeOwes.{Owes, owes_nothing}
 use Rattle.inf_message.proofs.HistoryLaws.{itself}

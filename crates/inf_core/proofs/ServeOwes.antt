@@ -13,10 +13,10 @@ use Rattle.inf_base.specs.declared.caller.Caller.{Caller}
 use Rattle.inf_server.specs.State.{State, root_access}
 use Rattle.inf_tree.specs.Apply.{apply}
 use Rattle.inf_tree.specs.Replay.{Decided, Passes, Replays, replayed, tree_after}
-use Rattle.inf_core.specs.World.{World}
-use Rattle.inf_core.specs.Client.{Client}
+use Rattle.inf_duty.specs.World.{World}
+use Rattle.inf_duty.specs.Client.{Client}
 use Rattle.inf_core.specs.Decisions.{decided_by_turn}
-use Rattle.inf_core.specs.Turn.{told_entry, turn_at}
+use Rattle.inf_duty.specs.Turn.{told_entry, turn_at}
 use Rattle.inf_core.proofs.RootState.{Files, root_site, state_of, tree_of_files}
 
 -- the root's entry, as it was told at this place

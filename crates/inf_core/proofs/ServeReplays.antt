@@ -10,10 +10,11 @@ use Rattle.inf_server.specs.State.{State}
 use Rattle.inf_tree.specs.Apply.{apply}
 use Rattle.inf_tree.specs.Replay.{Decided, Replays, replayed, tree_after}
 use Rattle.inf_tree.specs.Tree.{Node, opening_tree}
-use Rattle.inf_core.specs.World.{World}
-use Rattle.inf_core.specs.Client.{Client}
+use Rattle.inf_duty.specs.World.{World}
+use Rattle.inf_duty.specs.Client.{Client}
 use Rattle.inf_core.specs.Decisions.{decided_at, decided_in}
-use Rattle.inf_core.specs.Legal.{Legal, MayAsk, MayServe, client_after, server_after}
+use Rattle.inf_core.specs.Legal.{Legal, MayAsk, MayServe, server_after}
+use Rattle.inf_duty.specs.After.{client_after}
 use Rattle.inf_core.proofs.ClientTurns.{decides_when}
 use Rattle.inf_core.proofs.Pending.{ArePending, AreSound, pending_ask, pending_nothing, pending_serve, sound_ask, sound_nothing, sound_serve}
 use Rattle.inf_core.proofs.RootState.{Files, opening_is, root_number, root_site, state_goes_on, state_of, tree_of_files}

@@ -25,12 +25,12 @@ use Rattle.inf_server.specs.Response.{Response}
 use Rattle.inf_server.specs.State.{State}
 use Rattle.inf_tree.specs.Apply.{Applied, apply}
 use Rattle.inf_tree.specs.Tree.{file}
-use Rattle.inf_core.specs.World.{World}
-use Rattle.inf_core.specs.Client.{Client}
-use Rattle.inf_core.specs.Duty.{ask_of}
-use Rattle.inf_core.specs.declared.stage.Stage.TheVariants as stage
+use Rattle.inf_duty.specs.World.{World}
+use Rattle.inf_duty.specs.Client.{Client, call_ref}
+use Rattle.inf_duty.specs.Duty.{ask_of}
+use Rattle.inf_duty.specs.declared.stage.Stage.TheVariants as stage
 use Rattle.inf_tree.proofs.FlatFiles.{found-entries_of}
-use Rattle.inf_core.proofs.RootState.{Files, bytes_same, lookup-slots_of, root_number, root_site, serves_by, slot_of_file, state_of, tree_of_files}
+use Rattle.inf_core.proofs.RootState.{Files, bytes_same, root_found, root_number, root_site, serves_by, state_of, tree_of_files}
 use Rattle.inf_core.proofs.ServeOwes.{Owes, owes_nothing, owes_one, root_chain, root_lets}
 use Rattle.inf_message.proofs.HistoryLaws.{itself}
 
@@ -59,8 +59,8 @@ module _ (world : World) (files : Files) (s : Client) (ask_place place : ℕ) (k
   missing : path_of path ≡ Ok (name ∷ []) → root_lets s.who.caller want.Search ≡ true → standing ≡ None → Agree (reply.Refused errno.ENOENT) (answer.Refused errno.ENOENT)
   missing names searches stands = record {
     server =
-        let slot = lookup-slots_of name files ∙ ap (option_map slot_of_file) stands in
-        rw (itself (root_number world), bytes_same, searches, slot) refl;
+        let found = root_found world files name (call_ref s) None stands in
+        rw (itself (root_number world), bytes_same, searches, found) refl;
     tree =
         let node = found-entries_of name files ∙ ap (option_map file) stands in
         rw (names, searches, node) refl;
@@ -69,8 +69,8 @@ module _ (world : World) (files : Files) (s : Client) (ask_place place : ℕ) (k
   seen : (meta : FileMeta) → path_of path ≡ Ok (name ∷ []) → root_lets s.who.caller want.Search ≡ true → standing ≡ Some meta → Agree (reply.Stat kind.File meta) (answer.Stat kind.File meta)
   seen meta names searches stands = record {
     server =
-        let slot = lookup-slots_of name files ∙ ap (option_map slot_of_file) stands in
-        rw (itself (root_number world), bytes_same, searches, slot) refl;
+        let found = root_found world files name (call_ref s) (Some meta) stands in
+        rw (itself (root_number world), bytes_same, searches, found) refl;
     tree =
         let node = found-entries_of name files ∙ ap (option_map file) stands in
         rw (names, searches, node) refl;

@@ -3,7 +3,7 @@ use Rattle.std.specs.Prelude.{◌≡◌, ◌≢◌, ℕ, suc, nat_lt, true, if�
 use Rattle.inf_base.specs.declared.caller.CallRef.{CallRef}
 use Rattle.inf_core.specs.Flight.{InFlight, touches}
 use Rattle.inf_core.specs.Legal.{server_after}
-use Rattle.inf_core.specs.World.{World}
+use Rattle.inf_duty.specs.World.{World}
 use Rattle.inf_message.specs.declared.call_result.CallResult.{CallResult}
 use Rattle.inf_message.specs.declared.event.Event.{Event}
 use Rattle.inf_message.specs.declared.event.Event.TheVariants as event

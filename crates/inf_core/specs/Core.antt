@@ -2,7 +2,7 @@
 use Rattle.std.specs.Prelude.{◌≡◌, ℕ, suc, ◌+◌, ◌<◌, ◌≤◌, Bool, List, ◌∷◌, length, slice_get, slice_set, Some}
 use Rattle.inf_base.specs.declared.id.Id.{Id}
 use Rattle.inf_base.specs.declared.setup.Setup.{Setup}
-use Rattle.inf_core.specs.World.{World}
+use Rattle.inf_duty.specs.World.{World, world_by}
 use Rattle.inf_core.specs.Legal.{Legal, MayServe, server_after}
 use Rattle.inf_message.specs.declared.ask.Ask.{Ask}
 use Rattle.inf_message.specs.declared.event.Event.{Event}
@@ -18,12 +18,9 @@ pub record Running (R : Type 0) : Type 0 where
   pub setup : Setup
   pub history : List Event
 
-abbrev pub world : Setup → (List ℕ → Id) → World
-world setup digest = record { setup = setup; digest = digest }
-
 -- what the events rest on, where `digest_of` says what rules answer
 abbrev pub world_in : {R : Type 0} → (R → List ℕ → Id) → Running R → World
-world_in digest_of core = world core.setup (digest_of core.rule)
+world_in digest_of core = world_by (digest_of core.rule) core.setup
 
 -- events join, and nothing else changes
 pub record IsSameRun {R : Type 0} (old new : Running R) : Type 0 where

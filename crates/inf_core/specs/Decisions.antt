@@ -2,10 +2,10 @@
 use Rattle.std.specs.Prelude.{ℕ, suc, Bool, true, false, List, [], ◌∷◌, ◌++◌, length, Option, Some, None}
 use Rattle.inf_base.specs.declared.answer.Answer.{Answer}
 use Rattle.inf_base.specs.declared.call.Call.{Call}
-use Rattle.inf_core.specs.Client.{Client, has_place}
-use Rattle.inf_core.specs.Legal.{client_after}
-use Rattle.inf_core.specs.Turn.{Turn, goes_on, ends, begins_again, first_told, is_complete, recorded, turn_at}
-use Rattle.inf_core.specs.World.{World}
+use Rattle.inf_duty.specs.Client.{Client, has_place}
+use Rattle.inf_duty.specs.After.{client_after}
+use Rattle.inf_duty.specs.Turn.{Turn, goes_on, ends, begins_again, first_told, is_complete, recorded, turn_at}
+use Rattle.inf_duty.specs.World.{World}
 use Rattle.inf_message.specs.declared.event.Event.{Event}
 use Rattle.inf_message.specs.declared.event.Event.TheVariants as event
 use Rattle.inf_message.specs.History.{Posted, Told, asked_at, told_reply}

@@ -8,8 +8,11 @@ use Rattle.inf_base.specs.declared.key.LookKey.TheVariants as look
 use Rattle.inf_base.specs.Changes.{AdmittedChange}
 use Rattle.inf_base.specs.Content.{Content, Hold, Slot, TopAccess, reserved, file, directory}
 use Rattle.inf_base.specs.Marks.{Mark}
+use Rattle.inf_base.specs.Same.{dir_of, is_same_call, is_same_dir}
+use Rattle.inf_content.specs.Contents.{content_at}
+use Rattle.inf_content.specs.Slots.{slot_in}
 use Rattle.inf_core.specs.Legal.{server_after}
-use Rattle.inf_core.specs.World.{World}
+use Rattle.inf_duty.specs.World.{World}
 use Rattle.inf_message.specs.declared.event.Event.{Event}
 use Rattle.inf_message.specs.declared.event.Event.TheVariants as event
 use Rattle.inf_message.specs.declared.op.Op.{Op}
@@ -20,9 +23,8 @@ use Rattle.inf_message.specs.declared.reply.Spot.TheVariants as spot
 use Rattle.inf_message.specs.declared.request.Request.{Request}
 use Rattle.inf_message.specs.declared.request.Request.TheVariants as request
 use Rattle.inf_message.specs.History.{Posted, asked_at}
-use Rattle.inf_server.specs.Checks.{dir_of, is_same_call, last_of}
-use Rattle.inf_server.specs.Slots.{slot_of}
-use Rattle.inf_server.specs.State.{State, content_of, is_same_dir}
+use Rattle.inf_server.specs.Chains.{last_of}
+use Rattle.inf_server.specs.State.{State}
 
 abbrev pub holds : CallRef → Option Hold → Bool
 holds by None = false
@@ -91,13 +93,13 @@ slot_taken by (Some slot) = is_taken by slot
 
 abbrev pub name_taken : CallRef → List ℕ → Option Content → Bool
 name_taken by name None = false
-name_taken by name (Some content) = slot_taken by (slot_of name content)
+name_taken by name (Some content) = slot_taken by (slot_in name content.slots)
 
 abbrev pub asked_content : State → Option Entry → Option Content
 asked_content state None = None
-asked_content state (Some entry) = content_of (dir_of entry) state.contents
+asked_content state (Some entry) = content_at (dir_of entry.access) state.contents
 
--- the name that the deciding message asks for, of the kinds that are built
+-- the name that the deciding message asks for, of the kinds that clients send
 abbrev pub asked_name : Op → Option (List ℕ)
 asked_name (op.Create name mode) = Some name
 asked_name (op.Stat name) = Some name

@@ -1,28 +1,20 @@
 -- Histories in which each client does its duty and each server replies as its machine does.
-use Rattle.std.specs.Prelude.{◌≡◌, ℕ, suc, ◌<◌, ◌==◌, false, if◌then◌else◌, List, [], ◌∷◌, length, Some}
-use Rattle.inf_core.specs.World.{World, site_of}
-use Rattle.inf_core.specs.Client.{Client, start}
-use Rattle.inf_core.specs.Duty.{Duty, asked}
-use Rattle.inf_core.specs.Turn.{served}
+use Rattle.std.specs.Prelude.{◌≡◌, ℕ, ◌<◌, false, List, [], ◌∷◌, length, Some}
+use Rattle.inf_duty.specs.After.{client_after}
+use Rattle.inf_duty.specs.World.{World}
+use Rattle.inf_core.specs.Sites.{site_of}
+use Rattle.inf_duty.specs.Duty.{Duty}
 use Rattle.inf_message.specs.declared.ask.Ask.{Ask}
 use Rattle.inf_message.specs.declared.event.Event.{Event}
 use Rattle.inf_message.specs.declared.event.Event.TheVariants as event
 use Rattle.inf_message.specs.declared.reply.Reply.{Reply}
-use Rattle.inf_message.specs.History.{Posted, asked_at, is_served, serves_of, told_reply}
+use Rattle.inf_message.specs.History.{Posted, asked_at, is_served, serves_of}
 use Rattle.inf_server.specs.Machine.{Serves, state_after}
 use Rattle.inf_server.specs.State.{State}
 
 -- the state of a server after its own Serves
 abbrev pub server_after : World → ℕ → List Event → State
 server_after world number h = state_after (site_of world number) (serves_of number h)
-
--- the state of a client after its own Asks, and the Serves of these
-abbrev pub client_after : World → ℕ → List Event → Client
-client_after world client [] = start world client
-client_after world client (event.Ask number ask ∷ h) =
-    if ask.from.client == client then asked (suc (length h)) ask (client_after world client h) else client_after world client h
-client_after world client (event.Serve number ask_place given ∷ h) =
-    served ask_place (told_reply (suc (length h)) given) (client_after world client h)
 
 -- the client is there, and does its duty
 pub record MayAsk (world : World) (h : List Event) (number : ℕ) (ask : Ask) : Type 0 where

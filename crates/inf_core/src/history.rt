@@ -1,9 +1,10 @@
 //! The history as it grows, with the servers as it leaves them.
 
 ghost use Rattle.std.specs.Prelude.{◌≡◌, ◌≢◌, suc, ◌+◌, ◌<◌, ◌≤◌, true, false, [], ◌∷◌, ◌++◌, length, reverse, slice_get, Some, IsSome, IfOk, OnOk, OnErr, vec_len, vec_capacity};
-ghost use Rattle.inf_core.specs.Core.{AreStanding, IsSameRun, IsServedBy, IsServedNext, world, world_in};
+ghost use Rattle.inf_core.specs.Core.{AreStanding, IsSameRun, IsServedBy, IsServedNext, world_in};
+ghost use Rattle.inf_duty.specs.World.{world_by};
 ghost use Rattle.inf_core.specs.Legal.{Legal, MayAsk};
-ghost use Rattle.inf_core.specs.Outcome.{AllReplay};
+ghost use Rattle.inf_core.specs.Replayed.{AllReplay};
 ghost use Rattle.inf_message.specs.declared.event.Event.TheVariants as event;
 ghost use Rattle.inf_message.specs.declared.reply.Reply.TheVariants as reply;
 ghost use Rattle.inf_message.specs.History.{asked_at, is_served, posted_ask};
@@ -34,13 +35,14 @@ pub struct Core<R: IdRule> {
 
 impl<R: IdRule> Model for Core<R> {
     ghost use Rattle.std.specs.Prelude.{reverse};
-    ghost use Rattle.inf_core.specs.Core.{IsKept, Running, world};
+    ghost use Rattle.inf_core.specs.Core.{IsKept, Running};
+    ghost use Rattle.inf_duty.specs.World.{world_by};
 
     ghost Value = { Running R };
 
     ghost view = { λ c. record { rule = c.rule; setup = c.setup; history = reverse c.events.items } };
 
-    ghost invariant = { λ c. IsKept (world c.setup (R.digest_of c.rule)) c.rule c.servers.items
+    ghost invariant = { λ c. IsKept (world_by (R.digest_of c.rule) c.setup) c.rule c.servers.items
         (reverse c.events.items) c.served.items };
 }
 
@@ -144,7 +146,7 @@ fn open_servers<R: IdRule>(
     setup: &Setup,
 ) -> Result<Vec<Server<R>>, NoMemory>
     requires { 1 ≤ setup.now.servers }
-    ensures { IfOk result (λ servers. AreStanding (world setup.now (R.digest_of rule)) rule []
+    ensures { IfOk result (λ servers. AreStanding (world_by (R.digest_of rule) setup.now) rule []
         (setup.now.servers + 1) servers.items) }
 {
     let mut servers = Vec::new(alloc);

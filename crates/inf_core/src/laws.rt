@@ -4,12 +4,15 @@ ghost use Rattle.std.specs.Prelude.{◌≡◌, ◌≢◌, ◌≤◌, ℕ, suc, f
 ghost use Rattle.inf_base.specs.declared.answer.Answer.TheVariants as answer;
 ghost use Rattle.inf_base.specs.declared.caller.CallRef.{CallRef};
 ghost use Rattle.inf_core.specs.Causes.{IsAgainBecause};
-ghost use Rattle.inf_core.specs.Client.{has_place};
+ghost use Rattle.inf_duty.specs.Client.{has_place};
 ghost use Rattle.inf_core.specs.Decisions.{decided_in};
-ghost use Rattle.inf_core.specs.Legal.{Legal, client_after};
-ghost use Rattle.inf_core.specs.Outcome.{AllReplay, Outcome, decisions};
-ghost use Rattle.inf_core.specs.Places.{HaveOwnPlaces};
-ghost use Rattle.inf_core.specs.World.{World};
+ghost use Rattle.inf_core.specs.Legal.{Legal};
+ghost use Rattle.inf_duty.specs.After.{client_after};
+ghost use Rattle.inf_core.specs.Replayed.{AllReplay, decisions};
+ghost use Rattle.inf_duty.specs.Own.{client_of, own_asks};
+ghost use Rattle.inf_duty.specs.Outcome.{Outcome};
+ghost use Rattle.inf_duty.specs.Places.{HaveOwnPlaces};
+ghost use Rattle.inf_duty.specs.World.{World};
 ghost use Rattle.inf_message.specs.declared.call_result.CallResult.{CallResult};
 ghost use Rattle.inf_message.specs.declared.event.Event.{Event};
 ghost use Rattle.inf_message.specs.declared.event.Event.TheVariants as event;
@@ -74,4 +77,10 @@ pub fn new_places_are_fresh()
 pub fn messages_are_within_the_history()
     ensures { (world : World) (h : List Event) → Legal world h → (client : ℕ)
         → (client_after world client h).counts.messages ≤ length h }
+{}
+
+/// In a legal history a client's own Asks with their answers show its state, whatever others did in between.
+pub fn own_asks_show_the_client()
+    ensures { (world : World) (client : ℕ) (h : List Event) → Legal world h
+        → client_of world client (own_asks client h) ≡ client_after world client h }
 {}

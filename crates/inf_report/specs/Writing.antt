@@ -2,7 +2,7 @@
 use Rattle.std.specs.Prelude.{◌≡◌, ℕ, ◌+◌, ◌-◌, ◌<◌, ◌≤◌, List, [], ◌++◌, length, filter, take, slice_get, slice_set, Option, Some, None, Result, Ok, Err}
 use Rattle.std.specs.Option.{option_to_list}
 use Rattle.std.specs.Io.KnownBytes.{Appends}
-use Rattle.inf_core.specs.Outcome.{stands_at}
+use Rattle.inf_duty.specs.Outcome.{stands_at}
 use Rattle.inf_io.specs.Faults.{Rose}
 use Rattle.inf_message.specs.declared.call_result.CallResult.{CallResult}
 use Rattle.inf_report.specs.declared.fault.ReportFault.{ReportFault}

@@ -5,16 +5,17 @@ use Rattle.std.proofs.lemmas.List.Folds.{list_any-append}
 use Rattle.inf_base.specs.declared.call.Call.{Call}
 use Rattle.inf_base.specs.declared.entry.Entry.{Entry}
 use Rattle.inf_base.specs.declared.setup.ClientLine.{ClientLine}
-use Rattle.inf_core.specs.Client.{Client, Sent, Who, starting}
-use Rattle.inf_core.specs.Duty.{asked, given_up, next_in, next_of, next_step}
-use Rattle.inf_core.specs.Group.{composed, composed_stage, first_round, first_stage, group, op_of}
-use Rattle.inf_core.specs.Legal.{client_after}
-use Rattle.inf_core.specs.Outcome.{all_given_up, results_of}
-use Rattle.inf_core.specs.Turn.{Turn, act_with, after_lookup, begins_again, ends, first_told, goes_on, next_op, recorded, success_of, turn_at, turned, unless_success}
-use Rattle.inf_core.specs.World.{World}
-use Rattle.inf_core.specs.declared.stage.Stage.{Stage}
-use Rattle.inf_core.specs.declared.stage.Stage.TheVariants as stage
-use Rattle.inf_core.proofs.ResultFacts.{IsKept, all_given_up_keeps, begun_keeps, by_serve, if_both}
+use Rattle.inf_duty.specs.Client.{Client, Sent, Who, starting}
+use Rattle.inf_duty.specs.Duty.{asked, given_up, next_in, next_of, next_step}
+use Rattle.inf_duty.specs.Group.{composed, composed_stage, first_round, first_stage, group, op_of}
+use Rattle.inf_duty.specs.After.{client_after}
+use Rattle.inf_duty.specs.Outcome.{all_given_up, results_of}
+use Rattle.inf_duty.specs.Turn.{Turn, act_with, after_lookup, begins_again, ends, first_told, goes_on, next_op, recorded, success_of, turn_at, turned, unless_success}
+use Rattle.inf_duty.specs.World.{World}
+use Rattle.inf_duty.specs.declared.stage.Stage.{Stage}
+use Rattle.inf_duty.specs.declared.stage.Stage.TheVariants as stage
+use Rattle.inf_duty.proofs.ResultFacts.{IsKept, all_given_up_keeps, begun_keeps, if_both}
+use Rattle.inf_core.proofs.ResultFacts.{by_serve}
 use Rattle.inf_base.specs.declared.answer.Answer.{Answer}
 use Rattle.inf_message.specs.declared.call_result.CallResult.{CallResult}
 use Rattle.inf_message.specs.declared.event.Event.{Event}

@@ -1,6 +1,6 @@
 -- What each step of a run keeps, every order of moves keeps.
 use Rattle.std.proofs.Common.{◌≡◌, ℕ, zero, suc, ◌+◌, Bool, true, false, List, [], ◌∷◌, length, Option, Some, None, subst, sym, ⊎_elim}
-use Rattle.inf_core.specs.World.{World}
+use Rattle.inf_duty.specs.World.{World}
 use Rattle.inf_order.specs.declared.moves.Move.{Move}
 use Rattle.inf_order.specs.declared.moves.Move.TheVariants as move
 use Rattle.inf_sched.specs.Scene.{Scene, Asks, GivesUp, MakesAsk, MakesServe, calls_left, has_calls, has_ended, number_in}

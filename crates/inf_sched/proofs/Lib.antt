@@ -17,3 +17,4 @@ pub mod OpeningFacts
 pub mod UnansweredFacts
 pub mod MovingFacts
 pub mod ScheduleFacts
+pub mod LogFacts

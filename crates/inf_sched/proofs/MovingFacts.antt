@@ -5,7 +5,7 @@ use Rattle.std.proofs.lemmas.List.{take_more}
 use Rattle.std.specs.List.{list_all}
 use Rattle.inf_base.specs.declared.id.Id.{Id}
 use Rattle.inf_core.specs.Core.{IsSameRun, world_in}
-use Rattle.inf_core.specs.World.{World}
+use Rattle.inf_duty.specs.World.{World}
 use Rattle.inf_order.specs.declared.moves.Move.{Move}
 use Rattle.inf_sched.specs.Moves.{ByAlone, ByCalls, ByMove, ByRest, ByStep, IfElse, ServesOn}
 use Rattle.inf_sched.specs.Order.{ByMoves}

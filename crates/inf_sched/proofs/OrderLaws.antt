@@ -2,11 +2,12 @@
 use Rattle.std.proofs.Common.{◌≡◌, ℕ, suc, ◌+◌, Bool, true, false, cond, eqb, List, [], ◌∷◌, length, map, ◌&&◌, zero, slice_get, slice_set, refl, sym, ap, subst, ◌∙◌, inl, inr}
 use Rattle.std.proofs.lemmas.Bool.Decides.{Decides-eqb}
 use Rattle.inf_base.specs.declared.setup.ClientLine.{ClientLine}
-use Rattle.inf_core.specs.Client.{Client, has_place}
-use Rattle.inf_core.specs.Legal.{Legal, client_after}
-use Rattle.inf_core.specs.Outcome.{Agrees, Outcome, OutcomeFrom}
-use Rattle.inf_core.specs.Turn.{after_record, recorded, served}
-use Rattle.inf_core.specs.World.{World}
+use Rattle.inf_duty.specs.Client.{Client, has_place}
+use Rattle.inf_core.specs.Legal.{Legal}
+use Rattle.inf_duty.specs.After.{client_after}
+use Rattle.inf_duty.specs.Outcome.{Agrees, Outcome, OutcomeFrom}
+use Rattle.inf_duty.specs.Turn.{after_record, recorded, served}
+use Rattle.inf_duty.specs.World.{World}
 use Rattle.inf_core.proofs.CoreFacts.{got_apart}
 use Rattle.inf_message.specs.declared.call_result.CallResult.{CallResult}
 use Rattle.inf_message.specs.declared.event.Event.{Event}
@@ -15,7 +16,7 @@ use Rattle.inf_message.proofs.HistoryLaws.{other}
 use Rattle.inf_order.specs.declared.moves.Move.{Move}
 use Rattle.inf_sched.specs.Order.{ByMoves, ByOrder, came_to, results_from}
 use Rattle.inf_sched.specs.Scene.{Scene, GivesUp, MakesAsk, MakesServe, client_in, is_ask, is_gone, is_set, opening, planned}
-use Rattle.inf_core.specs.Duty.{asked, next_step}
+use Rattle.inf_duty.specs.Duty.{asked, next_step}
 use Rattle.inf_sched.proofs.Kept.{IsKept, moves_keep}
 
 -- ---- what it makes is legal

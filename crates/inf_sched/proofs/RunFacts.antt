@@ -1,31 +1,34 @@
 -- What a run keeps as its clients ask and its servers serve.
-use Rattle.std.proofs.Common.{◌≡◌, ◌≢◌, ℕ, zero, suc, ◌+◌, ◌≤◌, ◌<◌, Bool, true, false, cond, eqb, not, ◌&&◌, ◌||◌, List, [], ◌∷◌, ◌++◌, length, slice_get, slice_set, Option, None, Some, IfSome, All, get_or, refl, sym, ap, ap₂, subst, ◌∙◌, arith, inl, inr}
+use Rattle.std.proofs.Common.{◌≡◌, ◌≢◌, ℕ, zero, suc, ◌+◌, ◌≤◌, ◌<◌, Bool, true, false, cond, eqb, not, ◌&&◌, ◌||◌, List, [], ◌∷◌, ◌++◌, length, map, reverse, slice_get, slice_set, Option, None, Some, IfSome, All, get_or, refl, sym, ap, ap₂, subst, ◌∙◌, arith, inl, inr}
 use Rattle.std.specs.List.{find}
 use Rattle.std.specs.Option.{option_map, option_or}
-use Rattle.std.proofs.lemmas.List.{length-set, map-set}
+use Rattle.std.proofs.lemmas.List.{length-set, map-append, map-set}
+use mathlib.Core.List.{reverse-cons}
 use Rattle.std.proofs.lemmas.List.Elements.{All-head, All-nil, All-push, All-tail, All-weaker}
 use Rattle.std.proofs.lemmas.List.Folds.{find-append}
 use Rattle.std.proofs.lemmas.Option.{slice_get-get_or, slice_get-map, slice_get_within}
 use Rattle.inf_base.specs.declared.id.Id.{Id}
-use Rattle.inf_core.specs.Client.{Client}
+use Rattle.inf_duty.specs.Client.{Client}
 use Rattle.inf_core.specs.Core.{world_in}
-use Rattle.inf_core.specs.Duty.{asked, next_step}
-use Rattle.inf_core.specs.Legal.{Legal, client_after}
-use Rattle.inf_core.specs.World.{World}
+use Rattle.inf_duty.specs.Duty.{asked, next_step}
+use Rattle.inf_core.specs.Legal.{Legal}
+use Rattle.inf_duty.specs.After.{client_after}
+use Rattle.inf_duty.specs.World.{World}
 use Rattle.inf_core.proofs.CoreFacts.{got_apart, got_set}
 use Rattle.inf_core.proofs.Driven.{others_stay}
-use Rattle.inf_core.proofs.Placed.{counted_same, same_counted}
+use Rattle.inf_duty.proofs.Placed.{counted_same, same_counted}
 use Rattle.inf_core.proofs.Posted.{posted_known}
 use Rattle.inf_message.specs.declared.ask.Ask.{Ask}
 use Rattle.inf_message.specs.declared.event.Event.{Event}
 use Rattle.inf_message.specs.declared.event.Event.TheVariants as event
 use Rattle.inf_message.specs.declared.reply.Reply.{Reply}
-use Rattle.inf_message.specs.History.{Posted, asked_at, is_served, posted_ask}
+use Rattle.inf_message.specs.History.{Own, Posted, asked_at, asks_of, is_served, made_ask, own_ask, posted_ask, served_at, told_reply}
+use Rattle.inf_message.proofs.ClientLaws.{asks_apart, serve_apart}
 use Rattle.inf_message.proofs.HistoryLaws.{asked_newest, asked_stays, asked_within}
 use Rattle.inf_sched.specs.Actor.{Actor, wants_to_ask}
 use Rattle.inf_sched.specs.Moves.{HasNoAsk}
 use Rattle.inf_sched.specs.Scene.{Asks, MakesServe, Scene, can_ask, is_ask, is_gone, is_set, planned}
-use Rattle.inf_sched.specs.Run.{AreActors, AreQueues, Asked, HasGivenUp, HasRested, HasServed, IsActor, IsKept, IsStateOf, Playing, gone_of, scene_of}
+use Rattle.inf_sched.specs.Run.{AreActors, AreQueues, Asked, HasGivenUp, HasRested, HasServed, IsActor, IsKept, IsStateOf, Playing, asks_shown, gone_of, scene_of}
 use Rattle.inf_sched.specs.Waiting.{IsFrontLeft, IsQueue, IsWaiting, IsWithin, Posting, is_by, is_for, is_open, is_to, oldest, posting, postings}
 
 -- ---- a queue
@@ -176,6 +179,21 @@ other_asks world h number client ask unlike =
     ap (λ b. cond b (asked (suc (length h)) ask (client_after world client h)) (client_after world client h))
     (unlike_test ask.from.client client (λ same. unlike (sym same)))
 
+-- the Asks of a client by its events
+asks_newly : (client number : ℕ) (ask : Ask) (h : List Event) → ask.from.client ≡ client
+    → asks_shown client (event.Ask number ask ∷ h) ≡ asks_shown client h ++ own_ask (made_ask number ask (suc (length h))) None ∷ []
+asks_newly client number ask h own =
+    let new : Own = own_ask (made_ask number ask (suc (length h))) None in
+    ap reverse (ap (λ b. cond b (new ∷ asks_of client h) (asks_of client h)) (same_counted ask.from.client client own)) ∙ reverse-cons new (asks_of client h)
+
+map_back : (f : Own → Own) (owns : List Own) → map f (reverse owns) ≡ reverse (map f owns)
+map_back f [] = refl
+map_back f (own ∷ owns) =
+    ap (map f) (reverse-cons own owns)
+    ∙ map-append f (reverse owns) (own ∷ [])
+    ∙ ap (λ front. front ++ f own ∷ []) (map_back f owns)
+    ∙ sym (reverse-cons (f own) (map f owns))
+
 asked_actors : (world : World) (h after : List Event) (client : ℕ) (p : Posting) (actors : List Actor) (a b : Actor)
     → AreActors world h actors → slice_get actors client ≡ Some a → Asked world client p h after a b → AreActors world after (slice_set actors client b)
 asked_actors world h after client p actors a b are at did = record {
@@ -185,6 +203,12 @@ asked_actors world h after client p actors a b are at did = record {
       subst (λ s. IsActor s x)
       (sym (ap (client_after world k) did.joins ∙ other_asks world h did.number k did.ask (λ same. unlike (same ∙ did.own))))
       (are.each k x at_k));
+  asks = set_each (λ k x. x.log.asks ≡ asks_shown k after) actors client b (slice_get_within actors client a at)
+      (did.asks ∙ ap (λ owns. owns ++ own_ask (made_ask did.number did.ask (suc (length h))) None ∷ []) (are.asks client a at)
+      ∙ sym (ap (asks_shown client) did.joins ∙ asks_newly client did.number did.ask h did.own))
+      (λ k x unlike at_k.
+      are.asks k x at_k
+      ∙ sym (ap (asks_shown k) did.joins ∙ ap reverse (asks_apart k did.number did.ask h (λ same. unlike (sym same ∙ did.own)))));
 }
 
 gave_up_actors : (world : World) (h after : List Event) (client : ℕ) (actors : List Actor) (a b : Actor)
@@ -193,6 +217,9 @@ gave_up_actors world h after client actors a b are at did = record {
   count = length-set actors client b ∙ are.count;
   each = set_each (λ k x. IsActor (client_after world k h) x) actors client b (slice_get_within actors client a at) did.actor
       (λ k x unlike at_k. are.each k x at_k);
+  asks = set_each (λ k x. x.log.asks ≡ asks_shown k h) actors client b (slice_get_within actors client a at)
+      (did.asks ∙ are.asks client a at)
+      (λ k x unlike at_k. are.asks k x at_k);
 }
 
 served_actors : (world : World) (h after : List Event) (p : Posting) (actors : List Actor) (a b : Actor) → Legal world h → IsWaiting h p
@@ -205,6 +232,14 @@ served_actors world h after p actors a b legal waits are at did = record {
       (sym (ap (client_after world k) did.joins
       ∙ others_stay world h legal k p.number p.place did.given (posted_ask p.number waits.ask) waits.asked (λ same. unlike (sym same ∙ waits.own))))
       (are.each k x at_k));
+  asks = set_each (λ k x. x.log.asks ≡ asks_shown k after) actors p.client b (slice_get_within actors p.client a at)
+      (did.asks ∙ ap (map (served_at p.place (told_reply (suc (length h)) did.given))) (are.asks p.client a at)
+      ∙ map_back (served_at p.place (told_reply (suc (length h)) did.given)) (asks_of p.client h)
+      ∙ sym (ap (asks_shown p.client) did.joins))
+      (λ k x unlike at_k.
+      are.asks k x at_k
+      ∙ sym (ap (asks_shown k) did.joins
+      ∙ ap reverse (serve_apart k p.number p.place did.given (posted_ask p.number waits.ask) h waits.asked (λ same. unlike (sym same ∙ waits.own)))));
 }
 
 -- ---- the run

@@ -4,9 +4,9 @@ use Rattle.std.proofs.lemmas.List.{length-map}
 use Rattle.inf_base.specs.declared.call.Call.{Call}
 use Rattle.inf_base.specs.declared.answer.Answer.TheVariants as answer
 use Rattle.inf_base.specs.declared.setup.ClientLine.{ClientLine}
-use Rattle.inf_core.specs.Client.{Client, ended, starting}
-use Rattle.inf_core.specs.Outcome.{unanswered}
-use Rattle.inf_core.specs.World.{World}
+use Rattle.inf_duty.specs.Client.{Client, ended, starting}
+use Rattle.inf_duty.specs.Outcome.{unanswered}
+use Rattle.inf_duty.specs.World.{World}
 use Rattle.inf_order.specs.declared.moves.Move.{Move}
 use Rattle.inf_order.specs.declared.moves.Move.TheVariants as move
 use Rattle.inf_sched.specs.Laws.{MakesCalmly}

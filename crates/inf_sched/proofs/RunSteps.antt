@@ -6,16 +6,18 @@ use Rattle.std.proofs.lemmas.List.Elements.{All-head, All-nil, All-push, All-tai
 use Rattle.inf_base.specs.declared.answer.Answer.{Answer}
 use Rattle.inf_base.specs.declared.call.Call.{Call}
 use Rattle.inf_base.specs.declared.setup.ClientLine.{ClientLine}
-use Rattle.inf_core.specs.Client.{Client, Sent, Who, starting}
-use Rattle.inf_core.specs.Duty.{Duty, Next, asked, asks, at_call, begun, is_over, next_step, waits}
-use Rattle.inf_core.specs.Group.{composed}
-use Rattle.inf_core.specs.Legal.{client_after, server_after}
-use Rattle.inf_core.specs.Turn.{Turn, act_with, after_lookup, begins_again, ends, first_told, goes_on, next_op, recorded, served, success_of, turn_at, turned, unless_success}
-use Rattle.inf_core.specs.World.{World, site_of}
-use Rattle.inf_core.specs.declared.stage.Stage.{Stage}
-use Rattle.inf_core.specs.declared.stage.Stage.TheVariants as stage
-use Rattle.inf_core.proofs.NextFacts.{next_left, next_own}
-use Rattle.inf_core.proofs.Placed.{ready, reads, told_completes}
+use Rattle.inf_duty.specs.Client.{Client, Sent, Who, starting}
+use Rattle.inf_duty.specs.Duty.{Duty, Next, asked, asks, at_call, begun, is_over, next_step, waits}
+use Rattle.inf_duty.specs.Group.{composed}
+use Rattle.inf_duty.specs.After.{client_after}
+use Rattle.inf_core.specs.Legal.{server_after}
+use Rattle.inf_duty.specs.Turn.{Turn, act_with, after_lookup, begins_again, ends, first_told, goes_on, next_op, recorded, served, success_of, turn_at, turned, unless_success}
+use Rattle.inf_duty.specs.World.{World}
+use Rattle.inf_core.specs.Sites.{site_of}
+use Rattle.inf_duty.specs.declared.stage.Stage.{Stage}
+use Rattle.inf_duty.specs.declared.stage.Stage.TheVariants as stage
+use Rattle.inf_duty.proofs.NextFacts.{next_left, next_own}
+use Rattle.inf_duty.proofs.Placed.{ready, reads, told_completes}
 use Rattle.inf_core.proofs.ResultFacts.{by_serve}
 use Rattle.inf_base.specs.declared.entry.Entry.{Entry}
 use Rattle.inf_message.specs.declared.ask.Ask.{Ask}

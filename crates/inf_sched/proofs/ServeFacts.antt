@@ -1,21 +1,23 @@
 -- What comes of serving an Ask.
 use Rattle.std.proofs.Common.{◌≡◌, ℕ, suc, Bool, true, false, cond, List, [], ◌∷◌, length, Option, Some, IsSome, is_some, refl, sym, ap, subst, ◌∙◌}
 use Rattle.inf_base.specs.declared.call.Call.{Call}
-use Rattle.inf_core.specs.Client.{Client, has_place}
-use Rattle.inf_core.specs.Duty.{given_up}
-use Rattle.inf_core.specs.Group.{op_of}
-use Rattle.inf_core.specs.Outcome.{all_given_up}
+use Rattle.inf_duty.specs.Client.{Client, has_place}
+use Rattle.inf_duty.specs.Duty.{given_up}
+use Rattle.inf_duty.specs.Group.{op_of}
+use Rattle.inf_duty.specs.Outcome.{all_given_up}
 use Rattle.inf_base.specs.declared.id.Id.{Id}
 use Rattle.inf_core.specs.Core.{IsSameRun, IsServedNext, Running, world_in}
-use Rattle.inf_core.specs.Legal.{Legal, MayServe, client_after}
-use Rattle.inf_core.specs.Turn.{after_record, recorded, served}
-use Rattle.inf_core.specs.World.{World}
+use Rattle.inf_core.specs.Legal.{Legal, MayServe}
+use Rattle.inf_duty.specs.After.{client_after}
+use Rattle.inf_duty.specs.Turn.{after_record, recorded, served}
+use Rattle.inf_duty.specs.World.{World}
 use Rattle.inf_core.proofs.Driven.{idle_stays}
 use Rattle.inf_message.specs.declared.event.Event.{Event}
 use Rattle.inf_message.specs.declared.event.Event.TheVariants as event
 use Rattle.inf_message.specs.declared.reply.Reply.{Reply}
 use Rattle.inf_message.specs.History.{Posted, Told, asked_at, posted_ask, told_reply}
 use Rattle.inf_sched.specs.Actor.{Actor, actor}
+use Rattle.inf_sched.specs.AskLog.{told_log}
 use Rattle.inf_sched.specs.Run.{HasServed, IsActor, IsGivenUp, IsStateOf}
 use Rattle.inf_sched.specs.Waiting.{IsWaiting, Posting}
 
@@ -61,18 +63,19 @@ served_state world h client number place given true state is =
 
 pub has_served : (world : World) (p : Posting) (h after : List Event) (place : ℕ) (given : Reply) (a b : Actor) → IsWaiting h p
     → IsActor (client_after world p.client h) a → place ≡ suc (length h) → IsServedNext world h after p.place given → Legal world after
-    → b ≡ actor (served p.place (told_reply place given) a.state) a.gone
+    → b ≡ actor (served p.place (told_reply place given) a.state) a.gone (told_log p.place (told_reply place given) a.log)
     → HasServed world p h after a b
 has_served world p h after place given a b waits is newest next legal telling =
     let number : next.number ≡ p.number = to_server world h p next.number given waits next.may in
     let joins : after ≡ event.Serve p.number p.place given ∷ h = next.joins ∙ ap (λ n. event.Serve n p.place given ∷ h) number in
-    let told : b ≡ actor (served p.place (told_reply (suc (length h)) given) a.state) a.gone =
-    telling ∙ ap (λ n. actor (served p.place (told_reply n given) a.state) a.gone) newest in
+    let told : b ≡ actor (served p.place (told_reply (suc (length h)) given) a.state) a.gone (told_log p.place (told_reply (suc (length h)) given) a.log) =
+    telling ∙ ap (λ n. actor (served p.place (told_reply n given) a.state) a.gone (told_log p.place (told_reply n given) a.log)) newest in
     record {
       given = given;
       may = subst (λ n. MayServe world h n p.place given) number next.may;
       joins = joins;
       same_gone = ap (λ (x : Actor). x.gone) told;
+      asks = ap (λ (x : Actor). x.log.asks) told;
       actor = subst (λ x. IsActor (client_after world p.client after) x) (sym told)
           (subst (λ g. IsStateOf a.gone (client_after world p.client g) (served p.place (told_reply (suc (length h)) given) a.state)) (sym joins)
           (served_state world h p.client p.number p.place given a.gone a.state is));

@@ -1,21 +1,24 @@
 -- What comes of letting a client ask, by what its step told.
-use Rattle.std.proofs.Common.{◌≡◌, ℕ, suc, ◌+◌, ◌≤◌, ◌<◌, ◌^◌, Bool, true, false, cond, not, ◌&&◌, List, [], ◌∷◌, length, slice_get, refl, sym, ap, subst, ◌∙◌, arith, inl, inr}
-use Rattle.inf_core.specs.Client.{Client, Sent, placed}
-use Rattle.inf_core.specs.Outcome.{all_given_up}
+use Rattle.std.proofs.Common.{◌≡◌, ℕ, suc, ◌+◌, ◌≤◌, ◌<◌, ◌^◌, Bool, true, false, cond, not, ◌&&◌, List, [], ◌∷◌, ◌++◌, length, slice_get, None, is_some, refl, sym, ap, subst, ◌∙◌, arith, inl, inr}
+use Rattle.inf_duty.specs.Client.{Client, Sent, placed}
+use Rattle.inf_duty.specs.Outcome.{all_given_up}
 use Rattle.inf_sched.specs.Scene.{planned}
-use Rattle.inf_core.specs.ClientStep.{is_ask}
-use Rattle.inf_core.specs.Duty.{Duty, asked, begun, next_step}
-use Rattle.inf_core.specs.Legal.{Legal, MayAsk, client_after}
-use Rattle.inf_core.specs.World.{World}
-use Rattle.inf_core.specs.declared.client_step.ClientStep.TheVariants as step
-use Rattle.inf_core.proofs.BegunFacts.{at_call_messages}
+use Rattle.inf_duty.specs.ClientStep.{is_ask}
+use Rattle.inf_duty.specs.Duty.{Duty, asked, begun, next_step}
+use Rattle.inf_core.specs.Legal.{Legal, MayAsk}
+use Rattle.inf_duty.specs.After.{client_after}
+use Rattle.inf_duty.specs.World.{World}
+use Rattle.inf_duty.specs.declared.client_step.ClientStep.TheVariants as step
+use Rattle.inf_duty.proofs.BegunFacts.{at_call_messages}
 use Rattle.inf_core.proofs.Driven.{messages_within}
-use Rattle.inf_core.proofs.Placed.{reads, same_counted}
-use Rattle.inf_core.proofs.ResultFacts.{client_of}
+use Rattle.inf_duty.proofs.Placed.{reads, same_counted}
+use Rattle.inf_duty.proofs.ResultFacts.{client_of}
 use Rattle.inf_message.specs.declared.ask.Ask.{Ask}
 use Rattle.inf_message.specs.declared.event.Event.{Event}
 use Rattle.inf_message.specs.declared.event.Event.TheVariants as event
+use Rattle.inf_message.specs.History.{made_ask, own_ask}
 use Rattle.inf_sched.specs.Actor.{Actor, AsksNext, Rests, Steps, actor, wants_to_ask}
+use Rattle.inf_sched.specs.AskLog.{asked_log, asks_with}
 use Rattle.inf_sched.specs.Run.{Asked, Did, IsActor, IsGivenUp, IsStateOf, rested}
 use Rattle.inf_sched.specs.Waiting.{posting}
 
@@ -51,8 +54,8 @@ may_ask world client number h ask a b there is next =
 pub ready_here : (number : ℕ) (ask : Ask) (a b : Actor) → AsksNext number ask a b → b.gone ≡ false
 ready_here number ask a b next = ap (λ (x : Actor). x.gone) next.ready
 
-pub ready_asks : (number : ℕ) (ask : Ask) (a b : Actor) → AsksNext number ask a b → is_ask (next_step b.state) ≡ true
-ready_asks number ask a b next = ap (λ (x : Actor). is_ask (next_step x.state)) next.ready ∙ ap is_ask next.duty
+pub ready_kept : (number : ℕ) (ask : Ask) (a b : Actor) → AsksNext number ask a b → is_some b.log.ready ≡ true
+ready_kept number ask a b next = ap (λ (x : Actor). is_some x.log.ready) next.ready
 
 begun_messages : (ask : Ask) (s : Client) → (begun ask s.sent s).counts.messages ≤ s.counts.messages
 begun_messages ask s = by s.sent
@@ -73,7 +76,7 @@ ready_room world client number place h ask a b legal is next newest fits =
 
 pub asked_did : (world : World) (client number place : ℕ) (h after : List Event) (ask : Ask) (a b c : Actor) → client < length world.setup.clients → Legal world after
     → IsActor (client_after world client h) a → AsksNext number ask a b → place ≡ suc (length h)
-    → after ≡ event.Ask number ask ∷ h → c ≡ actor (placed place b.state) false
+    → after ≡ event.Ask number ask ∷ h → c ≡ actor (placed place b.state) false (asked_log place b.log)
     → Asked world client (posting place number client) h after a c
 asked_did world client number place h after ask a b c there legal is next newest joins placing =
     let s : Client = client_after world client h in
@@ -93,6 +96,8 @@ asked_did world client number place h after ask a b c there legal is next newest
       joins = joins;
       posted = ap (λ p. posting p number client) newest;
       still_here = ap (λ (x : Actor). x.gone) placing;
+      asks = ap (λ (x : Actor). x.log.asks) placing ∙ ap (λ (x : Actor). asks_with place x.log.ready x.log.asks) next.ready
+          ∙ ap (λ p. a.log.asks ++ own_ask (made_ask number ask p) None ∷ []) newest;
       actor = subst (λ x. IsActor (client_after world client after) x) (sym placing) is_after;
       legal = legal;
     }
@@ -132,6 +137,7 @@ rested_did world client h a b is (inr giving) =
       between = giving.between;
       same = refl;
       gone = gone;
+      asks = ap (λ (x : Actor). x.log.asks) giving.all;
       actor = subst (λ g. IsStateOf g s b.state) (sym gone) given;
     }))
 

@@ -1,6 +1,6 @@
 -- Where nothing wants memory, the moves lead to one scene.
 use Rattle.std.proofs.Common.{◌≡◌, ℕ, zero, suc, ◌+◌, Bool, true, false, List, [], ◌∷◌, length, Option, Some, None, sym, ap, subst, ◌∙◌, ⊎_elim}
-use Rattle.inf_core.specs.World.{World}
+use Rattle.inf_duty.specs.World.{World}
 use Rattle.inf_order.specs.declared.moves.Move.{Move}
 use Rattle.inf_order.specs.declared.moves.Move.TheVariants as move
 use Rattle.inf_sched.specs.Moves.{ByAlone, ByCall, ByCalls, ByMove, ByRest, ByStep, GoesOn, IfElse, ServesOldest, ServesOn}

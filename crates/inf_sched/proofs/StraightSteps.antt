@@ -6,16 +6,19 @@ use Rattle.std.proofs.lemmas.List.{length-set}
 use Rattle.std.proofs.lemmas.Option.{slice_get_within}
 use Rattle.inf_base.specs.declared.call.Call.{Call}
 use Rattle.inf_base.specs.declared.setup.ClientLine.{ClientLine}
-use Rattle.inf_core.specs.Client.{Client, Sent}
-use Rattle.inf_core.specs.Duty.{Duty, Next, asked, asks, at_call, begun, given_up, next_in, next_step}
-use Rattle.inf_core.specs.Group.{composed, op_of}
-use Rattle.inf_core.specs.Legal.{client_after, server_after}
-use Rattle.inf_core.specs.Turn.{Turn, begins_again, ends, first_told, goes_on, recorded, served, turn_at, turned}
-use Rattle.inf_core.specs.World.{World, site_of}
+use Rattle.inf_duty.specs.Client.{Client, Sent}
+use Rattle.inf_duty.specs.Duty.{Duty, Next, asked, asks, at_call, begun, given_up, next_in, next_step}
+use Rattle.inf_duty.specs.Group.{composed, op_of}
+use Rattle.inf_duty.specs.After.{client_after}
+use Rattle.inf_core.specs.Legal.{server_after}
+use Rattle.inf_duty.specs.Turn.{Turn, begins_again, ends, first_told, goes_on, recorded, served, turn_at, turned}
+use Rattle.inf_duty.specs.World.{World}
+use Rattle.inf_core.specs.Sites.{site_of}
 use Rattle.inf_core.proofs.CoreFacts.{got_set}
-use Rattle.inf_core.proofs.NextFacts.{next_left, next_own}
-use Rattle.inf_core.proofs.Placed.{reads}
-use Rattle.inf_core.proofs.ResultFacts.{begun_keeps, by_serve, calls_of, if_both}
+use Rattle.inf_duty.proofs.NextFacts.{next_left, next_own}
+use Rattle.inf_duty.proofs.Placed.{reads}
+use Rattle.inf_duty.proofs.ResultFacts.{begun_keeps, calls_of, if_both}
+use Rattle.inf_core.proofs.ResultFacts.{by_serve}
 use Rattle.inf_message.specs.declared.ask.Ask.{Ask}
 use Rattle.inf_message.specs.declared.event.Event.{Event}
 use Rattle.inf_message.specs.declared.event.Event.TheVariants as event

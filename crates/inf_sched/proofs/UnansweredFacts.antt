@@ -6,17 +6,18 @@ use Rattle.inf_base.specs.declared.answer.Answer.TheVariants as answer
 use Rattle.inf_base.specs.declared.call.Call.{Call}
 use Rattle.inf_base.specs.declared.entry.Entry.{Entry}
 use Rattle.inf_base.specs.declared.setup.ClientLine.{ClientLine}
-use Rattle.inf_core.specs.Client.{Client, Who, ended, rest_of, result_of, starting}
-use Rattle.inf_core.specs.Duty.{asked, given_up}
-use Rattle.inf_core.specs.Group.{op_of}
-use Rattle.inf_core.specs.Legal.{client_after}
-use Rattle.inf_core.specs.Outcome.{Agrees, OutcomeFrom, all_given_up, results_of, unanswered}
-use Rattle.inf_core.specs.Turn.{Turn, act_with, after_lookup, begins_again, ends, first_told, goes_on, next_op, recorded, served, success_of, turn_at, turned, unless_success}
-use Rattle.inf_core.specs.World.{World}
-use Rattle.inf_core.specs.declared.stage.Stage.{Stage}
-use Rattle.inf_core.specs.declared.stage.Stage.TheVariants as stage
-use Rattle.inf_core.proofs.Placed.{reads}
-use Rattle.inf_core.proofs.ResultFacts.{IsKept, all_given_up_keeps, begun_keeps, by_serve, client_of, if_both}
+use Rattle.inf_duty.specs.Client.{Client, Who, ended, rest_of, result_of, starting}
+use Rattle.inf_duty.specs.Duty.{asked, given_up}
+use Rattle.inf_duty.specs.Group.{op_of}
+use Rattle.inf_duty.specs.After.{client_after}
+use Rattle.inf_duty.specs.Outcome.{Agrees, OutcomeFrom, all_given_up, results_of, unanswered}
+use Rattle.inf_duty.specs.Turn.{Turn, act_with, after_lookup, begins_again, ends, first_told, goes_on, next_op, recorded, served, success_of, turn_at, turned, unless_success}
+use Rattle.inf_duty.specs.World.{World}
+use Rattle.inf_duty.specs.declared.stage.Stage.{Stage}
+use Rattle.inf_duty.specs.declared.stage.Stage.TheVariants as stage
+use Rattle.inf_duty.proofs.Placed.{reads}
+use Rattle.inf_duty.proofs.ResultFacts.{IsKept, all_given_up_keeps, begun_keeps, client_of, if_both}
+use Rattle.inf_core.proofs.ResultFacts.{by_serve}
 use Rattle.inf_message.specs.declared.call_result.CallResult.{CallResult}
 use Rattle.inf_message.specs.declared.event.Event.{Event}
 use Rattle.inf_message.specs.declared.event.Event.TheVariants as event

@@ -1,13 +1,13 @@
 -- A client on its way through calls for which memory is wanting.
 use Rattle.std.proofs.Common.{◌≡◌, ℕ, suc, ◌≤◌, ◌<◌, Bool, true, false, eqb, List, [], ◌∷◌, length, is_some, refl, sym, ap, subst, ◌∙◌, arith}
 use Rattle.inf_base.specs.declared.call.Call.{Call}
-use Rattle.inf_core.specs.Client.{Client, Sent, rest_of}
-use Rattle.inf_core.specs.Duty.{Duty, asks, at_call, begun, given_up, next_step}
-use Rattle.inf_core.specs.Group.{composed}
-use Rattle.inf_core.specs.Outcome.{all_given_up}
-use Rattle.inf_core.specs.Turn.{next_op}
-use Rattle.inf_core.proofs.NextFacts.{IsOf, next_own}
-use Rattle.inf_core.proofs.Placed.{counted_same, same_counted}
+use Rattle.inf_duty.specs.Client.{Client, Sent, rest_of}
+use Rattle.inf_duty.specs.Duty.{Duty, asks, at_call, begun, given_up, next_step}
+use Rattle.inf_duty.specs.Group.{composed}
+use Rattle.inf_duty.specs.Outcome.{all_given_up}
+use Rattle.inf_duty.specs.Turn.{next_op}
+use Rattle.inf_duty.proofs.NextFacts.{IsOf, next_own}
+use Rattle.inf_duty.proofs.Placed.{counted_same, same_counted}
 use Rattle.inf_message.specs.declared.ask.Ask.{Ask}
 use Rattle.inf_sched.specs.Actor.{IsOnTheWay}
 

@@ -1,7 +1,7 @@
 -- The calls that an order of moves leaves undecided.
 use Rattle.std.specs.Prelude.{◌≡◌, ℕ, ◌+◌, ◌<◌, List, length, None}
-use Rattle.inf_core.specs.Legal.{client_after}
-use Rattle.inf_core.specs.World.{World}
+use Rattle.inf_duty.specs.After.{client_after}
+use Rattle.inf_duty.specs.World.{World}
 use Rattle.inf_message.specs.declared.call_result.CallResult.{CallResult}
 use Rattle.inf_message.specs.declared.event.Event.{Event}
 

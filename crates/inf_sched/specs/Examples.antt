@@ -4,6 +4,7 @@ use Rattle.inf_base.specs.declared.answer.Answer.TheVariants as answer
 use Rattle.inf_base.specs.declared.file.FileMeta.{FileMeta}
 use Rattle.inf_base.specs.declared.item.Kind.TheVariants as kind
 use Rattle.inf_core.specs.Examples as example
+use Rattle.inf_duty.specs.Examples as duty_example
 use Rattle.inf_message.specs.declared.call_result.CallResult.{CallResult}
 use Rattle.inf_message.specs.declared.event.Event.{Event}
 use Rattle.inf_message.specs.declared.event.Event.TheVariants as event
@@ -18,7 +19,7 @@ use Rattle.inf_sched.specs.Straight.{straight}
 
 -- where an order leads in that world
 abbrev pub after : List Move → Scene
-after order = straight example.world order (opening example.world)
+after order = straight duty_example.world order (opening duty_example.world)
 
 abbrev pub history_of : List Move → List Event
 history_of order = (after order).history
@@ -67,7 +68,7 @@ a_only =
     event.Serve 0 3 reply.Fine
     ∷ finishes 0 2 (op.Create (codes "f") 0o644)
     ∷ event.Serve 0 1 example.found_top
-    ∷ example.asks 0 example.look_up_top
+    ∷ example.asks 0 duty_example.look_up_top
     ∷ []
 
 -- then `b` alone finds it
@@ -76,7 +77,7 @@ one_by_one =
     event.Serve 0 7 (reply.Stat kind.File new_meta)
     ∷ finishes 1 6 (op.Stat (codes "f"))
     ∷ event.Serve 0 5 example.found_top
-    ∷ example.asks 1 example.look_up_top
+    ∷ example.asks 1 duty_example.look_up_top
     ∷ a_only
 
 abbrev pub not_asked : CallResult
@@ -103,8 +104,8 @@ b_waits_first =
     ∷ event.Serve 0 4 reply.Fine
     ∷ finishes 0 3 (op.Create (codes "f") 0o644)
     ∷ event.Serve 0 2 example.found_top
-    ∷ example.asks 0 example.look_up_top
-    ∷ example.asks 1 example.look_up_top
+    ∷ example.asks 0 duty_example.look_up_top
+    ∷ example.asks 1 duty_example.look_up_top
     ∷ []
 
 -- the call of `a`, where it ended for want of memory
@@ -122,4 +123,4 @@ no_memory first last asks = record {
 
 -- the server wants memory for the lookup of `a`
 abbrev pub wanted_by_server : List Event
-wanted_by_server = event.Serve 0 1 reply.NoMem ∷ example.asks 0 example.look_up_top ∷ []
+wanted_by_server = event.Serve 0 1 reply.NoMem ∷ example.asks 0 duty_example.look_up_top ∷ []

@@ -1,3 +1,4 @@
+pub mod AskLog
 pub mod Scene
 pub mod Waiting
 pub mod Moves

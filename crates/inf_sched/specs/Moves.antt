@@ -1,6 +1,6 @@
 -- The moves of an order: which scenes each may lead to.
 use Rattle.std.specs.Prelude.{◌≡◌, ◌⊎◌, ℕ, zero, suc, ◌+◌, Bool, true, false, length, Option, Some, None}
-use Rattle.inf_core.specs.World.{World}
+use Rattle.inf_duty.specs.World.{World}
 use Rattle.inf_order.specs.declared.moves.Move.{Move}
 use Rattle.inf_order.specs.declared.moves.Move.TheVariants as move
 use Rattle.inf_sched.specs.Scene.{Scene, Asks, MakesServe, calls_left, can_ask, has_calls, has_ended, number_in}

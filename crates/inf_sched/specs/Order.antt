@@ -1,9 +1,9 @@
 -- The outcomes that an order makes.
 use Rattle.std.specs.Prelude.{◌≡◌, ℕ, ◌+◌, Bool, true, false, List, [], ◌∷◌, ◌++◌}
 use Rattle.inf_base.specs.declared.setup.ClientLine.{ClientLine}
-use Rattle.inf_core.specs.Client.{Client}
-use Rattle.inf_core.specs.Outcome.{all_given_up, results_of}
-use Rattle.inf_core.specs.World.{World}
+use Rattle.inf_duty.specs.Client.{Client}
+use Rattle.inf_duty.specs.Outcome.{all_given_up, results_of}
+use Rattle.inf_duty.specs.World.{World}
 use Rattle.inf_message.specs.declared.call_result.CallResult.{CallResult}
 use Rattle.inf_message.specs.declared.event.Event.{Event}
 use Rattle.inf_order.specs.declared.moves.Move.{Move}

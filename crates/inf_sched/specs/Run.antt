@@ -1,15 +1,18 @@
 -- What contracts see of a run, and what it keeps behind that.
-use Rattle.std.specs.Prelude.{◌≡◌, ◌⊎◌, ℕ, zero, suc, ◌+◌, Bool, true, false, List, [], ◌∷◌, length, map, slice_get, Some, None}
-use Rattle.inf_core.specs.Client.{Client, start}
+use Rattle.std.specs.Prelude.{◌≡◌, ◌⊎◌, ℕ, zero, suc, ◌+◌, Bool, true, false, List, [], ◌∷◌, ◌++◌, length, map, reverse, slice_get, Some, None}
+use Rattle.inf_duty.specs.Client.{Client, start}
 use Rattle.inf_core.specs.Core.{IsSameRun, Running}
-use Rattle.inf_core.specs.Legal.{Legal, MayAsk, MayServe, client_after}
-use Rattle.inf_core.specs.Outcome.{all_given_up, results_of}
-use Rattle.inf_core.specs.World.{World}
+use Rattle.inf_core.specs.Legal.{Legal, MayAsk, MayServe}
+use Rattle.inf_duty.specs.After.{client_after}
+use Rattle.inf_duty.specs.Outcome.{all_given_up, results_of}
+use Rattle.inf_duty.specs.World.{World}
 use Rattle.inf_message.specs.declared.ask.Ask.{Ask}
 use Rattle.inf_message.specs.declared.call_result.CallResult.{CallResult}
 use Rattle.inf_message.specs.declared.event.Event.{Event}
 use Rattle.inf_message.specs.declared.event.Event.TheVariants as event
+use Rattle.inf_message.specs.History.{Own, asks_of, made_ask, own_ask, served_at, told_reply}
 use Rattle.inf_sched.specs.Actor.{Actor, actor, wants_to_ask}
+use Rattle.inf_sched.specs.AskLog.{no_asks}
 use Rattle.inf_sched.specs.declared.stepping.Stepped.{Stepped}
 use Rattle.inf_sched.specs.declared.stepping.Stepped.TheVariants as stepped
 use Rattle.inf_message.specs.declared.reply.Reply.{Reply}
@@ -46,9 +49,15 @@ IsStateOf false s state = state ≡ s
 abbrev pub IsActor : Client → Actor → Type 0
 IsActor s a = IsStateOf a.gone s a.state
 
+-- the Asks of a client in the order of asking, each with its answer, if it was served
+abbrev pub asks_shown : ℕ → List Event → List Own
+asks_shown client h = reverse (asks_of client h)
+
 pub record AreActors (world : World) (h : List Event) (actors : List Actor) : Type 0 where
   pub count : length actors ≡ length world.setup.clients
   pub each : (client : ℕ) (a : Actor) → slice_get actors client ≡ Some a → IsActor (client_after world client h) a
+  -- what it keeps of its Asks is what its events show
+  pub asks : (client : ℕ) (a : Actor) → slice_get actors client ≡ Some a → a.log.asks ≡ asks_shown client h
 
 -- so many queues, each with the Asks that fit
 pub record AreQueues (fits : ℕ → Posting → Bool) (h : List Event) (many : ℕ) (queues : List (List Posting)) : Type 0 where
@@ -73,6 +82,7 @@ pub record Asked (world : World) (client : ℕ) (p : Posting) (h after : List Ev
   pub joins : after ≡ event.Ask number ask ∷ h
   pub posted : p ≡ posting (suc (length h)) number client
   pub still_here : b.gone ≡ false
+  pub asks : b.log.asks ≡ a.log.asks ++ own_ask (made_ask number ask (suc (length h))) None ∷ []
   pub actor : IsActor (client_after world client after) b
   pub legal : Legal world after
 
@@ -83,6 +93,7 @@ pub record HasGivenUp (world : World) (client : ℕ) (h after : List Event) (a b
   pub between : a.state.sent ≡ []
   pub same : after ≡ h
   pub gone : b.gone ≡ true
+  pub asks : b.log.asks ≡ a.log.asks
   pub actor : IsActor (client_after world client h) b
 
 -- it has no ask to make
@@ -108,6 +119,7 @@ pub record HasServed (world : World) (p : Posting) (h after : List Event) (a b :
   pub may : MayServe world h p.number p.place given
   pub joins : after ≡ event.Serve p.number p.place given ∷ h
   pub same_gone : b.gone ≡ a.gone
+  pub asks : b.log.asks ≡ map (served_at p.place (told_reply (suc (length h)) given)) a.log.asks
   pub actor : IsActor (client_after world p.client after) b
   pub legal : Legal world after
 
@@ -127,7 +139,7 @@ unset (suc many) = false ∷ unset many
 -- the first so many clients before anything has happened
 pub record AreOpening (world : World) (many : ℕ) (actors : List Actor) : Type 0 where
   pub count : length actors ≡ many
-  pub each : (client : ℕ) (a : Actor) → slice_get actors client ≡ Some a → a ≡ actor (start world client) false
+  pub each : (client : ℕ) (a : Actor) → slice_get actors client ≡ Some a → a ≡ actor (start world client) false no_asks
   pub gone : gone_of actors ≡ unset many
 
 pub record AreEmpty (many : ℕ) (queues : List (List Posting)) : Type 0 where

@@ -1,12 +1,13 @@
 -- Where a run stands, and the steps that it takes: a client asks, or wants memory; a server serves.
 use Rattle.std.specs.Prelude.{◌≡◌, ◌⊎◌, ℕ, Bool, true, false, ◌&&◌, ◌||◌, not, nat_lt, List, [], ◌∷◌, length, map, slice_get, slice_set, Option, Some, None}
 use Rattle.inf_base.specs.declared.setup.ClientLine.{ClientLine}
-use Rattle.inf_core.specs.Client.{Client, Sent}
-pub use Rattle.inf_core.specs.ClientStep.{is_ask}
-use Rattle.inf_core.specs.Duty.{next_step}
-use Rattle.inf_core.specs.Group.{composed}
-use Rattle.inf_core.specs.Legal.{MayAsk, MayServe, client_after}
-use Rattle.inf_core.specs.World.{World}
+use Rattle.inf_duty.specs.Client.{Client, Sent}
+pub use Rattle.inf_duty.specs.ClientStep.{is_ask}
+use Rattle.inf_duty.specs.Duty.{next_step}
+use Rattle.inf_duty.specs.Group.{composed}
+use Rattle.inf_core.specs.Legal.{MayAsk, MayServe}
+use Rattle.inf_duty.specs.After.{client_after}
+use Rattle.inf_duty.specs.World.{World}
 use Rattle.inf_message.specs.declared.ask.Ask.{Ask}
 use Rattle.inf_message.specs.declared.event.Event.{Event}
 use Rattle.inf_message.specs.declared.event.Event.TheVariants as event

@@ -1,16 +1,20 @@
 //! Laws of the orders of moves, each a function that only states it.
 
-ghost use Rattle.std.specs.Prelude.{◌≡◌, List, All};
+ghost use Rattle.std.specs.Prelude.{◌≡◌, ℕ, List, All, Some, map, reverse, slice_get};
 ghost use Rattle.inf_base.specs.declared.answer.Answer.TheVariants as answer;
 ghost use Rattle.inf_core.specs.Legal.{Legal};
-ghost use Rattle.inf_core.specs.Outcome.{Outcome};
-ghost use Rattle.inf_core.specs.World.{World};
+ghost use Rattle.inf_duty.specs.Outcome.{Outcome};
+ghost use Rattle.inf_duty.specs.Own.{client_of, own_of};
+ghost use Rattle.inf_duty.specs.World.{World};
 ghost use Rattle.inf_message.specs.declared.call_result.CallResult.{CallResult};
 ghost use Rattle.inf_message.specs.declared.event.Event.{Event};
+ghost use Rattle.inf_message.specs.History.{trips_of};
 ghost use Rattle.inf_order.specs.declared.moves.Move.{Move};
+ghost use Rattle.inf_sched.specs.Actor.{Actor, trips_of_actor};
 ghost use Rattle.inf_sched.specs.Endings.{IsLeftOpen};
 ghost use Rattle.inf_sched.specs.Laws.{IsStraight, MakesCalmly};
 ghost use Rattle.inf_sched.specs.Order.{ByOrder, results_in};
+ghost use Rattle.inf_sched.specs.Run.{AreActors, IsActor};
 ghost use Rattle.inf_sched.specs.Scene.{opening};
 ghost use Rattle.inf_sched.specs.Straight.{straight};
 
@@ -53,4 +57,18 @@ pub fn unanswered_calls_are_left()
     ensures { (world : World) (order : List Move) (h : List Event) (results : List CallResult)
         → ByOrder world order h results
         → All (λ result. result.answer ≡ answer.Unanswered → IsLeftOpen world h result) results }
+{}
+
+/// A client of a run keeps exactly its trips of the history, the oldest first.
+pub fn clients_keep_their_trips()
+    ensures { (world : World) (h : List Event) (actors : List Actor) (client : ℕ) (a : Actor)
+        → AreActors world h actors → slice_get actors client ≡ Some a
+        → trips_of_actor a ≡ reverse (trips_of client h) }
+{}
+
+/// And its state, and so its results, is what these Asks show, those that wait among them.
+pub fn kept_asks_show_the_client()
+    ensures { (world : World) (h : List Event) (actors : List Actor) (client : ℕ) (a : Actor)
+        → Legal world h → AreActors world h actors → slice_get actors client ≡ Some a
+        → IsActor (client_of world client (map own_of a.log.asks)) a }
 {}

@@ -1,6 +1,7 @@
 //! Runs the calls of a script under an order of moves: clients ask, servers serve, and a history comes of it.
 #![tactic(auto)]
 
+mod ask_log;
 mod client;
 mod ending;
 mod examples;
@@ -17,10 +18,11 @@ mod stepping;
 
 pub use client::Client;
 pub use examples::{ended_calls, lone_clients, single_moves, wanting};
-pub use inf_core::{ClientStep, Outcome, Results};
+pub use inf_duty::{ClientStep, Outcome, Results};
 pub use inf_order::{MOST_MOVES, Move, Moves};
 pub use laws::{
-    every_order_is_made_without_want_of_memory, one_history_without_want_of_memory,
+    clients_keep_their_trips, every_order_is_made_without_want_of_memory,
+    kept_asks_show_the_client, one_history_without_want_of_memory,
     one_outcome_without_want_of_memory, unanswered_calls_are_left,
     what_an_order_makes_is_an_outcome, what_an_order_makes_is_legal,
 };

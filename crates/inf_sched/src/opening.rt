@@ -1,9 +1,9 @@
 //! The clients and queues of a run before anything has happened.
 
-ghost use Rattle.std.specs.Prelude.{◌≡◌, ◌≤◌, [], length, IfOk};
+ghost use Rattle.std.specs.Prelude.{◌≤◌, length, IfOk};
 ghost use Rattle.inf_base.specs.declared.limits.TheConstants.{MOST_CALLS, MOST_CLIENTS};
 ghost use Rattle.inf_base.specs.Setup.{call_count};
-ghost use Rattle.inf_core.specs.Kept.{world_by};
+ghost use Rattle.inf_duty.specs.World.{world_by};
 ghost use Rattle.inf_sched.specs.Run.{AreEmpty, AreOpening};
 
 use crate::client::Client;

@@ -1,6 +1,6 @@
 //! Queues of Asks that wait to be served.
 
-ghost use Rattle.std.specs.Prelude.{◌≡◌, ◌≤◌, ◌+◌, ◌<◌, ◌^◌, ◌&&◌, ◌∷◌, ◌++◌, [], length, slice_get, OnOk, OnErr, IsSome, All};
+ghost use Rattle.std.specs.Prelude.{◌≡◌, ◌+◌, ◌<◌, ◌^◌, ◌&&◌, ◌∷◌, ◌++◌, [], slice_get, OnOk, OnErr, IsSome, All};
 ghost use Rattle.std.specs.List.{find};
 ghost use Rattle.inf_message.specs.History.{is_served};
 ghost use Rattle.inf_sched.specs.Waiting.{IsFrontLeft, IsWithin, first_of, is_open, is_to};

@@ -4,8 +4,9 @@ ghost use Rattle.std.specs.Prelude.{◌≡◌, ◌<◌, ◌≤◌, [], false, le
 ghost use Rattle.inf_base.specs.declared.limits.TheConstants.{MOST_CALLS, MOST_CLIENTS};
 ghost use Rattle.inf_base.specs.Setup.{call_count};
 ghost use Rattle.inf_core.specs.Core.{IsSameRun, world_in};
-ghost use Rattle.inf_core.specs.Kept.{world_by};
+ghost use Rattle.inf_duty.specs.World.{world_by};
 ghost use Rattle.inf_core.specs.Legal.{Legal};
+ghost use Rattle.inf_message.specs.History.{trips_of};
 ghost use Rattle.inf_sched.specs.Order.{results_in};
 ghost use Rattle.inf_sched.specs.Run.{HasStepped, scene_of};
 ghost use Rattle.inf_sched.specs.Scene.{MakesServe, calls_left, has_calls, has_ended, is_gone, number_in, opening};
@@ -20,7 +21,9 @@ use crate::serving::serve;
 use crate::stepping::{Stepped, let_ask};
 use inf_base::{NoMemory, Setup};
 use inf_birth::IdRule;
-use inf_core::{Core, Outcome, Results};
+use inf_core::Core;
+use inf_duty::{Outcome, Results};
+use inf_message::Trip;
 use std::alloc::Global;
 use std::marker::Model;
 
@@ -219,6 +222,14 @@ impl<R: IdRule> Run<R> {
             return false;
         }
         self.calls_left(client) > 0
+    }
+
+    /// The client's own Asks that were answered, each with its answer and both places, in the order of asking.
+    pub fn trips(&self, client: u32) -> &[Trip]
+        requires there { client < length self.now.core.setup.clients }
+        ensures { result.now ≡ reverse (trips_of client self.now.core.history) }
+    {
+        self.clients[client as usize].trips()
     }
 
     pub fn client_count(&self) -> u32

@@ -1,8 +1,8 @@
 //! What comes of serving an Ask.
 
-ghost use Rattle.std.specs.Prelude.{◌≡◌, OnOk};
+ghost use Rattle.std.specs.Prelude.{OnOk};
 ghost use Rattle.inf_core.specs.Core.{IsSameRun, world_in};
-ghost use Rattle.inf_core.specs.Legal.{Legal, client_after};
+ghost use Rattle.inf_duty.specs.After.{client_after};
 ghost use Rattle.inf_sched.specs.Run.{HasServed, IsActor};
 ghost use Rattle.inf_sched.specs.Waiting.{IsWaiting};
 

@@ -2,14 +2,16 @@
 
 ghost use Rattle.std.specs.Prelude.{◌≡◌, ◌<◌, length, IfOk, OnOk};
 ghost use Rattle.inf_core.specs.Core.{IsSameRun, world_in};
-ghost use Rattle.inf_core.specs.Legal.{Legal, client_after};
+ghost use Rattle.inf_core.specs.Legal.{Legal};
+ghost use Rattle.inf_duty.specs.After.{client_after};
 ghost use Rattle.inf_sched.specs.Run.{Did, IsActor, rested};
 
 use crate::client::Client;
 use crate::posting::Posting;
 use inf_base::NoMemory;
 use inf_birth::IdRule;
-use inf_core::{ClientStep, Core};
+use inf_core::Core;
+use inf_duty::ClientStep;
 use std::alloc::Global;
 
 /// What a client did that was let ask.
@@ -22,7 +24,7 @@ pub enum Stepped {
     Rested,
 }
 
-#[tactic(auto, using(crate::proofs::StepFacts::ready_here, crate::proofs::StepFacts::ready_asks, crate::proofs::StepFacts::asked_did, crate::proofs::StepFacts::rested_did, crate::proofs::StepFacts::waiting_rests, crate::proofs::StepFacts::finished_rests))]
+#[tactic(auto, using(crate::proofs::StepFacts::ready_here, crate::proofs::StepFacts::ready_kept, crate::proofs::StepFacts::asked_did, crate::proofs::StepFacts::rested_did, crate::proofs::StepFacts::waiting_rests, crate::proofs::StepFacts::finished_rests))]
 /// Lets the client of this number make its next ask.
 pub fn let_ask<R: IdRule>(
     alloc: Global,

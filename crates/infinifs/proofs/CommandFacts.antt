@@ -5,8 +5,9 @@ use Rattle.std.proofs.lemmas.List.{reverse-reverse, take_all}
 use Rattle.std.specs.Io.KnownBytes.{Appends, Keeps}
 use Rattle.inf_base.specs.Setup.{IsValid}
 use Rattle.inf_core.specs.Legal.{Legal}
-use Rattle.inf_core.specs.Outcome.{Outcome, decisions}
-use Rattle.inf_core.specs.World.{world_of}
+use Rattle.inf_duty.specs.Outcome.{Outcome}
+use Rattle.inf_core.specs.Replayed.{decisions}
+use Rattle.inf_duty.specs.World.{world_of}
 use Rattle.inf_core.proofs.CauseFacts.{again_is_because}
 use Rattle.inf_io.specs.Faults.{Rose}
 use Rattle.inf_message.specs.declared.call_result.CallResult.{CallResult}

@@ -3,9 +3,9 @@ use Rattle.std.proofs.Common.{List, length, reverse, subst}
 use Rattle.std.proofs.lemmas.List.{length-reverse}
 use Rattle.inf_core.proofs.OwnPlaces.{results_have_own_places}
 use Rattle.inf_core.specs.Legal.{Legal}
-use Rattle.inf_core.specs.Outcome.{Outcome}
-use Rattle.inf_core.specs.Places.{HaveOwnPlaces}
-use Rattle.inf_core.specs.World.{World}
+use Rattle.inf_duty.specs.Outcome.{Outcome}
+use Rattle.inf_duty.specs.Places.{HaveOwnPlaces}
+use Rattle.inf_duty.specs.World.{World}
 use Rattle.inf_message.specs.declared.call_result.CallResult.{CallResult}
 use Rattle.inf_message.specs.declared.event.Event.{Event}
 

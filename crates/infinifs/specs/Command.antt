@@ -10,8 +10,9 @@ use Rattle.inf_base.specs.declared.setup.Setup.{Setup}
 use Rattle.inf_base.specs.Setup.{IsValid}
 use Rattle.inf_core.specs.Causes.{IsAgainBecause}
 use Rattle.inf_core.specs.Legal.{Legal}
-use Rattle.inf_core.specs.Outcome.{Outcome, decisions}
-use Rattle.inf_core.specs.World.{World, world_of}
+use Rattle.inf_duty.specs.Outcome.{Outcome}
+use Rattle.inf_core.specs.Replayed.{decisions}
+use Rattle.inf_duty.specs.World.{World, world_of}
 use Rattle.inf_io.specs.Faults.{Rose}
 use Rattle.inf_message.specs.declared.call_result.CallResult.{CallResult}
 use Rattle.inf_message.specs.declared.event.Event.{Event}

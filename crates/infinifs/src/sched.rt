@@ -4,7 +4,7 @@ ghost use Rattle.std.specs.Prelude.{◌≡◌, Contains, true, [], ◌∷◌, le
 ghost use Rattle.std.specs.List.{list_all};
 ghost use Rattle.std.specs.Io.KnownBytes.{Keeps};
 ghost use Rattle.inf_base.specs.Setup.{IsValid};
-ghost use Rattle.inf_core.specs.Places.{HaveOwnPlaces};
+ghost use Rattle.inf_duty.specs.Places.{HaveOwnPlaces};
 ghost use Rattle.inf_io.specs.Faults.{Rose};
 ghost use Rattle.inf_order.specs.Order.{is_move_of};
 ghost use Rattle.inf_report.specs.Report.{report};
@@ -15,7 +15,7 @@ ghost use Rattle.infinifs.specs.Command.{BreaksOff, Reported, RefusedScript, Sch
 use crate::input::{InputFault, script_of};
 use crate::status::Status;
 use inf_base::{NoMemory, Setup};
-use inf_core::Outcome;
+use inf_duty::Outcome;
 use inf_io::{Sink, Source, write_all};
 use inf_report::{ReportFault, write_report};
 use inf_sched::schedule;

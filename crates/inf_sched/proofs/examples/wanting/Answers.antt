@@ -1,5 +1,6 @@
 use Rattle.std.proofs.Common.{true, false, [], ◌∷◌, refl, inl, inr, lit<}
 use Rattle.inf_core.specs.Examples as example
+use Rattle.inf_duty.specs.Examples as duty_example
 use Rattle.inf_core.specs.Legal.{server_after}
 use Rattle.inf_message.specs.declared.reply.Reply.TheVariants as reply
 use Rattle.inf_message.specs.History.{posted_ask}
@@ -25,7 +26,7 @@ pub returns-clause-by_server : goal.returns-clause-by_server
 unfolding asked_once
 returns-clause-by_server c =
     let served : Scene = record { history = wanted_by_server; gone = false ∷ false ∷ [] } in
-    let ask = example.ask 0 example.look_up_top in
+    let ask = duty_example.ask 0 duty_example.look_up_top in
     record {
       scene = served;
       moves = record {
@@ -35,7 +36,7 @@ returns-clause-by_server c =
           between = served;
           first = record {
             given = reply.NoMem;
-            may = record { posted = posted_ask 0 ask; made = refl; to = refl; waits = refl; after = server_after example.world 0 (example.first_events 1); reply = (refl, refl) };
+            may = record { posted = posted_ask 0 ask; made = refl; to = refl; waits = refl; after = server_after duty_example.world 0 (example.first_events 1); reply = (refl, refl) };
             joins = refl;
           };
           later = refl;
@@ -47,5 +48,5 @@ returns-clause-by_server c =
 
 pub returns-clause-silent : goal.returns-clause-silent
 returns-clause-silent c = λ calm.
-    let made = (is_straight example.world (a_steps ∷ []) [] _ calm).made in
+    let made = (is_straight duty_example.world (a_steps ∷ []) [] _ calm).made in
     absurd (cc)

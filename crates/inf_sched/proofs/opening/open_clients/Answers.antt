@@ -1,5 +1,5 @@
 use Rattle.std.proofs.Common.{rules}
-use Rattle.inf_core.specs.Kept.{world_by}
+use Rattle.inf_duty.specs.World.{world_by}
 use Rattle.inf_sched.proofs.OpeningFacts.{opening_more}
 use Rattle.inf_sched.proofs.opening.open_clients.Goals as goal
 

@@ -1,4 +1,4 @@
-use Rattle.inf_core.specs.Kept.{world_by}
+use Rattle.inf_duty.specs.World.{world_by}
 use Rattle.inf_sched.specs.Run.{AreOpening}
 use Rattle.inf_sched.proofs.opening.open_clients.Given as goal
 

@@ -1,5 +1,5 @@
 use Rattle.std.proofs.Common.{◌≡◌, refl, reverse, rules}
-use Rattle.inf_core.specs.World.{world_of}
+use Rattle.inf_duty.specs.World.{world_of}
 use Rattle.inf_core.proofs.Replayed.{all_replay}
 use Rattle.inf_sched.proofs.OrderLaws.{is_outcome}
 use Rattle.inf_sched.proofs.ScheduleFacts.{made_by_order, made_legal, sha_digest, sha_opening, sha_world}

@@ -1,6 +1,6 @@
 use Rattle.std.proofs.Common.{inl, reverse, subst}
 use Rattle.std.proofs.KnownBytes.{Keeps-refl}
-use Rattle.inf_core.specs.World.{world_of}
+use Rattle.inf_duty.specs.World.{world_of}
 use Rattle.inf_sched.specs.Order.{ByOrder}
 use Rattle.infinifs.proofs.CommandFacts.{outcome_did}
 use Rattle.infinifs.proofs.PlacesFacts.{own_places-reverse}

@@ -1,5 +1,6 @@
 use Rattle.std.proofs.Common.{false, [], ◌∷◌, ◌++◌, List, Bool, reverse, ap, subst, sym, ◌∙◌}
-use Rattle.inf_core.specs.Core.{Running, world, world_in}
+use Rattle.inf_core.specs.Core.{Running, world_in}
+use Rattle.inf_duty.specs.World.{world_by}
 use Rattle.inf_core.specs.Legal.{Legal, MayAsk}
 use Rattle.inf_core.proofs.CoreFacts.{ask_kept, kept_so, reversed_push}
 use Rattle.inf_core.proofs.Replayed.{all_replay, all_replay_in}
@@ -25,4 +26,4 @@ returns-clause-replays g c =
     let old = c.self.inside in
     let may = subst (λ (v : Running _). MayAsk (world_in g.R.IdRule.digest_of v) v.history c.args.number c.args.ask) (sym c.self.view_is) c.requires.may in
     let joins = reversed_push old.events.items c.reserve.new.self.items c.join.new.events.items _ c.reserve.ensures.items c.join.ensures.events in
-    all_replay _ _ (subst (Legal (world old.setup (g.R.IdRule.digest_of old.rule))) (sym joins) (c.self.invariant.legal, may))
+    all_replay _ _ (subst (Legal (world_by (g.R.IdRule.digest_of old.rule) old.setup)) (sym joins) (c.self.invariant.legal, may))

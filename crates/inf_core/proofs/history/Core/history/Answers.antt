@@ -1,6 +1,6 @@
 use Rattle.std.proofs.Common.{subst}
 use Rattle.inf_core.specs.Core.{Running, world_in}
-use Rattle.inf_core.specs.Outcome.{AllReplay}
+use Rattle.inf_core.specs.Replayed.{AllReplay}
 use Rattle.inf_core.proofs.Replayed.{all_replay}
 use Rattle.inf_core.proofs.history.Core.history.Goals as goal
 

@@ -1,9 +1,10 @@
 use Rattle.std.proofs.Common.{◌≡◌, ◌-◌, true, false, [], ◌∷◌, ◌++◌, List, Bool, length, reverse, slice_set, ap, subst, sym, ◌∙◌, arith, length-append}
 use Rattle.std.proofs.lemmas.List.{length-reverse}
-use Rattle.inf_core.specs.Core.{IsServedNext, Running, world, world_in}
+use Rattle.inf_core.specs.Core.{IsServedNext, Running, world_in}
+use Rattle.inf_duty.specs.World.{world_by}
 use Rattle.inf_core.specs.Legal.{Legal}
 use Rattle.inf_core.proofs.CoreFacts.{ask_indexed, kept_so, made_at, reversed_push, serving}
-use Rattle.inf_core.proofs.Posted.{posted_known}
+use Rattle.inf_core.proofs.Posted.{posted_known, sent_is_built}
 use Rattle.inf_core.proofs.Replayed.{all_replay, all_replay_in}
 use Rattle.inf_message.specs.declared.reply.Reply.{Reply}
 use Rattle.inf_message.specs.History.{is_served}
@@ -18,7 +19,7 @@ serve_at-reply-requires-clause-there g c =
 pub serve_at-reply-requires-clause-built : goal.serve_at-reply-requires-clause-built
 serve_at-reply-requires-clause-built g c =
     let made = made_at c.args.ask_place c.self.inside.events.items _ _ _ c.as_slice.ensures.value c.reserve.ensures.items c.ask_at-number.ensures in
-    (posted_known _ c.args.ask_place _ _ c.self.invariant.legal made).built
+    sent_is_built _ (posted_known _ c.args.ask_place _ _ c.self.invariant.legal made).sent
 
 pub serve_at-reply-requires-clause-short_chains : goal.serve_at-reply-requires-clause-short_chains
 serve_at-reply-requires-clause-short_chains g c =
@@ -60,7 +61,7 @@ returns-clause-served g c =
     let waits = subst (λ (v : Running _). is_served c.args.ask_place v.history ≡ false) (sym c.self.view_is) c.requires.waits in
     let joins = reversed_push old.events.items c.reserve.new.self.items c.join-place.new.events.items _ c.reserve.ensures.items c.join-place.ensures.events in
     subst (λ (v : Running _). IsServedNext (world_in g.R.IdRule.digest_of v) v.history (reverse c.join-place.new.events.items) c.args.ask_place c.in_ok-told.told) c.self.view_is
-    (subst (λ (r : Reply). IsServedNext (world old.setup (g.R.IdRule.digest_of old.rule)) (reverse old.events.items) (reverse c.join-place.new.events.items) c.args.ask_place r) (sym c.in_ok-told.ensures.ok)
+    (subst (λ (r : Reply). IsServedNext (world_by (g.R.IdRule.digest_of old.rule) old.setup) (reverse old.events.items) (reverse c.join-place.new.events.items) c.args.ask_place r) (sym c.in_ok-told.ensures.ok)
     (record { number = c.ask_at-number.result.0; may = s.may waits; joins = joins }))
 
 pub returns-clause-legal : goal.returns-clause-legal
@@ -69,7 +70,7 @@ returns-clause-legal g c =
     let s = serving g.R.IdRule.digest_of old.setup old.rule old.events.items _ _ c.args.ask_place _ c.serve_at-reply.result old.servers.items c.serve_at-reply.new.servers.items old.served.items c.as_slice.ensures.value c.reserve.ensures.items c.ask_at-number.ensures c.self.invariant c.serve_at-reply.ensures in
     let waits = subst (λ (v : Running _). is_served c.args.ask_place v.history ≡ false) (sym c.self.view_is) c.requires.waits in
     let joins = reversed_push old.events.items c.reserve.new.self.items c.join-place.new.events.items _ c.reserve.ensures.items c.join-place.ensures.events in
-    subst (Legal (world old.setup (g.R.IdRule.digest_of old.rule))) (sym joins) (s.kept waits).legal
+    subst (Legal (world_by (g.R.IdRule.digest_of old.rule) old.setup)) (sym joins) (s.kept waits).legal
 
 pub returns-in_err-reserve-clause-replays : goal.returns-in_err-reserve-clause-replays
 returns-in_err-reserve-clause-replays g c = all_replay_in _ _ _ c.reserve.ensures.items c.self.invariant.legal

@@ -1,4 +1,3 @@
-use Rattle.std.proofs.Common.{rules}
 use Rattle.inf_sched.proofs.QueueFacts.{found_left}
 use Rattle.inf_sched.proofs.queue.Queue.oldest_to.Goals as goal
 

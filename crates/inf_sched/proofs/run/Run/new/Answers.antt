@@ -1,6 +1,6 @@
 use Rattle.std.proofs.Common.{◌≡◌, ◌+◌, length, [], refl, sym, ap, subst, rules}
 use Rattle.inf_core.specs.Core.{Running, world_in}
-use Rattle.inf_core.specs.Kept.{world_by}
+use Rattle.inf_duty.specs.World.{world_by}
 use Rattle.inf_sched.specs.Run.{AreEmpty, AreOpening, IsKept}
 use Rattle.inf_sched.proofs.OpeningFacts.{kept_opening, opening_scene}
 use Rattle.inf_sched.proofs.run.Run.new.Goals as goal

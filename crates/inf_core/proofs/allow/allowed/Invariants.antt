@@ -1,5 +1,0 @@
-use Rattle.inf_core.proofs.OwnFacts.{HasFollowed}
-use Rattle.inf_core.proofs.allow.allowed.Given as goal
-
-abbrev pub invariant-loop-made : goal.invariant-loop-made
-invariant-loop-made g l = HasFollowed l.initial.machine l.machine l.own l.made-index

@@ -1,0 +1,11 @@
+pub mod ResultFacts
+pub mod Placed
+pub mod MessageFacts
+pub mod PathFacts
+pub mod SendingFacts
+pub mod TurnFacts
+pub mod BegunFacts
+pub mod NextFacts
+pub mod StartFacts
+pub mod OwnFacts
+pub mod StepFacts

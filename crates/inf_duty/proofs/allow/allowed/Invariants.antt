@@ -1,0 +1,5 @@
+use Rattle.inf_duty.proofs.OwnFacts.{HasFollowed}
+use Rattle.inf_duty.proofs.allow.allowed.Given as goal
+
+abbrev pub invariant-loop-made : goal.invariant-loop-made
+invariant-loop-made g l = HasFollowed l.initial.machine l.machine l.own l.made-index

@@ -1,0 +1,26 @@
+-- How the counts of a call change.
+use Rattle.std.specs.Prelude.{ℕ, ◌+◌, Bool, true, false, not, Some, None}
+use Rattle.inf_duty.specs.Client.{Counts, first_place, one_if}
+
+-- an Ask more
+abbrev pub with_ask : ℕ → Bool → Counts → Counts
+with_ask place begins_round c = record {
+  first = first_place c.first place;
+  last = c.last;
+  attempts = c.attempts + one_if (not c.is_begun);
+  rounds = c.rounds + one_if begins_round;
+  messages = c.messages + 1;
+  is_begun = true;
+}
+
+-- a Serve more
+abbrev pub with_serve : ℕ → Counts → Counts
+with_serve place c = record c { last = Some place }
+
+-- no Serve is known any more
+abbrev pub without_serves : Counts → Counts
+without_serves c = record c { last = None }
+
+-- the attempt is over
+abbrev pub at_new_attempt : Counts → Counts
+at_new_attempt c = record c { is_begun = false }

@@ -1,0 +1,71 @@
+//! Whether a client may send an ask, told from what it asked and was answered.
+
+ghost use Rattle.std.specs.Prelude.{◌≡◌, ◌+◌, ◌<◌, ◌≤◌, ◌^◌, ◌↔◌, false, IfOk, IsTrue, OnOk};
+ghost use Rattle.inf_base.specs.declared.limits.TheConstants.{MOST_CALLS};
+ghost use Rattle.inf_base.specs.Setup.{call_count};
+ghost use Rattle.inf_duty.specs.Client.{has_place};
+ghost use Rattle.inf_duty.specs.Duty.{Duty};
+ghost use Rattle.inf_duty.specs.World.{world_by};
+ghost use Rattle.inf_duty.specs.Own.{AreInOrder, after_own, client_of};
+
+use crate::client::ClientMachine;
+use crate::own::OwnAsk;
+use inf_base::{NoMemory, Setup, TryClone};
+use inf_birth::IdRule;
+use inf_message::Ask;
+use std::alloc::Global;
+
+/// The client makes one more of its Asks, and is answered if that Ask was.
+fn follow(alloc: Global, machine: &mut ClientMachine, own: &OwnAsk) -> Result<(), NoMemory>
+    requires fresh { has_place own.now.ask_place machine.old.sent ≡ false }
+    requires room { machine.old.counts.messages + 1 < 2 ^ 64 }
+    ensures { OnOk result (machine.new ≡ after_own machine.old own.now) }
+{
+    machine.asked(alloc, own.ask_place, &own.ask)?;
+    match &own.told {
+        None => Ok(()),
+        Some((serve_place, reply)) => {
+            let reply = reply.try_clone(alloc)?;
+            let _ = machine.told(own.ask_place, *serve_place, reply);
+            Ok(())
+        }
+    }
+}
+
+/// Whether the Asks stand in the order of asking, which their places tell.
+pub fn are_in_order(own: &[OwnAsk]) -> bool
+    ensures { IsTrue result ↔ AreInOrder own.now }
+{
+    let mut last = 0;
+    for made in own {
+        if made.ask_place <= last {
+            return false;
+        }
+        last = made.ask_place;
+    }
+    true
+}
+
+/// Whether the client of this number may send an ask to the server of that number, once it has made these Asks, in
+/// the order of asking, and was given their answers.
+pub fn allowed<R: IdRule>(
+    alloc: Global,
+    rule: &R,
+    setup: &Setup,
+    client: u32,
+    own: &[OwnAsk],
+    number: u32,
+    ask: &Ask,
+) -> Result<bool, NoMemory>
+    requires some_servers { 1 ≤ setup.now.servers }
+    requires few_calls { call_count setup.now.clients ≤ MOST_CALLS }
+    requires order { AreInOrder own.now }
+    ensures { IfOk result (λ yes. IsTrue yes
+        ↔ Duty (client_of (world_by (R.digest_of rule.now) setup.now) client own.now) number ask.now) }
+{
+    let mut machine = ClientMachine::start(alloc, rule, setup, client)?;
+    for made in own {
+        follow(alloc, &mut machine, made)?;
+    }
+    Ok(machine.allows(number, ask))
+}

@@ -1,0 +1,13 @@
+use Rattle.std.proofs.Common.{◌≡◌, reverse, subst, ◌∙◌, rules, arith}
+use Rattle.inf_core.specs.Core.{world_in}
+use Rattle.inf_message.specs.History.{trips_of}
+use Rattle.inf_sched.specs.Run.{Playing}
+use Rattle.inf_sched.proofs.OpeningFacts.{trips_same}
+use Rattle.inf_sched.proofs.RunFacts.{got_there}
+use Rattle.inf_sched.proofs.run.Run.trips.Goals as goal
+
+pub returns : goal.returns
+returns g c =
+    let at = got_there c.self.inside.clients.items c.args.client c.index.result.now c.index.ensures (search (rules, arith)) in
+    subst (λ (v : Playing _). c.trips.result.now ≡ reverse (trips_of c.args.client v.core.history)) c.self.view_is
+    (search rules ∙ trips_same (world_in g.R.IdRule.digest_of c.self.inside.core) c.self.inside.core.history c.self.inside.clients.items c.args.client c.index.result.now c.self.invariant.clients at)
