@@ -1,0 +1,247 @@
+-- What the slots of each directory are once the content objects of a server have changed.
+use Rattle.std.proofs.Common.{◌≡◌, ℕ, ◌==◌, ◌&&◌, Bool, true, false, cond, List, [], ◌∷◌, map, All, Option, Some, None, refl, sym, ap, ◌∙◌, subst}
+use Rattle.std.specs.Cmp.Lexicographic.{slice_cmp}
+use Rattle.std.specs.List.Sorted.{IsStrictlySortedBy}
+use Rattle.std.specs.List.{AllByRecursion}
+use Rattle.std.specs.Option.{option_map}
+use Rattle.std.specs.Ordering.{nat_cmp, match_ordering, is_eq}
+use Rattle.std.specs.declared.cmp.Ordering.{Ordering}
+use Rattle.std.specs.declared.cmp.Ordering.TheVariants.{Less, Equal, Greater}
+use Rattle.std.proofs.lemmas.Bool.Decides.{Decides-eqb}
+use Rattle.std.proofs.lemmas.List.Elements.{All-head, All-tail}
+use Rattle.std.proofs.lemmas.Map.Keys.{sorted_head, sorted_tail}
+use Rattle.std.proofs.lemmas.Map.Text.{is_eq-slice_cmp}
+use Rattle.std.proofs.lemmas.Slice.Eq.{bytes_eq-Decides}
+use Rattle.inf_base.specs.declared.caller.CallRef.{CallRef}
+use Rattle.inf_base.specs.declared.directory.DirRef.{DirRef}
+use Rattle.inf_base.specs.declared.id.Id.{Id}
+use Rattle.inf_base.specs.declared.triple.Triple.{Triple}
+use Rattle.inf_base.specs.Content.{Content, Slot}
+use Rattle.inf_base.specs.Same.{is_same_dir, is_same_id}
+use Rattle.inf_content.specs.Contents.{changed_at, content_at, content_of_id, dropped_at, empty_content, id_cmp, if_born, made_at, may_drop, placed, slots_at, slots_found, with_new, with_slots_at}
+use Rattle.inf_content.specs.Order.{IdentifiersRise}
+use Rattle.inf_laws_directory.proofs.SlotFacts.{AreSorted}
+
+-- the content objects are in the order of their identifiers, which are told apart by their bytes
+pub same_id_test : (a b : Id) → is_eq (id_cmp a b) ≡ is_same_id a b
+same_id_test a b = is_eq-slice_cmp a.bytes b.bytes
+
+pub same_id_self : (a : Id) → is_same_id a a ≡ true
+same_id_self a = (bytes_eq-Decides a.bytes a.bytes).1 refl
+
+pub same_id : (a b : Id) → is_same_id a b ≡ true → a ≡ b
+same_id a b same = ap (λ (bytes : List ℕ). record { bytes = bytes }) ((bytes_eq-Decides a.bytes b.bytes).0 same)
+
+abbrev dir_from : Id → ℕ → DirRef
+dir_from id born = record { id = id; born = born }
+
+same_parts : (a b : DirRef) (same_ids same_births : Bool) → is_same_id a.id b.id ≡ same_ids → (a.born == b.born) ≡ same_births
+    → (same_ids && same_births) ≡ true → a ≡ b
+same_parts a b true true ids births same =
+    ap (λ (id : Id). dir_from id a.born) (same_id a.id b.id ids) ∙ ap (λ (born : ℕ). dir_from b.id born) ((Decides-eqb a.born b.born).0 births)
+same_parts a b true false ids births same = cc
+same_parts a b false births_same ids births same = cc
+
+pub same_dir : (a b : DirRef) → is_same_dir a b ≡ true → a ≡ b
+same_dir a b same = same_parts a b (is_same_id a.id b.id) (a.born == b.born) refl refl same
+
+pub same_dir_self : (a : DirRef) → is_same_dir a a ≡ true
+same_dir_self a = rw (same_id_self a.id) ((Decides-eqb a.born a.born).1 refl)
+
+same_id_back : (a b : Id) → is_same_id a b ≡ true → is_same_id b a ≡ true
+same_id_back a b same = subst (λ (x : Id). is_same_id b x ≡ true) (sym (same_id a b same)) (same_id_self b)
+
+births_apart : (a b : DirRef) → is_same_dir a b ≡ false → is_same_id b.id a.id ≡ true → (a.born == b.born) ≡ false
+births_apart a b apart ids = let back = same_id_back b.id a.id ids in rw back at apart
+
+-- a content object of another directory stands in the way only of one of its own identifier
+pub passed_over : (other : DirRef) (c : Content) (cs : List Content) → is_same_dir c.dir other ≡ false
+    → content_at other (c ∷ cs) ≡ cond (is_same_id other.id c.dir.id) None (content_at other cs)
+passed_over other c cs apart = by (is_same_id other.id c.dir.id) (births_apart c.dir other apart)
+  where
+    by : (b : Bool) → (b ≡ true → (c.dir.born == other.born) ≡ false)
+        → if_born other.born (cond b (Some c) (content_of_id other.id cs)) ≡ cond b None (content_at other cs)
+    by true births = let apart = births refl in rw apart refl
+    by false births = refl
+
+same_front : (born : ℕ) (c : Content) (b : Bool) (found changed : Option Content) → if_born born changed ≡ if_born born found
+    → if_born born (cond b (Some c) changed) ≡ if_born born (cond b (Some c) found)
+same_front born c true found changed later = refl
+same_front born c false found changed later = later
+
+-- a change of one content object, which leaves it the same directory
+module _ (dir : DirRef) (change : Content → Content) (keeps : (c : Content) → (change c).dir ≡ c.dir) where
+  pub changed_here : (contents : List Content) → content_at dir (changed_at dir change contents) ≡ option_map change (content_at dir contents)
+  changed_here [] = refl
+  changed_here (c ∷ cs) = by (is_same_id dir.id c.dir.id) refl (changed_here cs)
+    where
+      by_born : (b : Bool) → (c.dir.born == dir.born) ≡ b → is_same_id dir.id c.dir.id ≡ true
+          → content_at dir (cond b (change c) c ∷ cs) ≡ option_map change (content_at dir (c ∷ cs))
+      by_born true born here =
+          let ids : is_same_id dir.id (change c).dir.id ≡ true = subst (λ (d : DirRef). is_same_id dir.id d.id ≡ true) (sym (keeps c)) here in
+          let births : ((change c).dir.born == dir.born) ≡ true = subst (λ (d : DirRef). (d.born == dir.born) ≡ true) (sym (keeps c)) born in
+          rw (ids, births, here, born) refl
+      by_born false born here = rw (here, born) refl
+
+      by : (b : Bool) → is_same_id dir.id c.dir.id ≡ b → content_at dir (changed_at dir change cs) ≡ option_map change (content_at dir cs)
+          → content_at dir (cond b (cond (c.dir.born == dir.born) (change c) c ∷ cs) (c ∷ changed_at dir change cs)) ≡ option_map change (content_at dir (c ∷ cs))
+      by true here later = by_born (c.dir.born == dir.born) refl here
+      by false apart later = rw apart later
+
+  pub changed_apart : (other : DirRef) (contents : List Content) → is_same_dir dir other ≡ false
+      → content_at other (changed_at dir change contents) ≡ content_at other contents
+  changed_apart other [] apart = refl
+  changed_apart other (c ∷ cs) apart = by (is_same_id dir.id c.dir.id) refl (changed_apart other cs apart)
+    where
+      by_born : (b : Bool) → (c.dir.born == dir.born) ≡ b → is_same_id c.dir.id dir.id ≡ true
+          → content_at other (cond b (change c) c ∷ cs) ≡ content_at other (c ∷ cs)
+      by_born true born here =
+          let is : c.dir ≡ dir = same_parts c.dir dir true true here born refl in
+          let old : is_same_dir c.dir other ≡ false = subst (λ (d : DirRef). is_same_dir d other ≡ false) (sym is) apart in
+          let new : is_same_dir (change c).dir other ≡ false = subst (λ (d : DirRef). is_same_dir d other ≡ false) (sym (keeps c)) old in
+          passed_over other (change c) cs new
+          ∙ ap (λ (d : DirRef). cond (is_same_id other.id d.id) None (content_at other cs)) (keeps c)
+          ∙ sym (passed_over other c cs old)
+      by_born false born here = refl
+
+      by : (b : Bool) → is_same_id dir.id c.dir.id ≡ b → content_at other (changed_at dir change cs) ≡ content_at other cs
+          → content_at other (cond b (cond (c.dir.born == dir.born) (change c) c ∷ cs) (c ∷ changed_at dir change cs)) ≡ content_at other (c ∷ cs)
+      by true here later = by_born (c.dir.born == dir.born) refl (same_id_back dir.id c.dir.id here)
+      by false here later = same_front other.born c (is_same_id other.id c.dir.id) (content_of_id other.id cs) (content_of_id other.id (changed_at dir change cs)) later
+
+abbrev pub with_changed : (List (List ℕ × Slot) → List (List ℕ × Slot)) → Content → Content
+with_changed change c = record c { slots = change c.slots }
+
+-- one directory's slots changed, where the change makes nothing of none unless the directory is there
+pub slots_changed : (dir other : DirRef) (change : List (List ℕ × Slot) → List (List ℕ × Slot)) (contents : List Content)
+    → (content_at dir contents ≡ None → change [] ≡ [])
+    → slots_at other (with_slots_at dir change contents) ≡ cond (is_same_dir dir other) (change (slots_at other contents)) (slots_at other contents)
+slots_changed dir other change contents nothing = by (is_same_dir dir other) refl
+  where
+    here : (found : Option Content) → (found ≡ None → change [] ≡ []) → slots_found (option_map (with_changed change) found) ≡ change (slots_found found)
+    here None nothing = sym (nothing refl)
+    here (Some c) nothing = refl
+
+    by : (b : Bool) → is_same_dir dir other ≡ b
+        → slots_at other (with_slots_at dir change contents) ≡ cond b (change (slots_at other contents)) (slots_at other contents)
+    by true same =
+        subst (λ (d : DirRef). slots_at d (with_slots_at dir change contents) ≡ change (slots_at d contents)) (same_dir dir other same)
+        (ap slots_found (changed_here dir (with_changed change) (λ c. refl) contents) ∙ here (content_at dir contents) nothing)
+    by false apart = ap slots_found (changed_apart dir (with_changed change) (λ c. refl) other contents apart)
+
+-- a change that leaves the slots
+pub slots_kept : (dir other : DirRef) (change : Content → Content) (contents : List Content)
+    → ((c : Content) → (change c).dir ≡ c.dir) → ((c : Content) → (change c).slots ≡ c.slots)
+    → slots_at other (changed_at dir change contents) ≡ slots_at other contents
+slots_kept dir other change contents keeps leaves = by (is_same_dir dir other) refl
+  where
+    here : (found : Option Content) → slots_found (option_map change found) ≡ slots_found found
+    here None = refl
+    here (Some c) = leaves c
+
+    by : (b : Bool) → is_same_dir dir other ≡ b → slots_at other (changed_at dir change contents) ≡ slots_at other contents
+    by true same =
+        subst (λ (d : DirRef). slots_at d (changed_at dir change contents) ≡ slots_at d contents) (same_dir dir other same)
+        (ap slots_found (changed_here dir change keeps contents) ∙ here (content_at dir contents))
+    by false apart = ap slots_found (changed_apart dir change keeps other contents apart)
+
+-- one more content object
+module _ (content : Content) where
+  pub placed_here : (cs : List Content) → content_of_id content.dir.id (placed content cs) ≡ Some content
+  placed_here [] = rw (same_id_self content.dir.id) refl
+  placed_here (c ∷ cs) = by (id_cmp content.dir.id c.dir.id) (sym (same_id_test content.dir.id c.dir.id)) (placed_here cs)
+    where
+      by : (o : Ordering) → is_same_id content.dir.id c.dir.id ≡ is_eq o → content_of_id content.dir.id (placed content cs) ≡ Some content
+          → content_of_id content.dir.id (match_ordering o (content ∷ c ∷ cs) (content ∷ cs) (c ∷ placed content cs)) ≡ Some content
+      by Less test later = rw (same_id_self content.dir.id) refl
+      by Equal test later = rw (same_id_self content.dir.id) refl
+      by Greater test later = rw test later
+
+  pub placed_apart : (id : Id) (cs : List Content) → is_same_id id content.dir.id ≡ false → content_of_id id (placed content cs) ≡ content_of_id id cs
+  placed_apart id [] apart = rw apart refl
+  placed_apart id (c ∷ cs) apart = by (id_cmp content.dir.id c.dir.id) (sym (same_id_test content.dir.id c.dir.id)) (placed_apart id cs apart)
+    where
+      by : (o : Ordering) → is_same_id content.dir.id c.dir.id ≡ is_eq o → content_of_id id (placed content cs) ≡ content_of_id id cs
+          → content_of_id id (match_ordering o (content ∷ c ∷ cs) (content ∷ cs) (c ∷ placed content cs)) ≡ content_of_id id (c ∷ cs)
+      by Less test later = rw apart refl
+      by Equal test later =
+          let here : is_same_id id c.dir.id ≡ false = subst (λ (x : Id). is_same_id id x ≡ false) (same_id content.dir.id c.dir.id test) apart in
+          rw (apart, here) refl
+      by Greater test later = ap (λ (o : Option Content). cond (is_same_id id c.dir.id) (Some c) o) later
+
+  -- with no slots, nothing stands there, as before
+  slots_placed : (other : DirRef) (contents : List Content) → content.slots ≡ [] → content_of_id content.dir.id contents ≡ None
+      → slots_at other (placed content contents) ≡ slots_at other contents
+  slots_placed other contents empty none = by (is_same_id other.id content.dir.id) refl
+    where
+      no_slots : (b : Bool) → slots_found (cond b (Some content) None) ≡ []
+      no_slots true = empty
+      no_slots false = refl
+
+      by : (b : Bool) → is_same_id other.id content.dir.id ≡ b → slots_at other (placed content contents) ≡ slots_at other contents
+      by true same =
+          let is : content.dir.id ≡ other.id = sym (same_id other.id content.dir.id same) in
+          let new : content_of_id other.id (placed content contents) ≡ Some content = subst (λ (x : Id). content_of_id x (placed content contents) ≡ Some content) is (placed_here contents) in
+          let old : content_of_id other.id contents ≡ None = subst (λ (x : Id). content_of_id x contents ≡ None) is none in
+          rw (new, old) (no_slots (content.dir.born == other.born))
+      by false apart = ap (λ (o : Option Content). slots_found (if_born other.born o)) (placed_apart other.id contents apart)
+
+pub slots_made : (id : Id) (born : ℕ) (asked : Triple) (by : CallRef) (other : DirRef) (contents : List Content)
+    → slots_at other (made_at id born asked by contents) ≡ slots_at other contents
+slots_made id born asked by other contents = by_kept (content_of_id id contents) refl
+  where
+    by_kept : (kept : Option Content) → content_of_id id contents ≡ kept
+        → slots_at other (with_new (empty_content id born asked by) kept contents) ≡ slots_at other contents
+    by_kept None none = slots_placed (empty_content id born asked by) other contents refl none
+    by_kept (Some kept) is = refl
+
+-- a directory dropped, where no two have one identifier
+abbrev pub bytes_of : List Content → List (List ℕ)
+bytes_of cs = map (λ (c : Content). c.dir.id.bytes) cs
+
+pub absent_id : (id : Id) (cs : List Content) → AllByRecursion (λ (other : List ℕ). slice_cmp nat_cmp id.bytes other ≡ Less) (bytes_of cs) → content_of_id id cs ≡ None
+absent_id id [] before = refl
+absent_id id (c ∷ cs) before =
+    let apart : is_same_id id c.dir.id ≡ false = sym (same_id_test id c.dir.id) ∙ ap is_eq before.0 in
+    rw apart (absent_id id cs before.1)
+
+pub dropped_apart : (dir other : DirRef) (by : CallRef) (contents : List Content)
+    → IdentifiersRise contents → is_same_dir dir other ≡ false
+    → content_at other (dropped_at dir by contents) ≡ content_at other contents
+dropped_apart dir other by [] sorted apart = refl
+dropped_apart dir other by (c ∷ cs) sorted apart =
+    by_id (is_same_id dir.id c.dir.id) refl (dropped_apart dir other by cs (sorted_tail (slice_cmp nat_cmp) c.dir.id.bytes (bytes_of cs) sorted) apart)
+  where
+    none_later : (b : Bool) → is_same_id other.id c.dir.id ≡ b → content_at other cs ≡ cond b None (content_at other cs)
+    none_later true same =
+        let none : content_of_id other.id cs ≡ None = subst (λ (x : Id). content_of_id x cs ≡ None) (sym (same_id other.id c.dir.id same)) (absent_id c.dir.id cs (sorted_head (slice_cmp nat_cmp) c.dir.id.bytes (bytes_of cs) sorted)) in
+        rw none refl
+    none_later false same = refl
+
+    by_drop : (born allowed : Bool) → (c.dir.born == dir.born) ≡ born → is_same_id c.dir.id dir.id ≡ true
+        → content_at other (cond (born && allowed) cs (c ∷ cs)) ≡ content_at other (c ∷ cs)
+    by_drop true true births here =
+        let is : c.dir ≡ dir = same_parts c.dir dir true true here births refl in
+        let old : is_same_dir c.dir other ≡ false = subst (λ (d : DirRef). is_same_dir d other ≡ false) (sym is) apart in
+        none_later (is_same_id other.id c.dir.id) refl ∙ sym (passed_over other c cs old)
+    by_drop true false births here = refl
+    by_drop false allowed births here = refl
+
+    by_id : (b : Bool) → is_same_id dir.id c.dir.id ≡ b → content_at other (dropped_at dir by cs) ≡ content_at other cs
+        → content_at other (cond b (cond (c.dir.born == dir.born && may_drop by c) cs (c ∷ cs)) (c ∷ dropped_at dir by cs)) ≡ content_at other (c ∷ cs)
+    by_id true here later = by_drop (c.dir.born == dir.born) (may_drop by c) refl (same_id_back dir.id c.dir.id here)
+    by_id false here later = same_front other.born c (is_same_id other.id c.dir.id) (content_of_id other.id cs) (content_of_id other.id (dropped_at dir by cs)) later
+
+-- the names of a directory are in order where those of each content object are
+pub slots_sorted : (dir : DirRef) (contents : List Content) → All (λ (c : Content). AreSorted c.slots) contents → AreSorted (slots_at dir contents)
+unfolding IsStrictlySortedBy
+slots_sorted dir [] all = tt
+slots_sorted dir (c ∷ cs) all = by (is_same_id dir.id c.dir.id) (slots_sorted dir cs (All-tail (λ (x : Content). AreSorted x.slots) c cs all))
+  where
+    by_born : (b : Bool) → AreSorted (slots_found (cond b (Some c) None))
+    by_born true = All-head (λ (x : Content). AreSorted x.slots) c cs all
+    by_born false = tt
+
+    by : (b : Bool) → AreSorted (slots_at dir cs) → AreSorted (slots_found (if_born dir.born (cond b (Some c) (content_of_id dir.id cs))))
+    by true later = by_born (c.dir.born == dir.born)
+    by false later = later

@@ -1,0 +1,37 @@
+use Rattle.std.proofs.Common.{◌∷◌, [], ◌++◌, ok_or}
+use Rattle.inf_base.specs.Same.{dir_of}
+use Rattle.inf_message.specs.declared.reply.Reply.TheVariants as reply
+use Rattle.inf_server.specs.Chains.{before_last, last_of}
+use Rattle.inf_server.specs.Checks.{asked_of}
+use Rattle.inf_laws_directory.specs.Objects.{directories_of, site_in, with_state}
+use Rattle.inf_laws_directory.specs.Phases.{has_sealed, with_phase}
+use Rattle.inf_laws_directory.proofs.ChainEnds.{leads_before}
+use Rattle.inf_laws_directory.proofs.PassedChecks.{gave, was_some}
+use Rattle.inf_laws_directory.proofs.Refusals.{asked_never, some_never}
+use Rattle.inf_laws_directory.proofs.StandingFacts.{asked_at, goes_on_unseen, is_at, looks_same, passed_before}
+use Rattle.inf_laws_directory.proofs.served.served_seals_stand.Goals as goal
+
+pub returns-clause-done : goal.returns-clause-done
+returns-clause-done c = λ service objects number root tree phases ask path name chain parent target done standing at_idle told at_last at_parent is.
+    let next = with_state number done.state objects in
+    let above = gave (ok_or (last_of (before_last chain)) reply.Other) _ done is in
+    let first = gave (asked_of (site_in service number) (objects number) ask.from chain) _ done above.rest in
+    let at = asked_at service objects number root tree phases ask.from (path ++ name ∷ []) chain first.value standing at_idle told first.is in
+    goes_on_unseen service objects next root tree phases
+    (with_phase ask.from (has_sealed (dir_of parent.access) name (dir_of target.access)) phases) standing.sorted
+    (c.unseen_changes_stand.ensures (directories_of service objects) (directories_of service next) root tree standing.stands
+    (looks_same service objects next root (c.preparing_is_unseen.ensures.sealing service objects number ask chain done is)))
+    (c.sealing_keeps.ensures service objects number root phases ask path chain parent target name done standing.owned at_idle at.leads at_last at_parent is)
+
+pub returns-clause-refused : goal.returns-clause-refused
+returns-clause-refused c = λ service objects number root tree phases ask text path name chain error standing at_idle told names is.
+    let site = site_in service number in
+    let dirs = directories_of service objects in
+    let above = passed_before (ok_or (last_of (before_last chain)) reply.Other) _ error (some_never (last_of (before_last chain)) reply.Other (λ refusal never. (cc))) is in
+    let parent = above.value in
+    let first = passed_before (asked_of site (objects number) ask.from chain) _ error (asked_never site (objects number) ask.from chain) above.rest in
+    let target = first.value in
+    let at = asked_at service objects number root tree phases ask.from (path ++ name ∷ []) chain target standing at_idle told first.is in
+    let at_parent = is_at service objects root tree phases path (before_last chain) parent standing (leads_before dirs name root path chain at.leads)
+    (was_some (last_of (before_last chain)) reply.Other parent above.is) in
+    c.removals_replay.ensures.refused service objects number root tree ask text path name chain parent target error at_parent at names (standing.owned.order number) is

@@ -1,0 +1,14 @@
+pub mod Answers
+pub mod Changes
+pub mod Leads
+pub mod Objects
+pub mod Owned
+pub mod Phases
+pub mod Replays
+pub mod Serves
+pub mod Standing
+pub mod Stands
+pub mod Steps
+pub mod Things
+pub mod Told
+pub mod Walks
