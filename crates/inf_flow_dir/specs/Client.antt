@@ -1,0 +1,144 @@
+-- The state of a client whose calls go by flows: the call under way, what it asked for it and was told, and the results.
+use Rattle.std.specs.Prelude.{ℕ, ◌+◌, ◌==◌, ◌&&◌, not, Bool, true, false, if◌then◌else◌, List, [], ◌∷◌, ◌++◌, Option, Some, None, is_some}
+use Rattle.std.specs.List.{list_any}
+use Rattle.inf_base.specs.declared.answer.Answer.{Answer}
+use Rattle.inf_base.specs.declared.call.Call.{Call}
+use Rattle.inf_base.specs.declared.caller.CallRef.{CallRef}
+use Rattle.inf_base.specs.declared.key.LookKey.{LookKey}
+use Rattle.inf_message.specs.declared.call_result.CallResult.{CallResult}
+use Rattle.inf_message.specs.declared.step.Message.{Message}
+use Rattle.inf_message.specs.History.{Told, or_told}
+use Rattle.inf_flow_dir.specs.Flow.{Flow, Who}
+
+-- how a call ends once its last messages were served, or an attempt
+pub data Ending : Type 0 where
+  -- with the place of the Serve that decided it
+  answers : Answer → Option ℕ → Ending
+  retries : Ending
+
+-- where a client stands in the attempt of a call: between two groups, what it asks for next
+pub data Stage : Type 0 where
+  -- the attempt begins
+  compose : Stage
+  -- lookups of these keys, all of which are asked before one is waited for
+  round : List LookKey → Stage
+  -- a message of a flow
+  act : Flow → Stage
+  -- messages whose replies do not matter, one after another, and then the end
+  winds : Ending → Message → List Message → Stage
+
+-- an Ask of the present group: its place, and its answer, if it was served
+pub record Sent : Type 0 where
+  pub place : ℕ
+  pub told : Option Told
+
+-- what the call under way took so far
+pub record Counts : Type 0 where
+  pub first : Option ℕ
+  pub last : Option ℕ
+  pub attempts : ℕ
+  pub rounds : ℕ
+  pub messages : ℕ
+  -- whether this attempt has made an Ask
+  pub is_begun : Bool
+
+pub record Client : Type 0 where
+  pub who : Who
+  -- of the call under way, from 1
+  pub number : ℕ
+  -- the call under way, and those after it
+  pub left : List Call
+  pub stage : Stage
+  -- the Asks of the present group, in their order
+  pub sent : List Sent
+  pub counts : Counts
+  -- of the calls that ended
+  pub results : List CallResult
+
+abbrev pub no_counts : Counts
+no_counts = record { first = None; last = None; attempts = 0; rounds = 0; messages = 0; is_begun = false }
+
+abbrev pub idle : Who → List Call → Client
+idle who calls = record { who = who; number = 1; left = calls; stage = compose; sent = []; counts = no_counts; results = [] }
+
+abbrev pub call_ref : Client → CallRef
+call_ref s = record { client = s.who.client; number = s.number }
+
+abbrev pub result_of : Answer → Option ℕ → Option ℕ → Client → CallResult
+result_of given place last s = record {
+  call = call_ref s;
+  answer = given;
+  place = place;
+  first = s.counts.first;
+  last = last;
+  attempts = s.counts.attempts;
+  rounds = s.counts.rounds;
+  messages = s.counts.messages;
+}
+
+abbrev pub rest_of : List Call → List Call
+rest_of [] = []
+rest_of (call ∷ calls) = calls
+
+-- the call under way has ended, and the next one is under way
+abbrev pub ended : Answer → Option ℕ → Client → Client
+ended given place s = record s {
+  number = s.number + 1;
+  left = rest_of s.left;
+  stage = compose;
+  sent = [];
+  counts = no_counts;
+  results = s.results ++ result_of given place s.counts.last s ∷ [];
+}
+
+-- a new attempt
+abbrev pub begins_again : Client → Client
+begins_again s = record s { stage = compose; sent = []; counts = record s.counts { is_begun = false } }
+
+abbrev pub finished : Ending → Client → Client
+finished (answers given place) s = ended given place s
+finished retries s = begins_again s
+
+-- the messages that are left, and then the end
+abbrev pub wound : Ending → List Message → Client → Client
+wound ending [] s = finished ending s
+wound ending (m ∷ ms) s = record s { stage = winds ending m ms; sent = [] }
+
+abbrev pub one_if : Bool → ℕ
+one_if true = 1
+one_if false = 0
+
+abbrev pub is_round : Stage → Bool
+is_round (round keys) = true
+is_round other = false
+
+abbrev pub first_place : Option ℕ → ℕ → Option ℕ
+first_place None place = Some place
+first_place (Some place) later = Some place
+
+abbrev pub is_first : List Sent → Bool
+is_first [] = true
+is_first (x ∷ xs) = false
+
+-- an Ask more: the first of an attempt counts the attempt, the first of a round the round
+abbrev pub counted : ℕ → Client → Counts
+counted place s = record {
+  first = first_place s.counts.first place;
+  last = s.counts.last;
+  attempts = s.counts.attempts + one_if (not s.counts.is_begun);
+  rounds = s.counts.rounds + one_if (is_round s.stage && is_first s.sent);
+  messages = s.counts.messages + 1;
+  is_begun = true;
+}
+
+abbrev pub placed : ℕ → Client → Client
+placed place s = record s { sent = s.sent ++ record { place = place; told = None } ∷ []; counts = counted place s }
+
+abbrev pub is_told : Sent → Bool
+is_told x = is_some x.told
+
+abbrev pub has_place : ℕ → List Sent → Bool
+has_place place sent = list_any (λ (x : Sent). x.place == place) sent
+
+abbrev pub told_at : ℕ → Told → Sent → Sent
+told_at place told x = if x.place == place then record x { told = Some (or_told x.told told) } else x

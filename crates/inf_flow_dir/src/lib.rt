@@ -1,0 +1,10 @@
+//! The flows of calls that make and remove directories, as definitions: what a client is to send, one message after
+//! another, and what is cleaned up where one does not succeed.
+#![tactic(auto)]
+
+mod examples;
+
+pub use examples::{
+    example_of_clashes, example_of_clean_ups, example_of_paths, example_of_removals_and_creations,
+    example_of_wanting_memory, example_of_whole_lives,
+};
