@@ -10,6 +10,8 @@ pub mod Kept
 pub mod Leaves
 pub mod Nodes
 pub mod OpenDirectories
+pub mod Outcomes
+pub mod Owing
 pub mod OwnSlots
 pub mod OwnedFacts
 pub mod PassedChecks

@@ -65,7 +65,7 @@ module _ (site : Site) (state : State) (ask : Ask) (end : Response) where
       let tells = gave (told_of dir name (slot_in name (slots_at dir state.contents))) _ end free in
       told tells.value state refl tells.rest
 
-  looked_up : (key : LookKey) → on_lookup site state key ≡ Ok end → end.state.contents ≡ state.contents
+  pub looked_up : (key : LookKey) → on_lookup site state key ≡ Ok end → end.state.contents ≡ state.contents
   looked_up look.Top is = looked_up_top is
   looked_up (look.At dir name) is = looked_up_at dir name is
 

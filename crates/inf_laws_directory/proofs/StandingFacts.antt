@@ -1,5 +1,5 @@
 -- What a step of a call makes of what stands, where the tree answers and all stays owned.
-use Rattle.std.proofs.Common.{◌≡◌, ℕ, Bool, true, false, List, [], Result, Ok, Err, Some, refl, ap, subst, sym}
+use Rattle.std.proofs.Common.{◌≡◌, ℕ, Bool, true, false, List, [], ◌∷◌, ◌++◌, Result, Ok, Err, Some, is_some, refl, ap, subst, sym, ◌∙◌}
 use Rattle.inf_base.specs.declared.access.Access.{Access}
 use Rattle.inf_base.specs.declared.answer.Answer.{Answer}
 use Rattle.inf_base.specs.declared.call.Call.{Call}
@@ -13,14 +13,14 @@ use Rattle.inf_base.specs.Content.{Slot}
 use Rattle.inf_base.specs.Same.{dir_of, is_same_dir}
 use Rattle.inf_message.specs.declared.reply.Reply.{Reply}
 use Rattle.inf_message.specs.declared.reply.Reply.TheVariants as reply
-use Rattle.inf_server.specs.Chains.{last_of}
+use Rattle.inf_server.specs.Chains.{before_last, last_of}
 use Rattle.inf_server.specs.Checks.{asked_of}
 use Rattle.inf_tree.specs.Tree.{IsTree, Node}
 use Rattle.inf_tree.proofs.Sorted.{IsTree-apply}
 use Rattle.inf_laws_directory.specs.Leads.{Leads}
 use Rattle.inf_laws_directory.specs.Objects.{Objects, Service, directories_of, site_in}
-use Rattle.inf_laws_directory.specs.Owned.{AreOwned}
-use Rattle.inf_laws_directory.specs.Phases.{IsLoose, Phase, Phases, has_unlinked, idle}
+use Rattle.inf_laws_directory.specs.Owned.{AreOwned, Has, KeepsSealed}
+use Rattle.inf_laws_directory.specs.Phases.{IsLoose, Phase, Phases, has_sealed, has_unlinked, idle}
 use Rattle.inf_laws_directory.specs.Replays.{Answers, IsAt}
 use Rattle.inf_laws_directory.specs.Serves.{IsUnseen, IsUnseenBeside}
 use Rattle.inf_laws_directory.specs.Changes.{IsEmpty, IsUnreached, LooksSame}
@@ -28,7 +28,9 @@ use Rattle.inf_laws_directory.specs.Standing.{Decides, GoesOn, IsStanding, IsTol
 use Rattle.inf_laws_directory.specs.Stands.{Stands}
 use Rattle.inf_laws_directory.specs.Steps.{Keeps}
 use Rattle.inf_laws_directory.specs.Things.{thing_in}
+use Rattle.inf_content.specs.Contents.{seal_of}
 use Rattle.inf_content.specs.Slots.{slot_in}
+use Rattle.inf_laws_directory.proofs.ChainEnds.{last_links}
 use Rattle.inf_laws_directory.proofs.ContentFacts.{same_dir}
 use Rattle.inf_laws_directory.proofs.OwnedFacts.{loose_in}
 use Rattle.inf_laws_directory.proofs.Refusals.{NeverRefuses}
@@ -108,3 +110,25 @@ passed_before (Err given) next error never is = absurd (never error (cc))
 -- nothing stands where there are no slots
 pub nothing_stands : (service : Service) (objects : Objects) (dir : DirRef) → directories_of service objects dir ≡ [] → IsEmpty (directories_of service objects) dir
 nothing_stands service objects dir none name = ap (λ (slots : List (List ℕ × Slot)). thing_in (slot_in name slots)) none
+
+-- a chain that was told, and ends in a directory that the call sealed, leads to it
+module _ (service : Service) (objects : Objects) (root : Access) (tree : Node) (phases : Phases) (by : CallRef) (path : List (List ℕ)) (name kept : List ℕ)
+    (chain : List Entry) (parent target : Entry) (standing : IsStanding service objects root tree phases)
+    (at_sealed : phases by ≡ has_sealed (dir_of parent.access) kept (dir_of target.access)) (told : IsToldAlong service objects root phases (path ++ name ∷ []) chain)
+    (at_last : last_of chain ≡ Some target) where
+  has_it_sealed : Has service objects by (has_sealed (dir_of parent.access) kept (dir_of target.access))
+  has_it_sealed = subst (λ (phase : Phase). Has service objects by phase) at_sealed (standing.owned.has by)
+
+  pub sealed_leads : Leads (directories_of service objects) root (path ++ name ∷ []) chain
+  sealed_leads =
+      let sealed : KeepsSealed service objects by (dir_of target.access) = has_it_sealed.0 in
+      chain_is_true service objects root phases by standing.owned (path ++ name ∷ []) chain target told.told told.links
+      (record { last = at_last; there = ap is_some sealed.there; unsealed = λ sealer seal. (let same : Some sealer ≡ Some by = sym seal ∙ ap seal_of sealed.there ∙ sealed.seal in cc same) })
+      (λ unlinked. (cc (at_sealed, unlinked)))
+
+  -- under the name by which the call sealed it
+  pub sealed_by_name : last_of (before_last chain) ≡ Some parent → kept ≡ name
+  sealed_by_name at_parent =
+      let under = has_it_sealed.1 in
+      (standing.owned.once (dir_of parent.access) (dir_of parent.access) kept name under.access target.access under.linked
+      (last_links (directories_of service objects) name target parent root path chain sealed_leads at_last at_parent) under.same).1

@@ -1,7 +1,9 @@
 pub mod Answers
 pub mod Changes
+pub mod Fits
 pub mod Leads
 pub mod Objects
+pub mod Owes
 pub mod Owned
 pub mod Phases
 pub mod Replays

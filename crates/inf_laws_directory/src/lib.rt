@@ -3,6 +3,7 @@
 #![tactic(auto)]
 
 mod answers;
+mod owes;
 mod phases;
 mod replays;
 mod served;
@@ -12,6 +13,7 @@ mod stands;
 pub use answers::{
     creations_follow_chains, looks_follow_chains, paths_stop_at_chains, removals_follow_chains,
 };
+pub use owes::what_is_served_stands;
 pub use phases::{
     chains_are_true, creating_keeps, ending_keeps, linking_keeps, making_keeps, opening_is_owned,
     reserving_keeps, sealing_keeps, undoing_keeps, unlinking_keeps,

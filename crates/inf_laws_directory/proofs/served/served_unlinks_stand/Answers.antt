@@ -1,15 +1,14 @@
-use Rattle.std.proofs.Common.{◌≡◌, ◌∷◌, [], ◌++◌, Some, is_some, sym, ap, ◌∙◌, subst}
+use Rattle.std.proofs.Common.{◌∷◌, [], ◌++◌, ap, ◌∙◌, subst}
 use Rattle.inf_base.specs.declared.answer.Answer.TheVariants as answer
 use Rattle.inf_base.specs.declared.call.Call.TheVariants as call
 use Rattle.inf_base.specs.Same.{dir_of}
-use Rattle.inf_content.specs.Contents.{seal_of, slots_found}
+use Rattle.inf_content.specs.Contents.{slots_found}
 use Rattle.inf_server.specs.Chains.{before_last}
 use Rattle.inf_laws_directory.specs.Objects.{directories_of, with_state}
 use Rattle.inf_laws_directory.specs.Owned.{Has, KeepsSealed}
 use Rattle.inf_laws_directory.specs.Phases.{Phase, has_unlinked, with_phase}
 use Rattle.inf_laws_directory.proofs.ChainEnds.{last_key, leads_before}
-use Rattle.inf_laws_directory.proofs.StandingFacts.{decides, is_at, nothing_stands}
-use Rattle.inf_laws_directory.proofs.ToldChains.{chain_is_true}
+use Rattle.inf_laws_directory.proofs.StandingFacts.{decides, is_at, nothing_stands, sealed_leads}
 use Rattle.inf_laws_directory.proofs.served.served_unlinks_stand.Goals as goal
 
 pub returns : goal.returns
@@ -17,9 +16,7 @@ returns c = λ service objects number root tree phases ask text path name chain 
     let dirs = directories_of service objects in
     let removed = dir_of target.access in
     let sealed : KeepsSealed service objects ask.from removed = (subst (λ (phase : Phase). Has service objects ask.from phase) at_sealed (standing.owned.has ask.from)).0 in
-    let leads = chain_is_true service objects root phases ask.from standing.owned (path ++ name ∷ []) chain target told.told told.links
-    (record { last = at_last; there = ap is_some sealed.there; unsealed = λ sealer seal. (let same : Some sealer ≡ Some ask.from = sym seal ∙ ap seal_of sealed.there ∙ sealed.seal in cc same) })
-    (λ unlinked. (cc (at_sealed, unlinked))) in
+    let leads = sealed_leads service objects root tree phases ask.from path name name chain parent target standing at_sealed told at_last in
     let at = is_at service objects root tree phases (path ++ name ∷ []) chain target standing leads at_last in
     let above = is_at service objects root tree phases path (before_last chain) parent standing (leads_before dirs name root path chain leads) at_parent in
     let keyed = last_key name target parent path chain told.links at_last at_parent in
