@@ -1,0 +1,5 @@
+pub mod AskedFacts
+pub mod ChainFacts
+pub mod KnowsFacts
+pub mod PathClients
+pub mod PathFacts

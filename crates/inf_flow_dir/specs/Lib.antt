@@ -1,7 +1,10 @@
+pub mod Asked
 pub mod Client
 pub mod Duty
 pub mod Examples
 pub mod Flow
 pub mod Group
+pub mod Paths
 pub mod Run
+pub mod Told
 pub mod Turn
