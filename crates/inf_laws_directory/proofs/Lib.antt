@@ -8,6 +8,7 @@ pub mod ContentSteps
 pub mod Edits
 pub mod Kept
 pub mod Leaves
+pub mod Lookups
 pub mod Nodes
 pub mod OpenDirectories
 pub mod Outcomes
@@ -27,6 +28,7 @@ pub mod SlotFacts
 pub mod SlotSteps
 pub mod StandingFacts
 pub mod ToldChains
+pub mod TopStays
 pub mod UnlinkSteps
 pub mod Unreached
 pub mod Ways

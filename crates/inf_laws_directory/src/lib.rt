@@ -9,6 +9,7 @@ mod replays;
 mod served;
 mod serves;
 mod stands;
+mod telling;
 
 pub use answers::{
     creations_follow_chains, looks_follow_chains, paths_stop_at_chains, removals_follow_chains,
@@ -34,3 +35,4 @@ pub use stands::{
     opening_stands, unseen_changes_stand, walks_follow_chains, what_is_put_stands,
     what_is_taken_stands,
 };
+pub use telling::{lookups_tell_the_truth, reservations_and_seals_ask_permission, the_root_stays};

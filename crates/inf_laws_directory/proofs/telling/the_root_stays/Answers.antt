@@ -1,0 +1,5 @@
+use Rattle.inf_laws_directory.proofs.TopStays.{top_stays}
+use Rattle.inf_laws_directory.proofs.telling.the_root_stays.Goals as goal
+
+pub returns-clause-next : goal.returns-clause-next
+returns-clause-next c = λ site state place ask. top_stays site state ask place
