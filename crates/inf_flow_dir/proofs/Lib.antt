@@ -3,3 +3,4 @@ pub mod ChainFacts
 pub mod KnowsFacts
 pub mod PathClients
 pub mod PathFacts
+pub mod ToldAlong

@@ -16,9 +16,13 @@ ghost use Rattle.inf_flow_dir.specs.Client.{Client, Sent, idle, placed};
 ghost use Rattle.inf_flow_dir.specs.Duty.{asks, begun, given_up, next_step};
 ghost use Rattle.inf_flow_dir.specs.Flow.{Flow, Who, root_id};
 ghost use Rattle.inf_flow_dir.specs.Group.{Course, composed, course_of, keys_along};
-ghost use Rattle.inf_flow_dir.specs.Paths.{AnswersLookup, AreToldFor, Follows, KeepsToPath, TurnFollows};
-ghost use Rattle.inf_flow_dir.specs.Told.{AnswersTop, IsAmong, IsChainOf, KnowsOnly, Telling, TellsOnly};
+ghost use Rattle.inf_flow_dir.specs.Paths.{AnswersLookup, AreToldFor, Follows, KeepsToPath, TurnFollows, names_of};
+ghost use Rattle.inf_flow_dir.specs.Told.{AnswersTop, CarriesOnly, IsAmong, IsChainOf, KnowsOnly, LinksUp, Telling, TellsOnly};
 ghost use Rattle.inf_flow_dir.specs.Turn.{after_act, after_round, served};
+ghost use Rattle.inf_laws_directory.specs.Objects.{Objects, Service};
+ghost use Rattle.inf_laws_directory.specs.Phases.{Phases};
+ghost use Rattle.inf_laws_directory.specs.Standing.{IsToldAlong};
+ghost use Rattle.inf_laws_directory.specs.Told.{IsToldAs};
 
 /// A client knows what it was told, and links it into chains from the root on; `proofs/` says the same of whatever is
 /// true of all that is told.
@@ -91,4 +95,12 @@ pub fn clients_ask_their_groups()
         → AnswersLookup s.stage s.sent place reply }
     ensures roots { (s : Client) (place : ℕ) (reply : Reply)
         → KeepsToPath s → AnswersLookup s.stage s.sent place reply → AnswersTop s.stage s.sent place reply }
+{}
+
+/// A chain that carries only entries which are true now or whose directories are gone, and that links up, is one that was
+/// told along its names: it is what the laws of directories ask of a request.
+pub fn chains_are_told_along()
+    ensures { (service : Service) (objects : Objects) (root : Access) (phases : Phases) (chain : List Entry)
+        → CarriesOnly (IsToldAs service objects root phases) chain → LinksUp chain
+        → IsToldAlong service objects root phases (names_of chain) chain }
 {}

@@ -10,6 +10,6 @@ pub use examples::{
     example_of_wanting_memory, example_of_whole_lives,
 };
 pub use laws::{
-    clients_ask_their_groups, clients_keep_to_paths, clients_know_what_they_were_told,
-    flows_follow_paths, what_is_sent_was_told,
+    chains_are_told_along, clients_ask_their_groups, clients_keep_to_paths,
+    clients_know_what_they_were_told, flows_follow_paths, what_is_sent_was_told,
 };
