@@ -20,6 +20,7 @@ use Rattle.inf_base.specs.Content.{Content, Slot}
 use Rattle.inf_base.specs.Same.{is_same_dir, is_same_id}
 use Rattle.inf_content.specs.Contents.{changed_at, content_at, content_of_id, dropped_at, empty_content, id_cmp, if_born, made_at, may_drop, placed, slots_at, slots_found, with_new, with_slots_at}
 use Rattle.inf_content.specs.Order.{IdentifiersRise}
+use Rattle.inf_renames.proofs.RenamesFacts.{same_id}
 use Rattle.inf_laws_directory.proofs.SlotFacts.{AreSorted}
 
 -- the content objects are in the order of their identifiers, which are told apart by their bytes
@@ -28,9 +29,6 @@ same_id_test a b = is_eq-slice_cmp a.bytes b.bytes
 
 pub same_id_self : (a : Id) → is_same_id a a ≡ true
 same_id_self a = (bytes_eq-Decides a.bytes a.bytes).1 refl
-
-pub same_id : (a b : Id) → is_same_id a b ≡ true → a ≡ b
-same_id a b same = ap (λ (bytes : List ℕ). record { bytes = bytes }) ((bytes_eq-Decides a.bytes b.bytes).0 same)
 
 abbrev dir_from : Id → ℕ → DirRef
 dir_from id born = record { id = id; born = born }

@@ -17,7 +17,8 @@ use Rattle.inf_content.specs.Contents.{changed_at, content_at, content_of_id, dr
 use Rattle.inf_server.specs.State.{State, is_here}
 use Rattle.inf_laws_directory.specs.Objects.{Objects, Service, content_in, site_in, with_state}
 use Rattle.inf_content.specs.Order.{AreInOrder, IdentifiersRise}
-use Rattle.inf_laws_directory.proofs.ContentFacts.{absent_id, bytes_of, changed_apart, changed_here, dropped_apart, placed_apart, placed_here, same_dir, same_id, same_id_self, with_changed}
+use Rattle.inf_laws_directory.proofs.ContentFacts.{absent_id, bytes_of, changed_apart, changed_here, dropped_apart, placed_apart, placed_here, same_dir, same_id_self, with_changed}
+use Rattle.inf_renames.proofs.RenamesFacts.{same_id}
 use Rattle.inf_laws_directory.proofs.ServiceFacts.{HasChanged, Slots}
 
 -- the content object of one directory is this now, and those of all others are as before

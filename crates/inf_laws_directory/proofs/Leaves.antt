@@ -6,20 +6,13 @@ use Rattle.std.proofs.lemmas.Slice.Eq.{bytes_eq-Decides}
 use Rattle.inf_base.specs.declared.access.Access.{Access}
 use Rattle.inf_base.specs.declared.directory.DirRef.{DirRef}
 use Rattle.inf_base.specs.Same.{dir_of, is_same_dir}
-use Rattle.inf_renames.proofs.RenamesFacts.{same_id}
 use Rattle.inf_tree.specs.Tree.{Node, changed}
 use Rattle.inf_laws_directory.specs.Changes.{IsUnreached, is_at}
 use Rattle.inf_laws_directory.specs.Stands.{Shown, Shows, child, node_at, shown_node, shown_thing}
 use Rattle.inf_laws_directory.specs.Things.{Directories, Reaches, StandOnce, Thing, a_dir, thing_at, thing_under}
+use Rattle.inf_laws_directory.proofs.ContentFacts.{same_dir}
 use Rattle.inf_laws_directory.proofs.Nodes.{cases_path, changed_elsewhere, changed_here, node_at-here, seen}
 use Rattle.inf_laws_directory.proofs.Ways.{same_at, thing_at-next}
-
-pub same_dir : (dir other : DirRef) → is_same_dir dir other ≡ true → dir ≡ other
-same_dir dir other same =
-    let parts = and_parts _ _ same in
-    let id : dir.id ≡ other.id = same_id dir.id other.id parts.0 in
-    let born : dir.born ≡ other.born = eqb-true _ _ parts.1 in
-    ap₂ (λ i b. record { id = i; born = b }) id born
 
 abbrev pub HasNothingBehind : Directories → Option Thing → Type 0
 HasNothingBehind dirs here = (name : List ℕ) (names : List (List ℕ)) → thing_at dirs (name ∷ names) here ≡ None

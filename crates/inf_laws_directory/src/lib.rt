@@ -26,6 +26,7 @@ pub use replays::{
 pub use served::{
     served_clean_ups_stand, served_creations_stand, served_links_stand, served_looks_stand,
     served_makes_stand, served_reservations_stand, served_seals_stand, served_unlinks_stand,
+    the_opening_stands,
 };
 pub use serves::{
     creating_puts_a_file, dropping_leaves_others, linking_puts_a_directory, objects_stay_in_order,

@@ -1,11 +1,12 @@
 //! Each request that a call of these flows may make, from one moment to the next: what stood for a tree before stands
 //! for the tree after, and what decides a call decides it as the tree does.
 
-ghost use Rattle.std.specs.Prelude.{◌≡◌, ℕ, List, [], ◌∷◌, ◌++◌, Some, Ok, Err};
+ghost use Rattle.std.specs.Prelude.{◌≡◌, ℕ, ◌≤◌, List, [], ◌∷◌, ◌++◌, Some, Ok, Err};
 ghost use Rattle.inf_base.specs.declared.access.Access.{Access};
 ghost use Rattle.inf_base.specs.declared.answer.Answer.TheVariants as answer;
 ghost use Rattle.inf_base.specs.declared.call.Call.{Call};
 ghost use Rattle.inf_base.specs.declared.call.Call.TheVariants as call;
+ghost use Rattle.inf_base.specs.declared.caller.CallRef.{CallRef};
 ghost use Rattle.inf_base.specs.declared.directory.DirRef.{DirRef};
 ghost use Rattle.inf_base.specs.declared.entry.Entry.{Entry};
 ghost use Rattle.inf_base.specs.declared.errno.Errno.{Errno};
@@ -30,17 +31,27 @@ ghost use Rattle.inf_server.specs.Chains.{before_last, last_of};
 ghost use Rattle.inf_server.specs.Files.{create, rmdir_name, stat, walk};
 ghost use Rattle.inf_server.specs.Removals.{drop_dir, forget, seal, unlink, unseal};
 ghost use Rattle.inf_server.specs.Response.{Response};
-ghost use Rattle.inf_tree.specs.Tree.{Node};
+ghost use Rattle.inf_server.specs.State.{opening, root_access};
+ghost use Rattle.inf_tree.specs.Tree.{Node, opening_tree};
 
 use crate::phases::{
-    chains_are_true, creating_keeps, ending_keeps, linking_keeps, making_keeps, reserving_keeps,
-    sealing_keeps, undoing_keeps, unlinking_keeps,
+    chains_are_true, creating_keeps, ending_keeps, linking_keeps, making_keeps, opening_is_owned,
+    reserving_keeps, sealing_keeps, undoing_keeps, unlinking_keeps,
 };
 use crate::replays::{
     births_replay, creates_replay, removals_of_no_directory_replay, removals_replay, stats_replay,
 };
 use crate::serves::{dropping_leaves_others, preparing_is_unseen};
-use crate::stands::unseen_changes_stand;
+use crate::stands::{opening_stands, unseen_changes_stand};
+
+/// Before anything is served, with each call idle, what stands stands for the opening tree.
+pub fn the_opening_stands()
+    ensures { (service : Service) (phases : Phases) → ((call : CallRef) → phases call ≡ idle) → 1 ≤ service.servers
+        → IsStanding service (λ number. opening (site_in service number)) (root_access (site_in service 0)) opening_tree phases }
+{
+    opening_stands();
+    opening_is_owned();
+}
 
 /// The creation of a file decides its call.
 pub fn served_creations_stand()
