@@ -42,7 +42,7 @@ module _ (content : Content) (contents : List Content) (none : content_of_id con
       let born : (content.dir.born == content.dir.born) ≡ true = (Decides-eqb _ _).1 refl in
       rw (new, born) refl
 
-  placed_elsewhere : (other : DirRef) → is_same_dir content.dir other ≡ false → content_at other (placed content contents) ≡ content_at other contents
+  pub placed_elsewhere : (other : DirRef) → is_same_dir content.dir other ≡ false → content_at other (placed content contents) ≡ content_at other contents
   placed_elsewhere other apart = by (is_same_id other.id content.dir.id) refl
     where
       by : (b : Bool) → is_same_id other.id content.dir.id ≡ b → content_at other (placed content contents) ≡ content_at other contents
@@ -56,7 +56,7 @@ module _ (content : Content) (contents : List Content) (none : content_of_id con
       by false apart_ids = ap (λ (o : Option Content). if_born other.born o) (placed_apart content other.id contents apart_ids)
 
 -- the content object of a directory dropped, where the call may
-dropped_here : (dir : DirRef) (by : CallRef) (contents : List Content) → IdentifiersRise contents
+pub dropped_here : (dir : DirRef) (by : CallRef) (contents : List Content) → IdentifiersRise contents
     → may_drop_found by (content_at dir contents) ≡ true → content_at dir (dropped_at dir by contents) ≡ None
 dropped_here dir by [] sorted may = cc
 dropped_here dir by (c ∷ cs) sorted may =

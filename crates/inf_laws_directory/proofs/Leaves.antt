@@ -1,11 +1,11 @@
 -- What changes at one name of a directory, where nothing stands behind it: everything else stands as before.
-use Rattle.std.proofs.Common.{◌≡◌, ℕ, Bool, true, false, List, [], ◌∷◌, ◌++◌, length, Option, Some, None, refl, sym, ap, ◌∙◌, subst, ap₂, subst₂, inl, inr, ◌⊎◌, arith, length-append, eqb-true}
+use Rattle.std.proofs.Common.{◌≡◌, ℕ, Bool, true, false, List, [], ◌∷◌, ◌++◌, length, Option, Some, None, refl, sym, ap, ◌∙◌, subst, ap₂, subst₂, inl, inr, ◌⊎◌, arith, length-append}
 use Rattle.std.specs.Option.{option_map}
 use Rattle.std.proofs.lemmas.Bool.{and_parts}
 use Rattle.std.proofs.lemmas.Slice.Eq.{bytes_eq-Decides}
 use Rattle.inf_base.specs.declared.access.Access.{Access}
 use Rattle.inf_base.specs.declared.directory.DirRef.{DirRef}
-use Rattle.inf_base.specs.Same.{dir_of, is_same_dir}
+use Rattle.inf_base.specs.Same.{dir_of}
 use Rattle.inf_tree.specs.Tree.{Node, changed}
 use Rattle.inf_laws_directory.specs.Changes.{IsUnreached, is_at}
 use Rattle.inf_laws_directory.specs.Stands.{Shown, Shows, child, node_at, shown_node, shown_thing}

@@ -1,5 +1,6 @@
 pub mod Along
 pub mod AskedFacts
+pub mod BornContents
 pub mod CallFacts
 pub mod ChainEnds
 pub mod Chains
@@ -22,6 +23,7 @@ pub mod Replayed
 pub mod ReplayedRemovals
 pub mod SameContents
 pub mod ServedOrder
+pub mod ServedReplies
 pub mod ServedSlots
 pub mod ServiceFacts
 pub mod SlotFacts

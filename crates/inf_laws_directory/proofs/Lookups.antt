@@ -15,7 +15,8 @@ use Rattle.inf_message.specs.declared.reply.Reply.TheVariants as reply
 use Rattle.inf_server.specs.Lookups.{lookup_at, lookup_top, told_of, unheld, unless_sealed}
 use Rattle.inf_server.specs.Response.{Response}
 use Rattle.inf_server.specs.State.{is_here, root_id}
-use Rattle.inf_laws_directory.specs.Objects.{Objects, Service, site_in}
+use Rattle.inf_laws_directory.specs.Objects.{Objects, Service, directories_of, site_in}
+use Rattle.inf_laws_directory.specs.Owned.{Links}
 use Rattle.inf_laws_directory.specs.Phases.{Phases}
 use Rattle.inf_laws_directory.specs.Things.{a_dir, thing_in}
 use Rattle.inf_laws_directory.specs.Told.{IsToldAs, RootStandsAt}
@@ -38,10 +39,15 @@ found_in dir name (Some (directory kept None)) told access is =
     record { as_key = sym same_key; stands = ap (λ (a : Access). Some (a_dir a)) same }
 found_in dir name (Some (directory kept (Some hold))) told access is = cc
 
-module _ (service : Service) (objects : Objects) (number : ℕ) (root : Access) (phases : Phases) (told : Key) (access : Access) (end : Response) where
-  pub told_by_name : (id : Id) (name : List ℕ) → lookup_at (site_in service number) (objects number) id name ≡ Ok end → end.reply ≡ reply.Found told access
-      → IsToldAs service objects root phases told access
-  told_by_name id name is found =
+-- the root's access object under the root's key, and any other where it stands
+abbrev pub IsThere : Service → Objects → Access → Key → Access → Type 0
+IsThere service objects root key.Top access = access ≡ root
+IsThere service objects root (key.At dir name) access = Links (directories_of service objects) dir name access
+
+module _ (service : Service) (objects : Objects) (number : ℕ) (root : Access) (told : Key) (access : Access) (end : Response) where
+  pub there_by_name : (id : Id) (name : List ℕ) → lookup_at (site_in service number) (objects number) id name ≡ Ok end → end.reply ≡ reply.Found told access
+      → IsThere service objects root told access
+  there_by_name id name is found =
       let state = objects number in
       let here = passed (is_here (site_in service number) id) reply.Other _ end is in
       let born = gave (ok_or (born_of (content_of_id id state.contents)) reply.NoDir) _ end here.rest in
@@ -51,11 +57,11 @@ module _ (service : Service) (objects : Objects) (number : ℕ) (root : Access) 
       let is_found = found_in dir name (slot_in name (slots_at dir state.contents)) told access
       (tells.is ∙ ap (λ (r : Reply). Ok r) (sym (reply_done tells.value state end tells.rest) ∙ found)) in
       let linked = ap (λ (slots : List (List ℕ × Slot)). thing_in (slot_in name slots)) (slots_here service objects number state dir here.holds) ∙ is_found.stands in
-      subst (λ (k : Key). IsToldAs service objects root phases k access) (sym is_found.as_key) (inl linked)
+      subst (λ (k : Key). IsThere service objects root k access) (sym is_found.as_key) linked
 
-  pub told_at_top : RootStandsAt service objects root → lookup_top (site_in service number) (objects number) ≡ Ok end → end.reply ≡ reply.Found told access
-      → IsToldAs service objects root phases told access
-  told_at_top stands is found =
+  pub there_at_top : RootStandsAt service objects root → lookup_top (site_in service number) (objects number) ≡ Ok end → end.reply ≡ reply.Found told access
+      → IsThere service objects root told access
+  there_at_top stands is found =
       let state = objects number in
       let here = after (check (is_here (site_in service number) (root_id (site_in service number))) reply.Other) _ end is in
       let top = gave (ok_or state.top reply.Other) _ end here in
@@ -64,4 +70,10 @@ module _ (service : Service) (objects : Objects) (number : ℕ) (root : Access) 
       let same : reply.Found key.Top top.value.access ≡ reply.Found told access = sym (reply_done (reply.Found key.Top top.value.access) state end free) ∙ found in
       let as_key : key.Top ≡ told = cc same in
       let as_access : top.value.access ≡ access = cc same in
-      subst (λ (k : Key). IsToldAs service objects root phases k access) as_key (sym as_access ∙ at_top)
+      subst (λ (k : Key). IsThere service objects root k access) as_key (sym as_access ∙ at_top)
+
+-- what is there is told truly
+pub there_is_told : (service : Service) (objects : Objects) (root : Access) (phases : Phases) (told : Key) (access : Access)
+    → IsThere service objects root told access → IsToldAs service objects root phases told access
+there_is_told service objects root phases key.Top access there = there
+there_is_told service objects root phases (key.At dir name) access there = inl there

@@ -35,20 +35,47 @@ use Rattle.inf_server.specs.Names.{found_by, in_the_way, is_missing, unless_held
 use Rattle.inf_server.specs.Removals.{drop_dir, forget, is_the_directory, name_in, seal, unless_inside, unlink, unseal}
 use Rattle.inf_server.specs.Response.{Response, done}
 use Rattle.inf_server.specs.State.{Site, State, is_here, root_id}
-
--- it tells that nothing was done; where it refuses, the error may be this
-abbrev pub Fails : (Errno → Type 0) → Reply → Type 0
-Fails may (reply.Refused error) = may error
-Fails may reply.Fine = ⊥
-Fails may (reply.Reserved version) = ⊥
-Fails may (reply.Stat kind meta) = ⊥
-Fails may other_reply = Unit {0}
+use Rattle.inf_laws_directory.specs.Looked.{IsKeyOf}
 
 abbrev pub Anything : {A : Type 0} → A → Type 0
 Anything value = Unit {0}
 
 abbrev pub Nothing : {A : Type 0} → A → Type 0
 Nothing value = ⊥
+
+-- it tells that nothing was done, and of nothing that stands; where it refuses, the error may be this
+abbrev pub Fails : (Errno → Type 0) → Reply → Type 0
+Fails may (reply.Refused error) = may error
+Fails may reply.Fine = ⊥
+Fails may (reply.Reserved version) = ⊥
+Fails may (reply.Stat kind meta) = ⊥
+Fails may (reply.Found told access) = ⊥
+Fails may (reply.Listing items) = ⊥
+Fails may other_reply = Unit {0}
+
+-- it tells what stands under the key that was looked up, or why it does not
+abbrev pub Tells : LookKey → Reply → Type 0
+Tells sought (reply.Found told access) = IsKeyOf sought told
+Tells sought given = Fails Nothing given
+
+-- it tells that nothing was done
+abbrev pub LeavesAll : Reply → Type 0
+LeavesAll reply.Fine = ⊥
+LeavesAll (reply.Reserved version) = ⊥
+LeavesAll (reply.Stat kind meta) = ⊥
+LeavesAll other_reply = Unit {0}
+
+pub failures_leave : (may : Errno → Type 0) (given : Reply) → Fails may given → LeavesAll given
+failures_leave may reply.Fine fails = fails
+failures_leave may (reply.Reserved version) fails = fails
+failures_leave may (reply.Stat kind meta) fails = fails
+failures_leave may other_reply fails = tt
+
+pub tellings_leave : (sought : LookKey) (given : Reply) → Tells sought given → LeavesAll given
+tellings_leave sought reply.Fine tells = tells
+tellings_leave sought (reply.Reserved version) tells = tells
+tellings_leave sought (reply.Stat kind meta) tells = tells
+tellings_leave sought other_reply tells = tt
 
 -- the checks fail so, or this holds of what they let through
 abbrev pub Comes : {A : Type 0} → (Errno → Type 0) → (A → Type 0) → Result A Reply → Type 0
@@ -205,26 +232,30 @@ module _ (site : Site) (state : State) where
   unless_sealed_comes born None = tt
   unless_sealed_comes born (Some sealer) = tt
 
-  abbrev IsTelling : Response → Type 0
-  IsTelling end = Fails Nothing end.reply
-
-  told_comes : (dir : DirRef) (name : List ℕ) (slot : Option Slot) → Comes Nothing (Fails Nothing) (told_of dir name slot)
+  told_comes : (dir : DirRef) (name : List ℕ) (slot : Option Slot) → Comes Nothing (Tells (look.At dir.id name)) (told_of dir name slot)
   told_comes dir name None = tt
   told_comes dir name (Some (reserved by access)) = tt
-  told_comes dir name (Some (file meta held)) = behind_unit Nothing (Fails Nothing) (unheld dir.born (holder held)) _ (unheld_comes dir.born (holder held)) tt
-  told_comes dir name (Some (directory access held)) = behind_unit Nothing (Fails Nothing) (unheld dir.born (holder held)) _ (unheld_comes dir.born (holder held)) tt
+  told_comes dir name (Some (file meta held)) =
+      behind_unit Nothing (Tells (look.At dir.id name)) (unheld dir.born (holder held)) _ (unheld_comes dir.born (holder held)) tt
+  told_comes dir name (Some (directory access held)) =
+      behind_unit Nothing (Tells (look.At dir.id name)) (unheld dir.born (holder held)) _ (unheld_comes dir.born (holder held))
+      (record { dir = dir; same_id = refl; is_key = refl })
 
-  pub lookup_comes : (key : LookKey) → Comes Nothing IsTelling (on_lookup site state key)
+  abbrev pub IsTelling : LookKey → Response → Type 0
+  IsTelling sought end = Tells sought end.reply
+
+  pub lookup_comes : (sought : LookKey) → Comes Nothing (IsTelling sought) (on_lookup site state sought)
   lookup_comes look.Top =
-      behind_check Nothing IsTelling (is_here site (root_id site)) reply.Other _ tt
-      (behind Nothing IsTelling (ok_or state.top reply.Other) _ (some Nothing state.top reply.Other tt) (λ top.
-      behind_unit Nothing IsTelling (unheld 0 (holder top.held)) _ (unheld_comes 0 (holder top.held)) tt))
+      behind_check Nothing (IsTelling look.Top) (is_here site (root_id site)) reply.Other _ tt
+      (behind Nothing (IsTelling look.Top) (ok_or state.top reply.Other) _ (some Nothing state.top reply.Other tt) (λ top.
+      behind_unit Nothing (IsTelling look.Top) (unheld 0 (holder top.held)) _ (unheld_comes 0 (holder top.held)) refl))
   lookup_comes (look.At id name) =
-      behind_check Nothing IsTelling (is_here site id) reply.Other _ tt
-      (behind Nothing IsTelling (ok_or (born_of (content_of_id id state.contents)) reply.NoDir) _ (some Nothing (born_of (content_of_id id state.contents)) reply.NoDir tt) (λ born.
+      let found = content_of_id id state.contents in
+      behind_check Nothing (IsTelling (look.At id name)) (is_here site id) reply.Other _ tt
+      (behind Nothing (IsTelling (look.At id name)) (ok_or (born_of found) reply.NoDir) _ (some Nothing (born_of found) reply.NoDir tt) (λ born.
       let dir : DirRef = record { id = id; born = born } in
-      behind_unit Nothing IsTelling (unless_sealed born (seal_of (content_at dir state.contents))) _ (unless_sealed_comes born (seal_of (content_at dir state.contents)))
-      (tells Nothing (Fails Nothing) state (told_of dir name (slot_in name (slots_at dir state.contents))) (told_comes dir name (slot_in name (slots_at dir state.contents))))))
+      behind_unit Nothing (IsTelling (look.At id name)) (unless_sealed born (seal_of (content_at dir state.contents))) _ (unless_sealed_comes born (seal_of (content_at dir state.contents)))
+      (tells Nothing (Tells (look.At id name)) state (told_of dir name (slot_in name (slots_at dir state.contents))) (told_comes dir name (slot_in name (slots_at dir state.contents))))))
 
   there_comes : (there : Made) → Comes Nothing Anything (unless_there there)
   there_comes made.New = tt

@@ -4,6 +4,7 @@ use Rattle.inf_base.specs.declared.access.Access.{Access}
 use Rattle.inf_base.specs.declared.call.Call.{Call}
 use Rattle.inf_base.specs.declared.caller.Caller.{Caller}
 use Rattle.inf_base.specs.declared.errno.Errno.{Errno}
+use Rattle.inf_base.specs.declared.key.LookKey.{LookKey}
 use Rattle.inf_message.specs.declared.ask.Ask.{Ask}
 use Rattle.inf_message.specs.declared.op.Op.TheVariants as op
 use Rattle.inf_message.specs.declared.reply.Reply.{Reply}
@@ -22,41 +23,41 @@ use Rattle.inf_laws_directory.specs.Replays.{IsRefused}
 use Rattle.inf_laws_directory.specs.Standing.{GoesOn, GoesOnOlder, IsStanding}
 use Rattle.inf_laws_directory.specs.Stands.{Stands}
 use Rattle.inf_laws_directory.proofs.CallFacts.{same_phases}
-use Rattle.inf_laws_directory.proofs.Outcomes.{Comes, Fails, IsFine, Nothing}
+use Rattle.inf_laws_directory.proofs.Outcomes.{Comes, IsFine, LeavesAll, Nothing, Tells, failures_leave, tellings_leave}
 use Rattle.inf_laws_directory.proofs.SameContents.{kept_stay}
 use Rattle.inf_laws_directory.proofs.StandingFacts.{goes_on_unseen}
 
 -- what tells of nothing done leaves the phase
-phase_stays : (service : Service) (place : ℕ) (phase : Phase) (asked : Request) (given : Reply) (may : Errno → Type 0) → Fails may given
+phase_stays : (service : Service) (place : ℕ) (phase : Phase) (asked : Request) (given : Reply) → LeavesAll given
     → next_phase service place phase asked given ≡ phase
-phase_stays service place phase (request.Reserve chain name) (reply.Reserved version) may fails = absurd fails
-phase_stays service place phase (request.Reserve chain name) other_reply may fails = refl
-phase_stays service place phase (request.Make birth) reply.Fine may fails = absurd fails
-phase_stays service place phase (request.Make birth) other_reply may fails = refl
-phase_stays service place phase (request.Link chain name dir mode) reply.Fine may fails = absurd fails
-phase_stays service place phase (request.Link chain name dir mode) other_reply may fails = refl
-phase_stays service place phase (request.Cancel dir) reply.Fine may fails = absurd fails
-phase_stays service place phase (request.Cancel dir) other_reply may fails = refl
-phase_stays service place phase (request.Drop dir) reply.Fine may fails = absurd fails
-phase_stays service place phase (request.Drop dir) other_reply may fails = refl
-phase_stays service place phase (request.Seal chain) reply.Fine may fails = absurd fails
-phase_stays service place phase (request.Seal chain) other_reply may fails = refl
-phase_stays service place phase (request.Unlink chain) reply.Fine may fails = absurd fails
-phase_stays service place phase (request.Unlink chain) other_reply may fails = refl
-phase_stays service place phase (request.Unseal dir) reply.Fine may fails = absurd fails
-phase_stays service place phase (request.Unseal dir) other_reply may fails = refl
-phase_stays service place phase other_request given may fails = refl
+phase_stays service place phase (request.Reserve chain name) (reply.Reserved version) leaves = absurd leaves
+phase_stays service place phase (request.Reserve chain name) other_reply leaves = refl
+phase_stays service place phase (request.Make birth) reply.Fine leaves = absurd leaves
+phase_stays service place phase (request.Make birth) other_reply leaves = refl
+phase_stays service place phase (request.Link chain name dir mode) reply.Fine leaves = absurd leaves
+phase_stays service place phase (request.Link chain name dir mode) other_reply leaves = refl
+phase_stays service place phase (request.Cancel dir) reply.Fine leaves = absurd leaves
+phase_stays service place phase (request.Cancel dir) other_reply leaves = refl
+phase_stays service place phase (request.Drop dir) reply.Fine leaves = absurd leaves
+phase_stays service place phase (request.Drop dir) other_reply leaves = refl
+phase_stays service place phase (request.Seal chain) reply.Fine leaves = absurd leaves
+phase_stays service place phase (request.Seal chain) other_reply leaves = refl
+phase_stays service place phase (request.Unlink chain) reply.Fine leaves = absurd leaves
+phase_stays service place phase (request.Unlink chain) other_reply leaves = refl
+phase_stays service place phase (request.Unseal dir) reply.Fine leaves = absurd leaves
+phase_stays service place phase (request.Unseal dir) other_reply leaves = refl
+phase_stays service place phase other_request given leaves = refl
 
 -- what tells of nothing done owes that all goes on, and that the tree refuses what is refused
-owes_kept : (m : Moment) (caller : Caller) (asked : Call) (requested : Request) (given : Reply) (may : Errno → Type 0) → Fails may given
+owes_kept : (m : Moment) (caller : Caller) (asked : Call) (requested : Request) (given : Reply) → LeavesAll given
     → ((error : Errno) → given ≡ reply.Refused error → IsRefused m.tree caller asked error) → Goes m → Owes m caller asked requested given
-owes_kept m caller asked requested (reply.Refused error) may fails refused goes = (refused error refl, goes)
-owes_kept m caller asked requested reply.Fine may fails refused goes = absurd fails
-owes_kept m caller asked requested (reply.Stat kind meta) may fails refused goes = absurd fails
-owes_kept m caller asked (request.Finish chain (op.Create name mode)) other_reply may fails refused goes = goes
-owes_kept m caller asked (request.Finish chain (op.Stat name)) other_reply may fails refused goes = goes
-owes_kept m caller asked (request.Finish chain other_op) other_reply may fails refused goes = goes
-owes_kept m caller asked other_request other_reply may fails refused goes = goes
+owes_kept m caller asked requested (reply.Refused error) leaves refused goes = (refused error refl, goes)
+owes_kept m caller asked requested reply.Fine leaves refused goes = absurd leaves
+owes_kept m caller asked requested (reply.Stat kind meta) leaves refused goes = absurd leaves
+owes_kept m caller asked (request.Finish chain (op.Create name mode)) other_reply leaves refused goes = goes
+owes_kept m caller asked (request.Finish chain (op.Stat name)) other_reply leaves refused goes = goes
+owes_kept m caller asked (request.Finish chain other_op) other_reply leaves refused goes = goes
+owes_kept m caller asked other_request other_reply leaves refused goes = goes
 
 pub older : (service : Service) (place : ℕ) (old new : Objects) (root : Access) (tree : Node) (before after : Phases)
     → GoesOn service old new root tree before after → GoesOnOlder service place old new root tree before after
@@ -96,15 +97,15 @@ module _ (service : Service) (objects : Objects) (number place : ℕ) (root : Ac
   IsGivenBy requested = served_of requested ≡ Ok (record { reply = given; state = new })
 
   module _ (phase : Phase) (at : phases ask.from ≡ phase) (requested : Request) (asked : Call) where
-    all_kept : (may : Errno → Type 0) → Fails may given → new.contents ≡ (objects number).contents
+    all_kept : LeavesAll given → new.contents ≡ (objects number).contents
         → ((error : Errno) → given ≡ reply.Refused error → IsRefused tree ask.caller asked error) → IsOwed phase requested asked given
-    all_kept may fails same refused =
+    all_kept leaves same refused =
         let next = with_state number new objects in
         let goes : GoesOn service objects next root tree phases phases =
         goes_on_unseen service objects next root tree phases phases standing.sorted (unseen same) (kept_stay service objects number new same root phases standing.owned) in
         let stays : with_phase ask.from (next_phase service place phase requested given) phases ≡ phases =
-        ap (λ (p : Phase). with_phase ask.from p phases) (phase_stays service place phase requested given may fails ∙ sym at) ∙ same_phases ask.from phases in
-        owes_kept _ ask.caller asked requested given may fails refused
+        ap (λ (p : Phase). with_phase ask.from p phases) (phase_stays service place phase requested given leaves ∙ sym at) ∙ same_phases ask.from phases in
+        owes_kept _ ask.caller asked requested given leaves refused
         (subst (λ (after : Phases). GoesOnOlder service place objects next root tree phases after) (sym stays) (older service place objects next root tree phases phases goes))
 
     -- by the checks: those that fail, and what comes of those that pass
@@ -116,7 +117,7 @@ module _ (service : Service) (objects : Objects) (number place : ℕ) (root : Ac
     by_checks may holds (Err refusal) comes refused passes is =
         let reply_is : given ≡ refusal = ap (λ (r : Response). r.reply) is in
         let state_is : new ≡ objects number = ap (λ (r : Response). r.state) is in
-        all_kept may (subst (λ (r : Reply). Fails may r) (sym reply_is) comes) (ap (λ (s : State). s.contents) state_is)
+        all_kept (subst (λ (r : Reply). LeavesAll r) (sym reply_is) (failures_leave may refusal comes)) (ap (λ (s : State). s.contents) state_is)
         (λ error refuses. refused error (ap Err (sym reply_is ∙ refuses)))
 
     pub settles : (may : Errno → Type 0) (holds : Response → Type 0) → WasServed (objects number) (served_of requested) given new
@@ -125,7 +126,7 @@ module _ (service : Service) (objects : Objects) (number place : ℕ) (root : Ac
         → (IsGivenBy requested → holds (record { reply = given; state = new }) → IsOwed phase requested asked given)
         → IsOwed phase requested asked given
     settles may holds (inl wants) comes refused passes =
-        all_kept may (subst (λ (r : Reply). Fails may r) (sym wants.0) tt) (ap (λ (s : State). s.contents) wants.1)
+        all_kept (subst (λ (r : Reply). LeavesAll r) (sym wants.0) tt) (ap (λ (s : State). s.contents) wants.1)
         (λ error refuses. (let not : reply.NoMem ≡ reply.Refused error = sym wants.0 ∙ refuses in cc))
     settles may holds (inr served) comes refused passes = by_checks may holds (served_of requested) comes refused passes served
 
@@ -144,8 +145,9 @@ module _ (service : Service) (objects : Objects) (number place : ℕ) (root : Ac
         → (IsGivenBy requested → IsOwed phase requested asked reply.Fine) → IsOwed phase requested asked given
     settles_fine_always served comes passes = settles_fine Nothing served comes (never IsFine comes) passes
 
-    pub only_tells : WasServed (objects number) (served_of requested) given new → Comes Nothing (λ end. Fails Nothing end.reply) (served_of requested)
+    pub only_tells : (sought : LookKey) → WasServed (objects number) (served_of requested) given new
+        → Comes Nothing (λ end. Tells sought end.reply) (served_of requested)
         → (IsGivenBy requested → new.contents ≡ (objects number).contents) → IsOwed phase requested asked given
-    only_tells served comes same =
-        settles Nothing (λ end. Fails Nothing end.reply) served comes (never (λ end. Fails Nothing end.reply) comes)
-        (λ is tells. all_kept Nothing tells (same is) (λ error refuses. absurd (subst (λ (r : Reply). Fails Nothing r) refuses tells)))
+    only_tells sought served comes same =
+        settles Nothing (λ end. Tells sought end.reply) served comes (never (λ end. Tells sought end.reply) comes) (λ is tells.
+        all_kept (tellings_leave sought given tells) (same is) (λ error refuses. absurd (subst (λ (r : Reply). Tells sought r) refuses tells)))

@@ -1,5 +1,6 @@
 -- What has passed, and what changed, where a request is served.
 use Rattle.std.proofs.Common.{◌≡◌, ℕ, Bool, true, false, cond, ◌||◌, List, [], ◌∷◌, is_none, Option, Some, None, is_some, Result, Ok, ok_or, refl, sym, ap, ◌∙◌}
+use Rattle.std.specs.List.{list_all}
 use Rattle.inf_base.specs.declared.caller.Caller.{Caller}
 use Rattle.inf_base.specs.declared.caller.CallRef.{CallRef}
 use Rattle.inf_base.specs.declared.directory.DirRef.{DirRef}
@@ -20,15 +21,17 @@ use Rattle.inf_content.specs.declared.inside.Inside.TheVariants as inside
 use Rattle.inf_message.specs.declared.ask.Ask.{Ask}
 use Rattle.inf_message.specs.declared.reply.Reply.{Reply}
 use Rattle.inf_message.specs.declared.reply.Reply.TheVariants as reply
+use Rattle.inf_perm.specs.declared.want.Want.TheVariants as want
 use Rattle.inf_renames.specs.Renames.{least_version}
 use Rattle.inf_server.specs.Births.{access_to_come, cancel, link, make, reserve, unless_there}
 use Rattle.inf_server.specs.Chains.{before_last, last_of}
-use Rattle.inf_server.specs.Checks.{asked_of, searched, writable}
+use Rattle.inf_server.specs.Checks.{asked_of, lets, searched, writable}
 use Rattle.inf_server.specs.Files.{create, new_file}
 use Rattle.inf_server.specs.Names.{found_by, is_missing}
 use Rattle.inf_server.specs.Removals.{drop_dir, is_the_directory, name_in, seal, unless_inside, unlink, unseal}
 use Rattle.inf_server.specs.Response.{Response, done}
 use Rattle.inf_server.specs.State.{Site, State, is_here, with_contents}
+use Rattle.inf_laws_directory.specs.Owes.{MayWriteAt}
 use Rattle.inf_laws_directory.specs.Serves.{StandsAs}
 use Rattle.inf_laws_directory.specs.Things.{thing_in}
 use Rattle.inf_laws_directory.proofs.PassedChecks.{IsAsked, after, asked, found_directory, found_missing, gave, passed, state_done, was_some}
@@ -222,3 +225,29 @@ has_unlinked site state ask end chain is =
 -- the name by which the directory was unlinked
 pub named_so : (was target : Entry) (dir : DirRef) (found name : List ℕ) → name_in was.key ≡ Some found → was ≡ target → target.key ≡ key.At dir name → found ≡ name
 named_so was target dir found name named same at = let is : Some found ≡ Some name = sym named ∙ ap (λ (e : Entry). name_in e.key) same ∙ ap name_in at in cc
+
+-- where a name is reserved, or a directory sealed, the caller may write to the directory that this changes
+pub reserving_may_write : (site : Site) (state : State) (ask : Ask) (end : Response) (chain : List Entry) (name : List ℕ)
+    → reserve site state ask chain name ≡ Ok end → MayWriteAt ask.caller chain
+reserving_may_write site state ask end chain name is =
+    let entry = gave (asked_of site state ask.from chain) _ end is in
+    let searches = passed (list_all (lets ask.caller want.Search) chain) (reply.Refused errno.EACCES) _ end entry.rest in
+    let writes = passed (lets ask.caller want.Write entry.value) (reply.Refused errno.EACCES) _ end searches.rest in
+    record {
+      last = entry.value;
+      ends = (asked site state ask.from chain entry.value entry.is).last;
+      may = record { search = searches.holds; write = writes.holds };
+    }
+
+pub sealing_may_write : (site : Site) (state : State) (ask : Ask) (end : Response) (chain : List Entry)
+    → seal site state ask chain ≡ Ok end → MayWriteAt ask.caller (before_last chain)
+sealing_may_write site state ask end chain is =
+    let parent = gave (ok_or (last_of (before_last chain)) reply.Other) _ end is in
+    let entry = gave (asked_of site state ask.from chain) _ end parent.rest in
+    let searches = passed (list_all (lets ask.caller want.Search) (before_last chain)) (reply.Refused errno.EACCES) _ end entry.rest in
+    let writes = passed (lets ask.caller want.Write parent.value) (reply.Refused errno.EACCES) _ end searches.rest in
+    record {
+      last = parent.value;
+      ends = was_some (last_of (before_last chain)) reply.Other parent.value parent.is;
+      may = record { search = searches.holds; write = writes.holds };
+    }

@@ -86,14 +86,14 @@ module _ (site : Site) (state : State) (ask : Ask) (end : Response) where
   never : (refusal : Reply) → Err refusal ≡ Ok end → ⊥
   never refusal is = cc
 
-  never_walked : (chain : List Entry) (name : List ℕ) → walk site state ask chain name ≡ Ok end → ⊥
+  pub never_walked : (chain : List Entry) (name : List ℕ) → walk site state ask chain name ≡ Ok end → ⊥
   never_walked chain name is =
       let entry = gave (asked_of site state ask.from chain) _ end is in
       let searches = after (searched ask.caller chain) _ end entry.rest in
       let found = gave (found_by ask.from (dir_of entry.value.access) name state.contents) _ end searches in
       never (no_directory found.value) found.rest
 
-  never_removed : (chain : List Entry) (name : List ℕ) → rmdir_name site state ask chain name ≡ Ok end → ⊥
+  pub never_removed : (chain : List Entry) (name : List ℕ) → rmdir_name site state ask chain name ≡ Ok end → ⊥
   never_removed chain name is =
       let entry = gave (asked_of site state ask.from chain) _ end is in
       let searches = after (searched ask.caller chain) _ end entry.rest in

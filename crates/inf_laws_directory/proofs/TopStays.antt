@@ -1,5 +1,6 @@
 -- No request changes the root's access object.
-use Rattle.std.proofs.Common.{◌≡◌, ℕ, List, is_some, Result, Ok, Err, ok_or, refl}
+use Rattle.std.proofs.Common.{◌≡◌, ◌⊎◌, inl, inr, ℕ, ◌==◌, Bool, true, false, cond, List, Some, is_some, Result, Ok, Err, ok_or, refl, sym, ap, ◌∙◌}
+use Rattle.inf_base.specs.declared.access.Access.{Access}
 use Rattle.inf_base.specs.declared.entry.Entry.{Entry}
 use Rattle.inf_base.specs.declared.errno.Errno.TheVariants as errno
 use Rattle.inf_base.specs.declared.key.LookKey.{LookKey}
@@ -22,11 +23,14 @@ use Rattle.inf_server.specs.Chains.{before_last, last_of}
 use Rattle.inf_server.specs.Checks.{asked_of, searched, writable}
 use Rattle.inf_server.specs.Files.{stat_of}
 use Rattle.inf_server.specs.Lookups.{told_of, unheld, unless_sealed}
-use Rattle.inf_server.specs.Machine.{machine, on_change, on_lookup, on_op, on_request}
+use Rattle.inf_server.specs.Machine.{Serves, machine, on_change, on_lookup, on_op, on_request}
 use Rattle.inf_server.specs.Names.{found_by, is_missing}
 use Rattle.inf_server.specs.Removals.{is_the_directory, name_in, unless_inside}
 use Rattle.inf_server.specs.Response.{Response, response}
 use Rattle.inf_server.specs.State.{Site, State, is_here, root_id}
+use Rattle.inf_laws_directory.specs.Objects.{Objects, Service, site_in, with_state}
+use Rattle.inf_laws_directory.specs.Told.{RootStandsAt}
+use Rattle.inf_laws_directory.proofs.ServedReplies.{left_or_done}
 
 module _ (site : Site) (state : State) (ask : Ask) where
   abbrev Stays : Result Response Reply → Type 0
@@ -102,3 +106,20 @@ module _ (site : Site) (state : State) (ask : Ask) where
 
   pub top_stays : (place : ℕ) → (machine site state place ask).state.top ≡ state.top
   top_stays place = response_stays (on_request site state place ask ask.request) (request_stays place ask.request)
+
+-- nor does any Serve, so that the root stands where it stood
+pub top_kept : (site : Site) (old : State) (place : ℕ) (ask : Ask) (given : Reply) (new : State) → Serves site old place ask given new → new.top ≡ old.top
+top_kept site old place ask given new serves = by (left_or_done site old place ask given new serves)
+  where
+    by : (new ≡ old) ⊎ (on_request site old place ask ask.request ≡ Ok (record { reply = given; state = new })) → new.top ≡ old.top
+    by (inl same) = ap (λ (s : State). s.top) same
+    by (inr is) = sym (ap (λ (r : Result Response Reply). (response old r).state.top) is) ∙ top_stays site old ask place
+
+pub root_kept : (service : Service) (objects : Objects) (root : Access) (number place : ℕ) (ask : Ask) (given : Reply) (new : State)
+    → RootStandsAt service objects root → Serves (site_in service number) (objects number) place ask given new
+    → RootStandsAt service (with_state number new objects) root
+root_kept service objects root number place ask given new stands serves other top = by (other == number)
+  where
+    by : (b : Bool) → (cond b new (objects other)).top ≡ Some top → top.access ≡ root
+    by true is = stands number top (sym (top_kept (site_in service number) (objects number) place ask given new serves) ∙ is)
+    by false is = stands other top is

@@ -1,7 +1,9 @@
 pub mod Answers
+pub mod Born
 pub mod Changes
 pub mod Fits
 pub mod Leads
+pub mod Looked
 pub mod Objects
 pub mod Owes
 pub mod Owned

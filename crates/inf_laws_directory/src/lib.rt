@@ -3,6 +3,7 @@
 #![tactic(auto)]
 
 mod answers;
+mod born;
 mod owes;
 mod phases;
 mod replays;
@@ -14,6 +15,7 @@ mod telling;
 pub use answers::{
     creations_follow_chains, looks_follow_chains, paths_stop_at_chains, removals_follow_chains,
 };
+pub use born::{clean_ups_are_done, contents_are_born_at_an_ask};
 pub use owes::what_is_served_stands;
 pub use phases::{
     chains_are_true, creating_keeps, ending_keeps, linking_keeps, making_keeps, opening_is_owned,
@@ -36,4 +38,7 @@ pub use stands::{
     opening_stands, unseen_changes_stand, walks_follow_chains, what_is_put_stands,
     what_is_taken_stands,
 };
-pub use telling::{lookups_tell_the_truth, reservations_and_seals_ask_permission, the_root_stays};
+pub use telling::{
+    lookups_answer_what_was_asked, lookups_tell_the_truth, permissions_are_asked_first,
+    reservations_and_seals_ask_permission, the_root_is_kept, the_root_stays, what_is_told_is_true,
+};

@@ -30,7 +30,7 @@ ghost use Rattle.inf_server.specs.State.{opening, root_access};
 
 /// Before anything is served, with each call idle, all is owned.
 pub fn opening_is_owned()
-    ensures { (service : Service) (phases : Phases) → ((call : CallRef) → phases call ≡ idle) → 1 ≤ service.servers
+    ensures { (service : Service) (phases : Phases) → ((call : CallRef) → phases call ≡ idle)
         → AreOwned service (λ number. opening (site_in service number)) (root_access (site_in service 0)) phases }
 {}
 

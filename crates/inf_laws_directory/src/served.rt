@@ -46,7 +46,7 @@ use crate::stands::{opening_stands, unseen_changes_stand};
 
 /// Before anything is served, with each call idle, what stands stands for the opening tree.
 pub fn the_opening_stands()
-    ensures { (service : Service) (phases : Phases) → ((call : CallRef) → phases call ≡ idle) → 1 ≤ service.servers
+    ensures { (service : Service) (phases : Phases) → ((call : CallRef) → phases call ≡ idle)
         → IsStanding service (λ number. opening (site_in service number)) (root_access (site_in service 0)) opening_tree phases }
 {
     opening_stands();

@@ -18,8 +18,7 @@ ghost use Rattle.inf_tree.specs.Tree.{IsTree, Node, changed, cut, dir, file, hun
 
 /// Before anything is served the servers' directories stand for the opening tree.
 pub fn opening_stands()
-    ensures { (service : Service) → 1 ≤ service.servers
-        → Stands (directories_of service (λ number. opening (site_in service number)))
+    ensures { (service : Service) → Stands (directories_of service (λ number. opening (site_in service number)))
         (root_access (site_in service 0)) opening_tree }
 {}
 

@@ -1,22 +1,29 @@
-//! What lookups tell is true when it is told, and what reservations and seals rest on.
+//! What lookups tell is true when it is told, and is what they asked for; and what reservations and seals rest on.
 
 ghost use Rattle.std.specs.Prelude.{◌≡◌, ℕ, List, Some, Ok};
 ghost use Rattle.inf_base.specs.declared.access.Access.{Access};
 ghost use Rattle.inf_base.specs.declared.entry.Entry.{Entry};
 ghost use Rattle.inf_base.specs.declared.id.Id.{Id};
+ghost use Rattle.inf_base.specs.declared.item.Item.{Item};
 ghost use Rattle.inf_base.specs.declared.key.Key.{Key};
-ghost use Rattle.inf_laws_directory.specs.Objects.{Objects, Service, site_in};
+ghost use Rattle.inf_base.specs.declared.key.Key.TheVariants as key;
+ghost use Rattle.inf_base.specs.declared.key.LookKey.TheVariants as look;
+ghost use Rattle.inf_laws_directory.specs.Looked.{IsKeyIn, IsLookup};
+ghost use Rattle.inf_laws_directory.specs.Objects.{Objects, Service, site_in, with_state};
+ghost use Rattle.inf_laws_directory.specs.Owes.{MayWriteAt};
 ghost use Rattle.inf_laws_directory.specs.Phases.{Phases};
 ghost use Rattle.inf_laws_directory.specs.Replays.{MayWrite};
 ghost use Rattle.inf_laws_directory.specs.Told.{IsToldAs, RootStandsAt};
 ghost use Rattle.inf_message.specs.declared.ask.Ask.{Ask};
+ghost use Rattle.inf_message.specs.declared.reply.Reply.{Reply};
 ghost use Rattle.inf_message.specs.declared.reply.Reply.TheVariants as reply;
+ghost use Rattle.inf_message.specs.declared.request.Request.TheVariants as request;
 ghost use Rattle.inf_server.specs.Births.{reserve};
 ghost use Rattle.inf_server.specs.Chains.{before_last, last_of};
 ghost use Rattle.inf_server.specs.Lookups.{lookup_at, lookup_top};
 ghost use Rattle.inf_server.specs.Removals.{seal};
 ghost use Rattle.inf_server.specs.Response.{Response};
-ghost use Rattle.inf_server.specs.Machine.{machine};
+ghost use Rattle.inf_server.specs.Machine.{Serves, machine};
 ghost use Rattle.inf_server.specs.State.{Site, State, opening, root_access};
 
 /// A lookup tells the root's access object as the root's, and any other under the name where it stands.
@@ -50,4 +57,52 @@ pub fn the_root_stays()
         → RootStandsAt service (λ number. opening (site_in service number)) (root_access (site_in service 0)) }
     ensures next { (site : Site) (state : State) (place : ℕ) (ask : Ask)
         → (machine site state place ask).state.top ≡ state.top }
+{}
+
+/// Only lookups are told of an access object, under the key that they asked for; listings are told to nobody yet.
+pub fn lookups_answer_what_was_asked()
+    ensures top { (service : Service) (number place : ℕ) (state new : State) (ask : Ask) (given : Reply) (k : Key)
+        (access : Access)
+        → Serves (site_in service number) state place ask given new → ask.request ≡ request.Lookup look.Top
+        → given ≡ reply.Found k access → k ≡ key.Top }
+    ensures names { (service : Service) (number place : ℕ) (state new : State) (ask : Ask) (given : Reply) (id : Id)
+        (name : List ℕ) (k : Key) (access : Access)
+        → Serves (site_in service number) state place ask given new → ask.request ≡ request.Lookup (look.At id name)
+        → given ≡ reply.Found k access → IsKeyIn id name k }
+    ensures lookups { (service : Service) (number place : ℕ) (state new : State) (ask : Ask) (given : Reply) (k : Key)
+        (access : Access)
+        → Serves (site_in service number) state place ask given new → given ≡ reply.Found k access
+        → IsLookup ask.request }
+    ensures no_listing { (service : Service) (number place : ℕ) (state new : State) (ask : Ask) (items : List Item)
+        → Serves (site_in service number) state place ask (reply.Listing items) new → ⊥ }
+{}
+
+/// What a Serve tells of an access object is true.
+pub fn what_is_told_is_true()
+    ensures { (service : Service) (objects : Objects) (number place : ℕ) (root : Access) (phases : Phases) (ask : Ask)
+        (k : Key) (access : Access) (new : State)
+        → RootStandsAt service objects root
+        → Serves (site_in service number) (objects number) place ask (reply.Found k access) new
+        → IsToldAs service objects root phases k access }
+{}
+
+/// The root's access object stands after a Serve where it stood.
+pub fn the_root_is_kept()
+    ensures { (service : Service) (objects : Objects) (number place : ℕ) (root : Access) (ask : Ask) (given : Reply)
+        (new : State)
+        → RootStandsAt service objects root
+        → Serves (site_in service number) (objects number) place ask given new
+        → RootStandsAt service (with_state number new objects) root }
+{}
+
+/// A name is kept, and a directory sealed, for a caller that may write to the directory that this changes.
+pub fn permissions_are_asked_first()
+    ensures reservations { (service : Service) (number place : ℕ) (state new : State) (ask : Ask) (given : Reply)
+        (chain : List Entry) (name : List ℕ) (version : ℕ)
+        → Serves (site_in service number) state place ask given new → ask.request ≡ request.Reserve chain name
+        → given ≡ reply.Reserved version → MayWriteAt ask.caller chain }
+    ensures seals { (service : Service) (number place : ℕ) (state new : State) (ask : Ask) (given : Reply)
+        (chain : List Entry)
+        → Serves (site_in service number) state place ask given new → ask.request ≡ request.Seal chain
+        → given ≡ reply.Fine → MayWriteAt ask.caller (before_last chain) }
 {}

@@ -152,7 +152,7 @@ module _ (c : goal.After-served_clean_ups_stand) (service : Service) (objects : 
 
   looks_up : (asked : Call) (key : LookKey) → phases ask.from ≡ idle → Served (request.Lookup key) → Owed idle (request.Lookup key) asked given
   looks_up asked key at served =
-      only_tells service objects number place root tree phases ask given new standing unseen idle at (request.Lookup key) asked served
+      only_tells service objects number place root tree phases ask given new standing unseen idle at (request.Lookup key) asked key served
       (lookup_comes site state key) (λ is. looked_up site state ask end key is)
 
   reserves : (asked : Call) (chain : List Entry) (name : List ℕ) → phases ask.from ≡ idle

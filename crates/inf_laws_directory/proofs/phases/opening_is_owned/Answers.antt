@@ -77,4 +77,4 @@ module _ (service : Service) where
   }
 
 pub returns : goal.returns
-returns c = λ service phases idles one. opened_owned service phases idles
+returns c = λ service phases idles. opened_owned service phases idles
