@@ -1,0 +1,143 @@
+//! What a client asked and was answered, and the asks that it is about to make.
+
+ghost use Rattle.std.specs.Prelude.{◌≡◌, ◌<◌, ◌≤◌, true, length, OnOk, OnErr};
+ghost use Rattle.std.specs.List.{AllWithin};
+ghost use Rattle.inf_message.specs.History.{told_reply};
+ghost use Rattle.inf_trips.specs.AskLog.{IsLater, Rise, asked_log, no_asks, places_of, told_log, trip_places, trips_in, waits_at, with_ready, with_room, without_ready};
+
+use crate::ready::Ready;
+use crate::waiting::{Waiting, has_place, index_of};
+use inf_base::{NoMemory, Place};
+use inf_message::{Ask, Reply, Trip};
+use std::alloc::Global;
+use std::collections::VecDeque;
+use std::marker::Model;
+
+/// The Asks of a client in the order of asking, and those of the group under way that are still to be made.
+#[derive(Drop)]
+pub struct AskLog {
+    trips: Vec<Trip>,
+    waiting: Vec<Waiting>,
+    ready: VecDeque<Ready>,
+    room: usize,
+}
+
+impl Model for AskLog {
+    ghost use Rattle.std.specs.Prelude.{vec_len, vec_capacity};
+    ghost use Rattle.std.specs.VecDeque.{deque_len, deque_capacity};
+    ghost use Rattle.inf_trips.specs.AskLog.{AskLog, IsKept, merged};
+
+    ghost Value = { AskLog };
+
+    ghost view = { λ l. record { asks = merged l.trips.items l.waiting.items; ready = l.ready.items; room = l.room } };
+
+    // Room was taken before: to keep an ask, to make it and to be answered takes no memory.
+    ghost invariant = { λ l. IsKept l.trips.items l.waiting.items (vec_len l.trips) (vec_len l.waiting)
+        (deque_len l.ready) l.room (vec_capacity l.trips) (vec_capacity l.waiting) (deque_capacity l.ready) };
+}
+
+impl AskLog {
+    pub fn new(alloc: Global) -> Self
+        ensures { result ≡ no_asks }
+    {
+        AskLog {
+            trips: Vec::new(alloc),
+            waiting: Vec::new(alloc),
+            ready: VecDeque::new(alloc),
+            room: 0,
+        }
+    }
+
+    /// The Asks that were answered, each with its answer.
+    pub fn trips(&self) -> &[Trip]
+        ensures { result.now ≡ trips_in self.now }
+    {
+        self.trips.as_slice()
+    }
+
+    /// What a client knows of the places, without a look: they rise in the order of asking.
+    pub fn places_rise(&self)
+        ensures asks { Rise (places_of self.now.asks) }
+        ensures trips { Rise (trip_places (trips_in self.now)) }
+    {
+        let _ = &self.trips;
+    }
+
+    /// Takes room for this many asks behind those that are ready, and for their answers. Room for more is let go.
+    pub fn reserve(&mut self, count: usize) -> Result<(), NoMemory>
+        ensures ok { OnOk result (self.new ≡ with_room count self.old) }
+        ensures err { OnErr result (self.new ≡ self.old) }
+    {
+        self.ready.reserve(count)?;
+        let to_ask = self.ready.len() + count;
+        self.waiting.reserve(to_ask)?;
+        self.trips.reserve(self.waiting.len() + to_ask)?;
+        self.room = count;
+        Ok(())
+    }
+
+    /// Makes an ask ready, in room that was taken.
+    pub fn keep(&mut self, number: u32, ask: Ask)
+        requires room { 0 < self.old.room }
+        ensures { self.new ≡ with_ready number ask self.old }
+    {
+        self.ready.push_back_reserved(Ready { number, ask });
+        self.room -= 1;
+    }
+
+    /// Nothing is to be asked next.
+    pub fn forget(&mut self)
+        ensures { self.new ≡ without_ready self.old }
+    {
+        self.ready.clear();
+    }
+
+    /// The first ask that was to be made was made, and stands at this place.
+    pub fn asked(&mut self, place: Place)
+        requires ready { 0 < length self.old.ready }
+        requires later { IsLater place self.old.asks }
+        ensures { self.new ≡ asked_log place self.old }
+    {
+        let Some(ready) = self.ready.pop_front() else {
+            unreachable!()
+        };
+        self.waiting.push_reserved(Waiting::at(ready, place));
+    }
+
+    /// Whether the Ask at this place waits.
+    pub fn waits_at(&self, place: Place) -> bool
+        ensures { result ≡ waits_at place self.now.asks }
+    {
+        has_place(self.waiting.as_slice(), place)
+    }
+
+    /// The Ask at this place, which waits, was answered.
+    pub fn told(&mut self, ask_place: Place, serve_place: Place, reply: Reply)
+        requires waits { waits_at ask_place self.old.asks ≡ true }
+        ensures { self.new ≡ told_log ask_place (told_reply serve_place reply) self.old }
+    {
+        let Some(index) = index_of(self.waiting.as_slice(), ask_place) else {
+            unreachable!()
+        };
+        let trip = self.waiting.remove(index).answered(serve_place, reply);
+        let at = index_for(self.trips.as_slice(), ask_place);
+        // There is room, so this takes no memory.
+        let Ok(()) = self.trips.insert(at, trip) else {
+            unreachable!()
+        };
+    }
+}
+
+/// Where the trip of the Ask at this place is to stand. The last trips are passed, which are at most those of a group.
+fn index_for(trips: &[Trip], place: Place) -> usize
+    requires { Rise (trip_places trips.now) }
+    ensures within { result ≤ length trips.now }
+    ensures earlier { AllWithin (λ trip. trip.ask_place ≤ place) trips.now 0 result }
+    ensures later { AllWithin (λ trip. place < trip.ask_place) trips.now result (length trips.now) }
+{
+    let mut index = trips.len();
+    while index > 0 && place < trips[index - 1].ask_place {
+        index -= 1;
+    }
+    index
+}
