@@ -1,18 +1,11 @@
--- The words that are names, paths and modes: what a path of one name names, and that what is read is valid.
-use Rattle.std.proofs.Common.{◌≡◌, ℕ, ◌+◌, ◌-◌, ◌*◌, ◌<◌, ◌≤◌, Bool, true, false, ◌&&◌, ◌||◌, not, cond, nat_lt, List, [], ◌∷◌, length, Ok, Result, Err, IfOk, if◌then◌else◌, nat_le, refl, sym, subst, arith}
-use Rattle.std.specs.List.{list_all, slice_split}
-use Rattle.std.proofs.lemmas.Bool.{eqb-true, ltb-true, leb-true, le-leb, not-true, false≢true}
-use Rattle.std.proofs.lemmas.List.Elements.{All-weaker}
-use Rattle.std.proofs.lemmas.List.Sums.{AllPass-from_list_all}
-use Rattle.std.proofs.lemmas.List.Splits.{slice_split_none}
-use Rattle.inf_base.specs.Path.{is_slash, is_piece, is_reserved, path_of}
-use Rattle.inf_base.specs.Setup.{ends_word, is_word, is_mode, IsWithin}
-use Rattle.inf_base.specs.declared.limits.TheConstants.{MOST_NAME_BYTES}
+-- The words that are modes and numbers: what is read is valid.
+use Rattle.std.proofs.Common.{◌≡◌, ℕ, ◌+◌, ◌-◌, ◌*◌, ◌<◌, ◌≤◌, Bool, true, false, ◌&&◌, cond, nat_lt, List, [], ◌∷◌, Ok, Result, Err, IfOk, if◌then◌else◌, nat_le, refl, arith}
+use Rattle.std.proofs.lemmas.Bool.{ltb-true, leb-true, le-leb, false≢true}
+use Rattle.inf_base.specs.Setup.{is_mode, IsWithin}
 use Rattle.inf_script.specs.declared.refusal.Why.{Why}
 use Rattle.inf_script.specs.declared.refusal.Why.TheVariants as why
-use Rattle.inf_script.specs.Names.{is_plain, is_entry_name, is_single_path, is_octal, mode_of, is_number, value_from, if_below, number_below, if_from, number_within}
+use Rattle.inf_script.specs.Names.{is_octal, mode_of, is_number, value_from, if_below, number_below, if_from, number_within}
 use Rattle.inf_script.specs.Faults.{bad_number}
-use Rattle.inf_script.specs.Built.{IsSinglePath}
 
 pub and_left : (a b : Bool) → (a && b) ≡ true → a ≡ true
 and_left true b both = refl
@@ -22,13 +15,9 @@ pub and_right : (a b : Bool) → (a && b) ≡ true → b ≡ true
 and_right true b both = both
 and_right false b both = absurd (false≢true both)
 
-or_left : (a b : Bool) → (a || b) ≡ false → a ≡ false
-or_left true b neither = neither
-or_left false b neither = refl
-
-or_right : (a b : Bool) → (a || b) ≡ false → b ≡ false
-or_right true b neither = absurd (false≢true (sym neither))
-or_right false b neither = neither
+pub and_both : (a b : Bool) → a ≡ true → b ≡ true → (a && b) ≡ true
+and_both true b first second = second
+and_both false b first second = first
 
 -- what holds of the value of each branch holds of the choice
 pub if_both : {X : Type 0} (P : X → Type 0) (b : Bool) (x y : X) → (b ≡ true → P x) → (b ≡ false → P y) → P (cond b x y)
@@ -50,51 +39,6 @@ not_above_le m n over = by_test (nat_le m n) refl where
   by_test : (b : Bool) → nat_le m n ≡ b → b ≡ false
   by_test true within = absurd (let short = leb-true m n within in omega arith)
   by_test false within = refl
-
-all_weaker : (p q : ℕ → Bool) → ((byte : ℕ) → p byte ≡ true → q byte ≡ true) → (bytes : List ℕ) → list_all p bytes ≡ true → list_all q bytes ≡ true
-all_weaker p q weaker [] all = refl
-all_weaker p q weaker (byte ∷ bytes) all = rw (weaker byte (and_left _ _ all)) (all_weaker p q weaker bytes (and_right _ _ all))
-
-plain-no_slash : (byte : ℕ) → is_plain byte ≡ true → is_slash byte ≡ false
-plain-no_slash byte plain = or_left _ _ (not-true _ plain)
-
-plain-in_word : (byte : ℕ) → is_plain byte ≡ true → not (ends_word byte) ≡ true
-plain-in_word byte plain = let inside : ends_word byte ≡ false = or_right _ _ (not-true _ plain) in rw inside refl
-
-one_name : (name : List ℕ) → is_piece name ≡ true → nat_lt MOST_NAME_BYTES (length name) ≡ false → is_reserved name ≡ false → slice_split is_slash name ≡ name ∷ [] → path_of (47 ∷ name) ≡ Ok (name ∷ [])
-one_name name piece short free whole = simp (whole, piece, short, free)
-
-record IsEntryName (name : List ℕ) : Type 0 where
-  piece : is_piece name ≡ true
-  short : length name ≤ MOST_NAME_BYTES
-  free : is_reserved name ≡ false
-  plain : list_all is_plain name ≡ true
-
-entry_name : (name : List ℕ) → is_entry_name name ≡ true → IsEntryName name
-entry_name name test = record {
-  piece = and_left _ _ (and_left _ _ (and_left _ _ test));
-  short = leb-true _ _ (and_right _ _ (and_left _ _ (and_left _ _ test)));
-  free = not-true _ (and_right _ _ (and_left _ _ test));
-  plain = and_right _ _ test;
-}
-
-pub single_path : (path : List ℕ) → is_single_path path ≡ true → IsSinglePath path
-single_path [] single = absurd (false≢true single)
-single_path (byte ∷ name) single =
-    let slash : byte ≡ 47 = eqb-true byte 47 (and_left _ _ single) in
-    let good = entry_name name (and_right _ _ single) in
-    subst (λ (b : ℕ). IsSinglePath (b ∷ name)) (sym slash) (record {
-      name = name;
-      spelt = refl;
-      names = one_name name good.piece (not_above (length name) MOST_NAME_BYTES good.short) good.free (slice_split_none is_slash name (All-weaker (λ b. is_plain b ≡ true) (λ b. is_slash b ≡ false) plain-no_slash name (AllPass-from_list_all is_plain name good.plain)));
-    })
-
-pub single_path-is_word : (path : List ℕ) → is_single_path path ≡ true → is_word path ≡ true
-single_path-is_word [] single = absurd (false≢true single)
-single_path-is_word (byte ∷ name) single =
-    let slash : byte ≡ 47 = eqb-true byte 47 (and_left _ _ single) in
-    let good = entry_name name (and_right _ _ single) in
-    subst (λ (b : ℕ). is_word (b ∷ name) ≡ true) (sym slash) (all_weaker is_plain (λ b. not (ends_word b)) plain-in_word name good.plain)
 
 octal-short : (byte : ℕ) → is_octal byte ≡ true → byte ≤ 55
 octal-short byte octal = leb-true byte 55 (and_right _ _ octal)

@@ -8,11 +8,12 @@ use Rattle.std.proofs.lemmas.List.{length-append, length-map, map-append}
 use Rattle.std.proofs.lemmas.List.Elements.{All-nil, All-push, All-cons, All-head, All-tail}
 use Rattle.std.proofs.lemmas.List.Folds.{list_all-append}
 use Rattle.std.proofs.lemmas.List.Sums.{sum_by-append}
+use Rattle.inf_base.specs.Checks.{◌>>=◌}
 use Rattle.inf_base.specs.declared.call.Call.{Call}
 use Rattle.inf_base.specs.declared.call.Call.TheVariants as call
 use Rattle.inf_base.specs.declared.setup.ClientLine.{ClientLine}
-use Rattle.inf_base.specs.declared.limits.TheConstants.{MOST_SERVERS, MOST_CLIENTS, MOST_CALLS}
-use Rattle.inf_base.specs.Setup.{is_mode, is_valid_call, is_valid_client, is_client_name, names_of, call_count, IsWithin, IsValid}
+use Rattle.inf_base.specs.declared.limits.TheConstants.{MOST_SERVERS, MOST_DIGEST_BYTES, MOST_CLIENTS, MOST_CALLS}
+use Rattle.inf_base.specs.Setup.{is_mode, is_word, is_valid_call, is_valid_client, is_client_name, names_of, call_count, IsWithin, IsValid}
 use Rattle.inf_order.specs.declared.moves.Move.{Move}
 use Rattle.inf_order.specs.declared.moves.TheConstants.{MOST_MOVES}
 use Rattle.inf_order.specs.Order.{is_move_of}
@@ -26,20 +27,23 @@ use Rattle.inf_script.specs.declared.section.Section.{Section}
 use Rattle.inf_script.specs.declared.section.Section.TheVariants as section
 use Rattle.inf_script.specs.declared.draft.Draft.{Draft}
 use Rattle.inf_base.specs.Memory.{Gives}
-use Rattle.inf_script.specs.Faults.{bad_word, cause}
-use Rattle.inf_script.specs.Names.{is_single_path, mode_of, number_below, number_within}
+use Rattle.inf_script.specs.Faults.{cause}
+use Rattle.inf_script.specs.Paths.{names_within}
+use Rattle.inf_script.specs.Names.{mode_of, number_below, number_within}
 use Rattle.inf_script.specs.Words.{words_of, without_return, is_comment}
 use Rattle.inf_script.specs.Cuts.{before, behind}
-use Rattle.inf_script.specs.Draft.{rank, may_stand, start, servers_of, place_of, order_of}
-use Rattle.inf_script.specs.Settings.{no_more, version, first_line, servers_end, servers_number, servers_line}
+use Rattle.inf_script.specs.Draft.{rank, may_stand, start, servers_of, digest_bytes_of, place_of, order_of}
+use Rattle.inf_script.specs.Settings.{no_more, version, first_line, servers_end, servers_number, servers_line, digest_bytes_end, digest_bytes_number, digest_bytes_line}
 use Rattle.inf_script.specs.ClientLine.{new_client, with_client, client_end, client_group, client_user, client_name, client_line}
-use Rattle.inf_script.specs.CallLine.{create_end, create_mode, create_path, stat_path, call_kind, calling, with_call, call_of, call_client, call_line}
+use Rattle.inf_script.specs.CallLine.{path_alone, mode_behind, path_and_mode, mkdir_call, create_call, rmdir_call, stat_call, call_kind, calling, with_call, call_of, call_client, call_line}
 use Rattle.inf_script.specs.OrderLine.{is_colon, step_move, alone_move, serve_client, serve_move, server_move, server_text, coordinator_move, rest_move, move_of, with_move, moves_from, with_moves, order_moves, order_line}
 use Rattle.inf_script.specs.Sections.{end_line, word_line, after_words, after_line}
 use Rattle.inf_script.specs.Lines.{lines_of}
 use Rattle.inf_script.specs.Reading.{at_line, script_of, ended, at_end, read_line, read_from, reading}
-use Rattle.inf_script.specs.Built.{IsBuiltCall, IsBuiltClient, IsBuilt}
-use Rattle.inf_script.proofs.NameFacts.{and_left, and_right, if_both, if_read, single_path, single_path-is_word, mode_of-is_mode, number_below-good, number_within-good}
+use Rattle.inf_script.specs.Built.{HasNames, IsBuiltCall, IsBuiltClient, IsBuilt}
+use Rattle.inf_script.proofs.NameFacts.{and_both, and_left, and_right, if_both, if_read, mode_of-is_mode, number_below-good, number_within-good}
+use Rattle.inf_script.proofs.PathFacts.{has_names}
+use Rattle.inf_script.proofs.WordFacts.{is_line, lines_of-lines, words_of-words}
 use Rattle.inf_script.proofs.TableFacts.{none_at, names_of-calling, length-calling, call_count-calling}
 
 pub record IsGoodCall (call : Call) : Type 0 where
@@ -48,6 +52,7 @@ pub record IsGoodCall (call : Call) : Type 0 where
 
 pub record IsGoodDraft (draft : Draft) : Type 0 where
   pub servers : IsWithin 1 MOST_SERVERS (servers_of draft)
+  pub digest_bytes : IsWithin 1 MOST_DIGEST_BYTES (digest_bytes_of draft)
   pub clients : length draft.clients ≤ MOST_CLIENTS
   pub calls : call_count draft.clients ≤ MOST_CALLS
   pub names : IsDistinct bytes_eq (names_of draft.clients)
@@ -77,6 +82,7 @@ version-good draft good early (word ∷ words) =
     if_read IsGoodDraft (bytes_eq word (codes "1")) (no_more (record draft { reached = section.Settings }) words) why.BadWord
     (λ _. no_more-good IsGoodDraft (record draft { reached = section.Settings }) (record {
       servers = good.servers;
+      digest_bytes = good.digest_bytes;
       clients = good.clients;
       calls = good.calls;
       names = good.names;
@@ -94,6 +100,7 @@ servers_end-good : (draft : Draft) → IsGoodDraft draft → draft.moves ≡ [] 
 servers_end-good draft good none (Err reason) within words = tt
 servers_end-good draft good none (Ok number) within words = no_more-good IsGoodDraft (record draft { servers = Some number }) (record {
   servers = within;
+  digest_bytes = good.digest_bytes;
   clients = good.clients;
   calls = good.calls;
   names = good.names;
@@ -110,6 +117,28 @@ servers_number-good draft good none (word ∷ words) = servers_end-good draft go
 servers_line-good : (draft : Draft) → IsGoodDraft draft → (words : List (List ℕ)) → IfOk (servers_line draft words) IsGoodDraft
 servers_line-good draft good words = if_read IsGoodDraft (may_stand section.Settings draft.reached && is_none draft.servers) (servers_number draft words) why.BadWord (λ may.
     let early = stands section.Settings draft.reached (and_left _ _ may) in servers_number-good draft good (good.none_yet (omega arith)) words)
+
+digest_bytes_end-good : (draft : Draft) → IsGoodDraft draft → (r : Result ℕ Why) → IfOk r (λ number. IsWithin 1 MOST_DIGEST_BYTES number) → (words : List (List ℕ)) → IfOk (digest_bytes_end draft r words) IsGoodDraft
+digest_bytes_end-good draft good (Err reason) within words = tt
+digest_bytes_end-good draft good (Ok number) within words = no_more-good IsGoodDraft (record draft { digest_bytes = Some number }) (record {
+  servers = good.servers;
+  digest_bytes = within;
+  clients = good.clients;
+  calls = good.calls;
+  names = good.names;
+  lines = good.lines;
+  built = good.built;
+  moves = good.moves;
+  none_yet = good.none_yet;
+}) words
+
+digest_bytes_number-good : (draft : Draft) → IsGoodDraft draft → (words : List (List ℕ)) → IfOk (digest_bytes_number draft words) IsGoodDraft
+digest_bytes_number-good draft good [] = tt
+digest_bytes_number-good draft good (word ∷ words) = digest_bytes_end-good draft good (number_within 1 MOST_DIGEST_BYTES word) (number_within-good 1 MOST_DIGEST_BYTES word) words
+
+digest_bytes_line-good : (draft : Draft) → IsGoodDraft draft → (words : List (List ℕ)) → IfOk (digest_bytes_line draft words) IsGoodDraft
+digest_bytes_line-good draft good words =
+    if_read IsGoodDraft (may_stand section.Settings draft.reached && is_none draft.digest_bytes) (digest_bytes_number draft words) why.BadWord (λ _. digest_bytes_number-good draft good words)
 
 -- a client line
 
@@ -140,6 +169,7 @@ with_client-good draft good none name named unknown =
     let counts : call_count (draft.clients ++ new_client name ∷ []) ≡ call_count draft.clients = omega arith in
     record {
       servers = good.servers;
+      digest_bytes = good.digest_bytes;
       clients = omega arith;
       calls = rw counts good.calls;
       names = subst (IsDistinct bytes_eq) (sym (map-append (λ (c : ClientLine). c.name) draft.clients (new_client name ∷ []))) (distinct_push name (names_of draft.clients) (none_at (bytes_eq name) (names_of draft.clients) unknown) good.names);
@@ -179,29 +209,61 @@ client_line-good draft good words = if_read IsGoodDraft (may_stand section.Clien
 
 -- a call line
 
-create_end-good : (path : List ℕ) → is_single_path path ≡ true → (mode : Result ℕ Why) → IfOk mode (λ m. is_mode m ≡ true) → (words : List (List ℕ)) → IfOk (create_end path mode words) IsGoodCall
-create_end-good path single (Err reason) fits words = tt
-create_end-good path single (Ok mode) fits words =
-    no_more-good IsGoodCall (call.Create path mode) (record { valid = rw (single_path-is_word path single, fits) refl; built = single_path path single }) words
+-- a word that is a path of 1 to `most` names
+record IsGoodPath (most : ℕ) (path : List ℕ) : Type 0 where
+  word : is_word path ≡ true
+  names : HasNames 1 most path
 
-create_mode-good : (path : List ℕ) → is_single_path path ≡ true → (words : List (List ℕ)) → IfOk (create_mode path words) IsGoodCall
-create_mode-good path single [] = tt
-create_mode-good path single (word ∷ words) = create_end-good path single (mode_of word) (mode_of-is_mode word) words
+record IsGoodPair (most : ℕ) (taken : List ℕ × ℕ) : Type 0 where
+  path : IsGoodPath most taken.0
+  mode : is_mode taken.1 ≡ true
 
-create_path-good : (words : List (List ℕ)) → IfOk (create_path words) IsGoodCall
-create_path-good [] = tt
-create_path-good (path ∷ words) = if_read IsGoodCall (is_single_path path) (create_mode path words) why.BadWord (λ single. create_mode-good path single words)
+-- what follows of a value that was read holds of what is read behind it
+read_next : {A B : Type 0} (P : A → Type 0) (Q : B → Type 0) (r : Result A Why) (next : A → Result B Why) → IfOk r P → ((a : A) → P a → IfOk (next a) Q) → IfOk (r >>= next) Q
+read_next P Q (Ok a) next holds follows = follows a holds
+read_next P Q (Err reason) next holds follows = tt
 
-stat_path-good : (words : List (List ℕ)) → IfOk (stat_path words) IsGoodCall
-stat_path-good [] = tt
-stat_path-good (path ∷ words) = if_read IsGoodCall (is_single_path path) (no_more (call.Stat path) words) why.BadWord (λ single.
-    no_more-good IsGoodCall (call.Stat path) (record { valid = single_path-is_word path single; built = single_path path single }) words)
+path_alone-good : (most : ℕ) (words : List (List ℕ)) → list_all is_word words ≡ true → IfOk (path_alone most words) (IsGoodPath most)
+path_alone-good most [] all = tt
+path_alone-good most (path ∷ words) all = if_read (IsGoodPath most) (names_within 1 most path) (no_more path words) why.BadWord (λ within.
+    no_more-good (IsGoodPath most) path (record { word = and_left _ _ all; names = has_names 1 most path within }) words)
 
-call_kind-good : (words : List (List ℕ)) → IfOk (call_kind words) IsGoodCall
-call_kind-good [] = tt
-call_kind-good (word ∷ words) =
-    if_both (λ r. IfOk r IsGoodCall) (bytes_eq word (codes "create")) (create_path words) (if bytes_eq word (codes "stat") then stat_path words else bad_word) (λ _. create_path-good words) (λ _.
-    if_read IsGoodCall (bytes_eq word (codes "stat")) (stat_path words) why.BadWord (λ _. stat_path-good words))
+mode_behind-good : (most : ℕ) (path : List ℕ) → IsGoodPath most path → (words : List (List ℕ)) → IfOk (mode_behind path words) (IsGoodPair most)
+mode_behind-good most path good [] = tt
+mode_behind-good most path good (word ∷ words) =
+    read_next (λ mode. is_mode mode ≡ true) (IsGoodPair most) (mode_of word) (λ mode. no_more (path, mode) words) (mode_of-is_mode word) (λ mode fits. no_more-good (IsGoodPair most) (path, mode) (record { path = good; mode = fits }) words)
+
+path_and_mode-good : (most : ℕ) (words : List (List ℕ)) → list_all is_word words ≡ true → IfOk (path_and_mode most words) (IsGoodPair most)
+path_and_mode-good most [] all = tt
+path_and_mode-good most (path ∷ words) all = if_read (IsGoodPair most) (names_within 1 most path) (mode_behind path words) why.BadWord (λ within.
+    mode_behind-good most path (record { word = and_left _ _ all; names = has_names 1 most path within }) words)
+
+mkdir_call-good : (words : List (List ℕ)) → list_all is_word words ≡ true → IfOk (mkdir_call words) IsGoodCall
+mkdir_call-good words all = read_next (IsGoodPair 1) IsGoodCall (path_and_mode 1 words) (λ taken. Ok (call.Mkdir taken.0 taken.1)) (path_and_mode-good 1 words all) (λ taken good. record {
+  valid = and_both _ _ good.path.word good.mode;
+  built = good.path.names;
+})
+
+create_call-good : (words : List (List ℕ)) → list_all is_word words ≡ true → IfOk (create_call words) IsGoodCall
+create_call-good words all = read_next (IsGoodPair 2) IsGoodCall (path_and_mode 2 words) (λ taken. Ok (call.Create taken.0 taken.1)) (path_and_mode-good 2 words all) (λ taken good. record {
+  valid = and_both _ _ good.path.word good.mode;
+  built = good.path.names;
+})
+
+rmdir_call-good : (words : List (List ℕ)) → list_all is_word words ≡ true → IfOk (rmdir_call words) IsGoodCall
+rmdir_call-good words all = read_next (IsGoodPath 1) IsGoodCall (path_alone 1 words) (λ path. Ok (call.Rmdir path)) (path_alone-good 1 words all) (λ path good. record { valid = good.word; built = good.names })
+
+stat_call-good : (words : List (List ℕ)) → list_all is_word words ≡ true → IfOk (stat_call words) IsGoodCall
+stat_call-good words all = read_next (IsGoodPath 2) IsGoodCall (path_alone 2 words) (λ path. Ok (call.Stat path)) (path_alone-good 2 words all) (λ path good. record { valid = good.word; built = good.names })
+
+call_kind-good : (words : List (List ℕ)) → list_all is_word words ≡ true → IfOk (call_kind words) IsGoodCall
+call_kind-good [] all = tt
+call_kind-good (word ∷ words) all =
+    let behind = and_right _ _ all in
+    if_both (λ r. IfOk r IsGoodCall) (bytes_eq word (codes "mkdir")) (mkdir_call words) _ (λ _. mkdir_call-good words behind) (λ _.
+    if_both (λ r. IfOk r IsGoodCall) (bytes_eq word (codes "create")) (create_call words) _ (λ _. create_call-good words behind) (λ _.
+    if_both (λ r. IfOk r IsGoodCall) (bytes_eq word (codes "rmdir")) (rmdir_call words) _ (λ _. rmdir_call-good words behind) (λ _.
+    if_read IsGoodCall (bytes_eq word (codes "stat")) (stat_call words) why.BadWord (λ _. stat_call-good words behind))))
 
 calling-valid : (place : ℕ) (call : Call) → is_valid_call call ≡ true → (xs : List ClientLine) → list_all is_valid_client xs ≡ true → list_all is_valid_client (calling place call xs) ≡ true
 calling-valid place call fits [] all = refl
@@ -236,6 +298,7 @@ with_call-good draft good none client known (Ok call) read =
     let counted = call_count-calling client call draft.clients known in
     record {
       servers = good.servers;
+      digest_bytes = good.digest_bytes;
       clients = rw (length-calling client call draft.clients) good.clients;
       calls = omega arith;
       names = subst (IsDistinct bytes_eq) (sym (names_of-calling client call draft.clients)) good.names;
@@ -245,17 +308,17 @@ with_call-good draft good none client known (Ok call) read =
       none_yet = λ _. none;
     })
 
-call_of-good : (draft : Draft) → IsGoodDraft draft → draft.moves ≡ [] → (client : Option ℕ) → IfSome client (λ place. nat_lt place (length draft.clients) ≡ true) → (words : List (List ℕ)) → IfOk (call_of draft client words) IsGoodDraft
-call_of-good draft good none None within words = tt
-call_of-good draft good none (Some client) within words = with_call-good draft good none client (ltb-true _ _ within) (call_kind words) (call_kind-good words)
+call_of-good : (draft : Draft) → IsGoodDraft draft → draft.moves ≡ [] → (client : Option ℕ) → IfSome client (λ place. nat_lt place (length draft.clients) ≡ true) → (words : List (List ℕ)) → list_all is_word words ≡ true → IfOk (call_of draft client words) IsGoodDraft
+call_of-good draft good none None within words all = tt
+call_of-good draft good none (Some client) within words all = with_call-good draft good none client (ltb-true _ _ within) (call_kind words) (call_kind-good words all)
 
-call_client-good : (draft : Draft) → IsGoodDraft draft → draft.moves ≡ [] → (words : List (List ℕ)) → IfOk (call_client draft words) IsGoodDraft
-call_client-good draft good none [] = tt
-call_client-good draft good none (name ∷ words) = call_of-good draft good none (place_of name draft.clients) (place-within name draft.clients) words
+call_client-good : (draft : Draft) → IsGoodDraft draft → draft.moves ≡ [] → (words : List (List ℕ)) → list_all is_word words ≡ true → IfOk (call_client draft words) IsGoodDraft
+call_client-good draft good none [] all = tt
+call_client-good draft good none (name ∷ words) all = call_of-good draft good none (place_of name draft.clients) (place-within name draft.clients) words (and_right _ _ all)
 
-call_line-good : (draft : Draft) → IsGoodDraft draft → (words : List (List ℕ)) → IfOk (call_line draft words) IsGoodDraft
-call_line-good draft good words = if_read IsGoodDraft (may_stand section.Calls draft.reached) (call_client draft words) why.BadWord (λ may.
-    let early = stands section.Calls draft.reached may in call_client-good draft good (good.none_yet (omega arith)) words)
+call_line-good : (draft : Draft) → IsGoodDraft draft → (words : List (List ℕ)) → list_all is_word words ≡ true → IfOk (call_line draft words) IsGoodDraft
+call_line-good draft good words all = if_read IsGoodDraft (may_stand section.Calls draft.reached) (call_client draft words) why.BadWord (λ may.
+    let early = stands section.Calls draft.reached may in call_client-good draft good (good.none_yet (omega arith)) words all)
 
 -- an order line
 
@@ -317,6 +380,7 @@ with_moves-good draft good (Err reason) all = tt
 with_moves-good draft good (Ok moves) all = if_read IsGoodDraft (nat_le (length moves) MOST_MOVES) (Ok (record draft { reached = section.Order; moves = moves })) why.TooMany (λ _.
     record {
       servers = good.servers;
+      digest_bytes = good.digest_bytes;
       clients = good.clients;
       calls = good.calls;
       names = good.names;
@@ -340,6 +404,7 @@ end_line-good : (draft : Draft) → IsGoodDraft draft → (words : List (List �
 end_line-good draft good words = if_read IsGoodDraft (may_stand section.Order draft.reached) (no_more (record draft { reached = section.Ended }) words) why.BadWord (λ _.
     no_more-good IsGoodDraft (record draft { reached = section.Ended }) (record {
       servers = good.servers;
+      digest_bytes = good.digest_bytes;
       clients = good.clients;
       calls = good.calls;
       names = good.names;
@@ -349,24 +414,25 @@ end_line-good draft good words = if_read IsGoodDraft (may_stand section.Order dr
       none_yet = λ early. absurd (omega arith);
     }) words)
 
-word_line-good : (draft : Draft) → IsGoodDraft draft → (word : List ℕ) (words : List (List ℕ)) → IfOk (word_line draft word words) IsGoodDraft
-word_line-good draft good word words =
+word_line-good : (draft : Draft) → IsGoodDraft draft → (word : List ℕ) (words : List (List ℕ)) → list_all is_word words ≡ true → IfOk (word_line draft word words) IsGoodDraft
+word_line-good draft good word words all =
     if_both (λ r. IfOk r IsGoodDraft) (bytes_eq word (codes "infinifs")) (first_line draft words) _ (λ _. first_line-good draft good words) (λ _.
     if_both (λ r. IfOk r IsGoodDraft) (bytes_eq word (codes "servers")) (servers_line draft words) _ (λ _. servers_line-good draft good words) (λ _.
+    if_both (λ r. IfOk r IsGoodDraft) (bytes_eq word (codes "digest-bytes")) (digest_bytes_line draft words) _ (λ _. digest_bytes_line-good draft good words) (λ _.
     if_both (λ r. IfOk r IsGoodDraft) (bytes_eq word (codes "client")) (client_line draft words) _ (λ _. client_line-good draft good words) (λ _.
-    if_both (λ r. IfOk r IsGoodDraft) (bytes_eq word (codes "call")) (call_line draft words) _ (λ _. call_line-good draft good words) (λ _.
+    if_both (λ r. IfOk r IsGoodDraft) (bytes_eq word (codes "call")) (call_line draft words) _ (λ _. call_line-good draft good words all) (λ _.
     if_both (λ r. IfOk r IsGoodDraft) (bytes_eq word (codes "order")) (order_line draft words) _ (λ _. order_line-good draft good words) (λ _.
-    if_read IsGoodDraft (bytes_eq word (codes "end")) (end_line draft words) why.BadWord (λ _. end_line-good draft good words))))))
+    if_read IsGoodDraft (bytes_eq word (codes "end")) (end_line draft words) why.BadWord (λ _. end_line-good draft good words)))))))
 
-after_words-good : (draft : Draft) → IsGoodDraft draft → (words : List (List ℕ)) → IfOk (after_words draft words) IsGoodDraft
-after_words-good draft good [] = good
-after_words-good draft good (word ∷ words) =
-    if_both (λ r. IfOk r IsGoodDraft) (is_comment word) (Ok draft) (word_line draft word words) (λ _. good) (λ _. word_line-good draft good word words)
+after_words-good : (draft : Draft) → IsGoodDraft draft → (words : List (List ℕ)) → list_all is_word words ≡ true → IfOk (after_words draft words) IsGoodDraft
+after_words-good draft good [] all = good
+after_words-good draft good (word ∷ words) all =
+    if_both (λ r. IfOk r IsGoodDraft) (is_comment word) (Ok draft) (word_line draft word words) (λ _. good) (λ _. word_line-good draft good word words (and_right _ _ all))
 
-after_line-good : (draft : Draft) → IsGoodDraft draft → (line : List ℕ) → IfOk (after_line draft line) IsGoodDraft
-after_line-good draft good line =
+after_line-good : (draft : Draft) → IsGoodDraft draft → (line : List ℕ) → is_line line ≡ true → IfOk (after_line draft line) IsGoodDraft
+after_line-good draft good line whole =
     if_both (λ r. IfOk r IsGoodDraft) (nat_lt MOST_LINE_BYTES (length line)) (Err why.TooLong) (if is_utf8 line then after_words draft (words_of (without_return line)) else Err why.NotUtf8) (λ _. tt) (λ _.
-    if_read IsGoodDraft (is_utf8 line) (after_words draft (words_of (without_return line))) why.NotUtf8 (λ _. after_words-good draft good (words_of (without_return line))))
+    if_read IsGoodDraft (is_utf8 line) (after_words draft (words_of (without_return line))) why.NotUtf8 (λ _. after_words-good draft good (words_of (without_return line)) (words_of-words line whole)))
 
 -- the whole text
 
@@ -374,9 +440,9 @@ at_line-good : {X : Type 0} (P : X → Type 0) (number : ℕ) (r : Result X Why)
 at_line-good P number (Ok value) good = good
 at_line-good P number (Err reason) good = tt
 
-read_line-good : (number : ℕ) (so_far : Result Draft ScriptRefusal) → IfOk so_far IsGoodDraft → (line : List ℕ) → IfOk (read_line number so_far line) IsGoodDraft
-read_line-good number (Err refusal) good line = tt
-read_line-good number (Ok draft) good line = at_line-good IsGoodDraft number (after_line draft line) (after_line-good draft good line)
+read_line-good : (number : ℕ) (so_far : Result Draft ScriptRefusal) → IfOk so_far IsGoodDraft → (line : List ℕ) → is_line line ≡ true → IfOk (read_line number so_far line) IsGoodDraft
+read_line-good number (Err refusal) good line whole = tt
+read_line-good number (Ok draft) good line whole = at_line-good IsGoodDraft number (after_line draft line) (after_line-good draft good line whole)
 
 order_of-good : (servers clients : ℕ) (moves : List Move) → list_all (is_move_of servers clients) moves ≡ true → list_all (is_move_of servers clients) (order_of moves) ≡ true
 order_of-good servers clients [] all = refl
@@ -386,7 +452,7 @@ script_of-good : (draft : Draft) → IsGoodDraft draft → IsGoodScript (script_
 script_of-good draft good = record {
   valid = record {
     servers = good.servers;
-    digest_bytes = record { at_least = omega arith; at_most = omega arith };
+    digest_bytes = good.digest_bytes;
     cache = record { at_least = omega arith; at_most = omega arith };
     clients = good.clients;
     calls = good.calls;
@@ -402,14 +468,15 @@ at_end-good more number (Err refusal) good = tt
 at_end-good true number (Ok draft) good = tt
 at_end-good false number (Ok draft) good = at_line-good IsGoodScript number (ended draft) (if_read IsGoodScript (nat_eq (rank draft.reached) 5) (Ok (script_of draft)) why.BadWord (λ _. script_of-good draft good))
 
-read_from-good : (more : Bool) (number : ℕ) (so_far : Result Draft ScriptRefusal) → IfOk so_far IsGoodDraft → (lines : List (List ℕ)) → IfOk (read_from more number so_far lines) IsGoodScript
-read_from-good more number so_far good [] = at_end-good more number so_far good
-read_from-good more number so_far good (line ∷ lines) = read_from-good more (number + 1) (read_line number so_far line) (read_line-good number so_far good line) lines
+read_from-good : (more : Bool) (number : ℕ) (so_far : Result Draft ScriptRefusal) → IfOk so_far IsGoodDraft → (lines : List (List ℕ)) → list_all is_line lines ≡ true → IfOk (read_from more number so_far lines) IsGoodScript
+read_from-good more number so_far good [] all = at_end-good more number so_far good
+read_from-good more number so_far good (line ∷ lines) all = read_from-good more (number + 1) (read_line number so_far line) (read_line-good number so_far good line (and_left _ _ all)) lines (and_right _ _ all)
 
 start-good : IsGoodDraft start
 unfolding IsDistinct
 start-good = record {
   servers = record { at_least = omega arith; at_most = omega arith };
+  digest_bytes = record { at_least = omega arith; at_most = omega arith };
   clients = omega arith;
   calls = omega arith;
   names = tt;
@@ -420,7 +487,7 @@ start-good = record {
 }
 
 reading-good : (bytes : List ℕ) (more : Bool) → IfOk (reading bytes more) IsGoodScript
-reading-good bytes more = read_from-good more 1 (Ok start) start-good (lines_of more bytes)
+reading-good bytes more = read_from-good more 1 (Ok start) start-good (lines_of more bytes) (lines_of-lines more bytes)
 
 -- what follows of a good script holds of each that is read
 pub read-good : (P : Script → Type 0) → ((script : Script) → IsGoodScript script → P script) → (bytes : List ℕ) (more : Bool) (r : Result Script ScriptFault) → Gives cause r (reading bytes more) → IfOk r P

@@ -1,24 +1,25 @@
 -- What a script may ask for today.
-use Rattle.std.specs.Prelude.{◌≡◌, ℕ, List, [], ◌∷◌, Ok, All}
+use Rattle.std.specs.Prelude.{◌≡◌, ℕ, List, length, Ok, All}
 use Rattle.inf_base.specs.declared.call.Call.{Call}
 use Rattle.inf_base.specs.declared.call.Call.TheVariants as call
 use Rattle.inf_base.specs.declared.setup.ClientLine.{ClientLine}
 use Rattle.inf_base.specs.declared.setup.Setup.{Setup}
 use Rattle.inf_base.specs.Path.{path_of}
+use Rattle.inf_base.specs.Setup.{IsWithin}
 
--- a path of one name in the root, spelt as a slash and that name
-pub record IsSinglePath (path : List ℕ) : Type 0 where
-  pub name : List ℕ
-  pub spelt : path ≡ 47 ∷ name
-  pub names : path_of path ≡ Ok (name ∷ [])
+-- a path of `least` to `most` names, none of which is at fault
+pub record HasNames (least most : ℕ) (path : List ℕ) : Type 0 where
+  pub names : List (List ℕ)
+  pub spelt : path_of path ≡ Ok names
+  pub number : IsWithin least most (length names)
 
--- a create or a stat of one name in the root
+-- mkdir and rmdir of a path of one name, create and stat of a path of one name or two
 abbrev pub IsBuiltCall : Call → Type 0
-IsBuiltCall (call.Mkdir path mode) = ⊥
-IsBuiltCall (call.Create path mode) = IsSinglePath path
-IsBuiltCall (call.Rmdir path) = ⊥
+IsBuiltCall (call.Mkdir path mode) = HasNames 1 1 path
+IsBuiltCall (call.Create path mode) = HasNames 1 2 path
+IsBuiltCall (call.Rmdir path) = HasNames 1 1 path
 IsBuiltCall (call.Unlink path) = ⊥
-IsBuiltCall (call.Stat path) = IsSinglePath path
+IsBuiltCall (call.Stat path) = HasNames 1 2 path
 IsBuiltCall (call.List path) = ⊥
 IsBuiltCall (call.Truncate path length) = ⊥
 IsBuiltCall (call.Chmod path mode) = ⊥

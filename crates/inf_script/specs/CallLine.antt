@@ -1,6 +1,7 @@
 -- The words of a call line, from left to right.
 use Rattle.std.specs.Prelude.{ℕ, nat_lt, zero, suc, if◌then◌else◌, codes, List, [], ◌∷◌, ◌++◌, Option, Some, None, Result, Ok, Err}
 use Rattle.std.specs.Str.{bytes_eq}
+use Rattle.inf_base.specs.Checks.{◌>>=◌}
 use Rattle.inf_base.specs.declared.call.Call.{Call}
 use Rattle.inf_base.specs.declared.call.Call.TheVariants as call
 use Rattle.inf_base.specs.declared.setup.ClientLine.{ClientLine}
@@ -12,30 +13,57 @@ use Rattle.inf_script.specs.declared.section.Section.TheVariants as section
 use Rattle.inf_script.specs.declared.draft.Draft.{Draft}
 use Rattle.inf_script.specs.Draft.{may_stand, place_of}
 use Rattle.inf_script.specs.Faults.{bad_word}
-use Rattle.inf_script.specs.Names.{is_single_path, mode_of}
+use Rattle.inf_script.specs.Names.{mode_of}
+use Rattle.inf_script.specs.Paths.{names_within}
 use Rattle.inf_script.specs.Settings.{no_more}
 
-abbrev pub create_end : List ℕ → Result ℕ Why → List (List ℕ) → Result Call Why
-create_end path (Err reason) words = Err reason
-create_end path (Ok mode) words = no_more (call.Create path mode) words
+-- a path of 1 to `most` names, and no word behind it
+abbrev pub path_alone : ℕ → List (List ℕ) → Result (List ℕ) Why
+path_alone most [] = bad_word
+path_alone most (path ∷ words) = if names_within 1 most path then no_more path words else bad_word
 
-abbrev pub create_mode : List ℕ → List (List ℕ) → Result Call Why
-create_mode path [] = bad_word
-create_mode path (word ∷ words) = create_end path (mode_of word) words
+abbrev pub mode_behind : List ℕ → List (List ℕ) → Result (List ℕ × ℕ) Why
+mode_behind path [] = bad_word
+mode_behind path (word ∷ words) = do
+  mode ← mode_of word
+  no_more (path, mode) words
 
-abbrev pub create_path : List (List ℕ) → Result Call Why
-create_path [] = bad_word
-create_path (path ∷ words) = if is_single_path path then create_mode path words else bad_word
+-- a path of 1 to `most` names, a mode, and no word behind it
+abbrev pub path_and_mode : ℕ → List (List ℕ) → Result (List ℕ × ℕ) Why
+path_and_mode most [] = bad_word
+path_and_mode most (path ∷ words) = if names_within 1 most path then mode_behind path words else bad_word
 
-abbrev pub stat_path : List (List ℕ) → Result Call Why
-stat_path [] = bad_word
-stat_path (path ∷ words) = if is_single_path path then no_more (call.Stat path) words else bad_word
+-- `PATH MODE` behind `mkdir`: a directory in the root
+abbrev pub mkdir_call : List (List ℕ) → Result Call Why
+mkdir_call words = do
+  taken ← path_and_mode 1 words
+  Ok (call.Mkdir taken.0 taken.1)
+
+-- `PATH MODE` behind `create`: a file in the root or one directory below
+abbrev pub create_call : List (List ℕ) → Result Call Why
+create_call words = do
+  taken ← path_and_mode 2 words
+  Ok (call.Create taken.0 taken.1)
+
+-- `PATH` behind `rmdir`
+abbrev pub rmdir_call : List (List ℕ) → Result Call Why
+rmdir_call words = do
+  path ← path_alone 1 words
+  Ok (call.Rmdir path)
+
+-- `PATH` behind `stat`
+abbrev pub stat_call : List (List ℕ) → Result Call Why
+stat_call words = do
+  path ← path_alone 2 words
+  Ok (call.Stat path)
 
 abbrev pub call_kind : List (List ℕ) → Result Call Why
 call_kind [] = bad_word
 call_kind (word ∷ words) =
-    if bytes_eq word (codes "create") then create_path words
-    else (if bytes_eq word (codes "stat") then stat_path words else bad_word)
+    if bytes_eq word (codes "mkdir") then mkdir_call words
+    else (if bytes_eq word (codes "create") then create_call words
+    else (if bytes_eq word (codes "rmdir") then rmdir_call words
+    else (if bytes_eq word (codes "stat") then stat_call words else bad_word)))
 
 -- the client of this number calls this behind its other calls
 abbrev pub calling : ℕ → Call → List ClientLine → List ClientLine
@@ -57,6 +85,6 @@ abbrev pub call_client : Draft → List (List ℕ) → Result Draft Why
 call_client draft [] = bad_word
 call_client draft (name ∷ words) = call_of draft (place_of name draft.clients) words
 
--- `call NAME create PATH MODE` or `call NAME stat PATH`
+-- `call NAME mkdir PATH MODE`, `call NAME create PATH MODE`, `call NAME rmdir PATH` or `call NAME stat PATH`
 abbrev pub call_line : Draft → List (List ℕ) → Result Draft Why
 call_line draft words = if may_stand section.Calls draft.reached then call_client draft words else bad_word

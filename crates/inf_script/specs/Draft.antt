@@ -1,6 +1,7 @@
 -- What was read of a script so far.
 use Rattle.std.specs.Prelude.{ℕ, Bool, ◌&&◌, nat_le, List, [], ◌∷◌, Option, None, position, unwrap_or}
 use Rattle.std.specs.Str.{bytes_eq}
+use Rattle.inf_base.specs.declared.limits.TheConstants.{MOST_DIGEST_BYTES}
 use Rattle.inf_base.specs.declared.setup.ClientLine.{ClientLine}
 use Rattle.inf_base.specs.Setup.{names_of}
 use Rattle.inf_order.specs.declared.moves.Move.{Move}
@@ -24,11 +25,15 @@ may_stand line reached = nat_le 1 (rank reached) && nat_le (rank reached) (rank 
 
 -- nothing was read yet
 abbrev pub start : Draft
-start = record { reached = section.Start; servers = None; clients = []; moves = [] }
+start = record { reached = section.Start; servers = None; digest_bytes = None; clients = []; moves = [] }
 
 -- the number of servers: one unless a line tells it
 abbrev pub servers_of : Draft → ℕ
 servers_of draft = unwrap_or draft.servers 1
+
+-- how many bytes of a digest an identifier keeps: all of them unless a line tells it
+abbrev pub digest_bytes_of : Draft → ℕ
+digest_bytes_of draft = unwrap_or draft.digest_bytes MOST_DIGEST_BYTES
 
 -- the number of the client that has this name
 abbrev pub place_of : List ℕ → List ClientLine → Option ℕ

@@ -14,6 +14,7 @@ use Rattle.inf_script.specs.declared.draft.Draft.{Draft}
 use Rattle.inf_script.specs.declared.refusal.Why.{Why}
 use Rattle.inf_script.specs.declared.refusal.Why.TheVariants as why
 use Rattle.inf_script.specs.declared.refusal.ScriptRefusal.{ScriptRefusal}
+use Rattle.inf_script.specs.declared.script.Script.{Script}
 use Rattle.inf_script.specs.declared.script.TheConstants.{MOST_LINE_BYTES, MOST_SCRIPT_BYTES}
 use Rattle.inf_script.specs.CallLine.{with_call}
 use Rattle.inf_script.specs.ClientLine.{with_client}
@@ -35,8 +36,15 @@ returns_of lines = flat_map (λ line. line ++ 13 ∷ 10 ∷ []) lines
 abbrev pub client_with : List ℕ → List Call → ClientLine
 client_with name calls = record { name = name; caller = record { uid = 0; gid = 0 }; calls = calls }
 
+abbrev pub script_with : ℕ → ℕ → List ClientLine → List Move → Script
+script_with servers digest_bytes clients moves = record { setup = record { servers = servers; digest_bytes = digest_bytes; cache = 256; clients = clients }; order = moves }
+
 abbrev pub Says : List ℕ → ℕ → List ClientLine → List Move → Type 0
-Says text servers clients moves = reading text false ≡ Ok (record { setup = record { servers = servers; digest_bytes = 32; cache = 256; clients = clients }; order = moves })
+Says text servers clients moves = reading text false ≡ Ok (script_with servers 32 clients moves)
+
+-- a script without clients, of so many servers, whose identifiers keep so many bytes
+abbrev pub Sets : List ℕ → ℕ → ℕ → Type 0
+Sets text servers digest_bytes = reading text false ≡ Ok (script_with servers digest_bytes [] (move.Rest ∷ []))
 
 abbrev pub IsRefused : ℕ → Why → List ℕ → Type 0
 IsRefused number reason text = reading text false ≡ Err (record { line = number; why = reason })
@@ -56,13 +64,34 @@ pub record ScriptsAreRead : Type 0 where
       ∷ codes "  # another" ∷ codes "call a1 stat /f" ∷ codes "order +a1 =b s2 s0:a1" ∷ codes "order c c:b *" ∷ codes "end" ∷ codes "#" ∷ []))
       3 (client_with (codes "b") (call.Stat (codes "/..f") ∷ []) ∷ client_with (codes "a1") (call.Create (codes "/f") 420 ∷ call.Stat (codes "/f") ∷ []) ∷ [])
       (move.Step 1 ∷ move.Alone 0 ∷ move.Serve 2 None ∷ move.Serve 0 (Some 1) ∷ move.Serve 3 None ∷ move.Serve 3 (Some 0) ∷ move.Rest ∷ [])
+  pub one_byte : Sets (with_lines (codes "digest-bytes 1" ∷ codes "end" ∷ [])) 1 1
+  pub all_bytes : Sets (with_lines (codes "digest-bytes 32" ∷ codes "servers 64" ∷ codes "end" ∷ [])) 64 32
+  pub bytes_behind_servers : Sets (with_lines (codes "servers 2" ∷ [] ∷ codes "digest-bytes 8" ∷ codes "end" ∷ [])) 2 8
   pub blanks : Says (text_of ((9 ∷ codes " infinifs" ++ 32 ∷ 9 ∷ codes "1 " ++ 13 ∷ []) ∷ (13 ∷ []) ∷ codes "end  " ∷ [])) 1 [] (move.Rest ∷ [])
   pub returns : Says (returns_of (codes "infinifs 1" ∷ codes "client a 0 0" ∷ [] ∷ codes "call a stat /f" ∷ codes "order +a" ∷ codes "end" ∷ [])) 1 (client_with (codes "a") (call.Stat (codes "/f") ∷ []) ∷ []) (move.Step 0 ∷ [])
-  pub any_bytes : Says (with_line (codes "call a stat /" ++ 195 ∷ 164 ∷ 13 ∷ 1 ∷ [])) 1 (client_with (codes "a") (call.Stat (47 ∷ 195 ∷ 164 ∷ 13 ∷ 1 ∷ []) ∷ []) ∷ []) (move.Rest ∷ [])
-  pub least_mode : Says (with_line (codes "call a create /f 000")) 1 (client_with (codes "a") (call.Create (codes "/f") 0 ∷ []) ∷ []) (move.Rest ∷ [])
-  pub greatest_mode : Says (with_line (codes "call a create /f 777")) 1 (client_with (codes "a") (call.Create (codes "/f") 511 ∷ []) ∷ []) (move.Rest ∷ [])
-  pub longest_name : Says (with_line (codes "call a stat /" ++ replicate 255 120)) 1 (client_with (codes "a") (call.Stat (47 ∷ replicate 255 120) ∷ []) ∷ []) (move.Rest ∷ [])
   pub most_servers : Says (with_lines (codes "servers 64" ∷ codes "client abcdefghijklmn09 0 0" ∷ codes "order s63:abcdefghijklmn09" ∷ codes "end" ∷ [])) 64 (client_with (codes "abcdefghijklmn09") [] ∷ []) (move.Serve 63 (Some 0) ∷ [])
+
+-- a script with one call, of the client `a`
+abbrev pub Calls : List ℕ → Call → Type 0
+Calls line called = Says (with_line line) 1 (client_with (codes "a") (called ∷ []) ∷ []) (move.Rest ∷ [])
+
+pub record CallsAreRead : Type 0 where
+  pub mkdir : Calls (codes "call a mkdir /d 755") (call.Mkdir (codes "/d") 493)
+  pub create : Calls (codes "call a create /f 644") (call.Create (codes "/f") 420)
+  pub rmdir : Calls (codes "call a rmdir /d") (call.Rmdir (codes "/d"))
+  pub stat : Calls (codes "call a stat /f") (call.Stat (codes "/f"))
+  pub create_below : Calls (codes "call a create /d/f 644") (call.Create (codes "/d/f") 420)
+  pub stat_below : Calls (codes "call a stat /d/f") (call.Stat (codes "/d/f"))
+  pub slashes : Calls (codes "call a stat //a//b/") (call.Stat (codes "//a//b/"))
+  pub slashes_of_a_file : Calls (codes "call a create //a//b/ 600") (call.Create (codes "//a//b/") 384)
+  pub slash_behind_a_directory : Calls (codes "call a mkdir /d/ 700") (call.Mkdir (codes "/d/") 448)
+  pub slashes_of_a_directory : Calls (codes "call a rmdir //d//") (call.Rmdir (codes "//d//"))
+  pub dots_in_a_name : Calls (codes "call a stat /...") (call.Stat (codes "/..."))
+  pub any_bytes : Calls (codes "call a stat /" ++ 195 ∷ 164 ∷ 13 ∷ 1 ∷ []) (call.Stat (47 ∷ 195 ∷ 164 ∷ 13 ∷ 1 ∷ []))
+  pub least_mode : Calls (codes "call a create /f 000") (call.Create (codes "/f") 0)
+  pub greatest_mode : Calls (codes "call a mkdir /d 777") (call.Mkdir (codes "/d") 511)
+  pub longest_name : Calls (codes "call a stat /" ++ replicate 255 120) (call.Stat (47 ∷ replicate 255 120))
+  pub longest_name_below : Calls (codes "call a stat /d/" ++ replicate 255 120) (call.Stat (codes "/d/" ++ replicate 255 120))
 
 pub record LinesAreRefused : Type 0 where
   pub empty : IsRefused 1 why.BadWord []
@@ -79,7 +108,10 @@ pub record LinesAreRefused : Type 0 where
   pub servers_late : IsRefused 3 why.BadWord (with_line (codes "servers 2"))
   pub client_late : IsRefused 4 why.BadWord (with_lines (codes "client a 0 0" ∷ codes "call a stat /f" ∷ codes "client b 0 0" ∷ codes "end" ∷ []))
   pub call_late : IsRefused 4 why.BadWord (with_lines (codes "client a 0 0" ∷ codes "order *" ∷ codes "call a stat /f" ∷ codes "end" ∷ []))
-  pub digest_bytes : IsRefused 2 why.BadWord (with_lines (codes "digest-bytes 8" ∷ codes "end" ∷ []))
+  pub digest_bytes_again : IsRefused 3 why.BadWord (with_lines (codes "digest-bytes 8" ∷ codes "digest-bytes 0" ∷ codes "end" ∷ []))
+  pub digest_bytes_late : IsRefused 3 why.BadWord (with_line (codes "digest-bytes 8"))
+  pub digest_bytes_first : IsRefused 1 why.BadWord (text_of (codes "digest-bytes 8" ∷ codes "infinifs 1" ∷ codes "end" ∷ []))
+  pub digest_bytes_misspelt : IsRefused 2 why.BadWord (with_lines (codes "digest_bytes 8" ∷ codes "end" ∷ []))
   pub cache : IsRefused 2 why.BadWord (with_lines (codes "cache 8" ∷ codes "end" ∷ []))
   pub return_before_blank : IsRefused 1 why.BadWord (text_of ((codes "infinifs 1" ++ 13 ∷ 32 ∷ []) ∷ codes "end" ∷ []))
   pub two_returns : IsRefused 1 why.BadWord (text_of ((codes "infinifs 1" ++ 13 ∷ 13 ∷ []) ∷ codes "end" ∷ []))
@@ -98,6 +130,13 @@ pub record WordsAreRefused : Type 0 where
   pub sign_in_front : IsRefused 2 why.BadNumber (with_lines (codes "servers +2" ∷ []))
   pub no_number : IsRefused 2 why.BadWord (with_lines (codes "servers" ∷ []))
   pub two_numbers : IsRefused 2 why.BadWord (with_lines (codes "servers 2 2" ∷ []))
+  pub no_bytes : IsRefused 2 why.BadNumber (with_lines (codes "digest-bytes 0" ∷ []))
+  pub bytes_33 : IsRefused 2 why.BadNumber (with_lines (codes "digest-bytes 33" ∷ []))
+  pub bytes_past_8_bits : IsRefused 2 why.BadNumber (with_lines (codes "digest-bytes 264" ∷ []))
+  pub zero_before_bytes : IsRefused 2 why.BadNumber (with_lines (codes "digest-bytes 01" ∷ []))
+  pub word_for_bytes : IsRefused 2 why.BadNumber (with_lines (codes "digest-bytes all 8" ∷ []))
+  pub no_number_of_bytes : IsRefused 2 why.BadWord (with_lines (codes "digest-bytes" ∷ []))
+  pub two_numbers_of_bytes : IsRefused 2 why.BadWord (with_lines (codes "digest-bytes 8 8" ∷ []))
   pub no_name : IsRefused 3 why.BadWord (with_line (codes "client"))
   pub capital : IsRefused 3 why.BadWord (with_line (codes "client B x"))
   pub digit_first : IsRefused 3 why.BadWord (with_line (codes "client 1b 0 0"))
@@ -112,23 +151,50 @@ pub record WordsAreRefused : Type 0 where
   pub unknown_caller : IsRefused 3 why.UnknownClient (with_line (codes "call b fly"))
   pub misspelt_caller : IsRefused 3 why.UnknownClient (with_line (codes "call A stat /f"))
   pub no_call : IsRefused 3 why.BadWord (with_line (codes "call a"))
-  pub other_call : IsRefused 3 why.BadWord (with_line (codes "call a unlink /f"))
+  pub capital_call : IsRefused 3 why.BadWord (with_line (codes "call a MKDIR /d 755"))
+  pub unlink : IsRefused 3 why.BadWord (with_line (codes "call a unlink /f"))
+  pub list : IsRefused 3 why.BadWord (with_line (codes "call a list /d"))
+  pub truncate : IsRefused 3 why.BadWord (with_line (codes "call a truncate /f 0"))
+  pub chmod : IsRefused 3 why.BadWord (with_line (codes "call a chmod /f 644"))
+  pub rename : IsRefused 3 why.BadWord (with_line (codes "call a rename /f /g"))
   pub no_mode : IsRefused 3 why.BadWord (with_line (codes "call a create /f"))
   pub mode_of_two_digits : IsRefused 3 why.BadNumber (with_line (codes "call a create /f 77"))
   pub mode_of_four_digits : IsRefused 3 why.BadNumber (with_line (codes "call a create /f 0644"))
   pub mode_with_an_eight : IsRefused 3 why.BadNumber (with_line (codes "call a create /f 648 x"))
   pub mode_of_a_stat : IsRefused 3 why.BadWord (with_line (codes "call a stat /f 644"))
+  pub word_behind_a_file : IsRefused 3 why.BadWord (with_line (codes "call a create /f 644 644"))
+  pub no_directory : IsRefused 3 why.BadWord (with_line (codes "call a mkdir"))
+  pub no_mode_of_a_directory : IsRefused 3 why.BadWord (with_line (codes "call a mkdir /d"))
+  pub mode_800 : IsRefused 3 why.BadNumber (with_line (codes "call a mkdir /d 800"))
+  pub mode_with_letters : IsRefused 3 why.BadNumber (with_line (codes "call a mkdir /d rwx"))
+  pub short_mode_of_a_directory : IsRefused 3 why.BadNumber (with_line (codes "call a mkdir /d 75"))
+  pub long_mode_of_a_directory : IsRefused 3 why.BadNumber (with_line (codes "call a mkdir /d 0755"))
+  pub word_behind_a_directory : IsRefused 3 why.BadWord (with_line (codes "call a mkdir /d 755 x"))
+  pub nothing_to_remove : IsRefused 3 why.BadWord (with_line (codes "call a rmdir"))
+  pub mode_of_a_removal : IsRefused 3 why.BadWord (with_line (codes "call a rmdir /d 755"))
 
 pub record PathsAreRefused : Type 0 where
   pub root : IsRefused 3 why.BadWord (with_line (codes "call a stat /"))
+  pub root_as_a_file : IsRefused 3 why.BadWord (with_line (codes "call a create // 644"))
+  pub root_made : IsRefused 3 why.BadWord (with_line (codes "call a mkdir / 755"))
+  pub root_removed : IsRefused 3 why.BadWord (with_line (codes "call a rmdir /"))
   pub no_slash : IsRefused 3 why.BadWord (with_line (codes "call a stat f"))
-  pub two_names : IsRefused 3 why.BadWord (with_line (codes "call a stat /f/g"))
-  pub slash_behind : IsRefused 3 why.BadWord (with_line (codes "call a stat /f/"))
-  pub two_slashes : IsRefused 3 why.BadWord (with_line (codes "call a stat //f"))
+  pub no_slash_in_front : IsRefused 3 why.BadWord (with_line (codes "call a stat d/f"))
+  pub three_names : IsRefused 3 why.BadWord (with_line (codes "call a stat /d/e/f"))
+  pub three_names_of_a_file : IsRefused 3 why.BadWord (with_line (codes "call a create /d/e/f 644"))
+  pub two_names_made : IsRefused 3 why.BadWord (with_line (codes "call a mkdir /d/e 755"))
+  pub two_names_removed : IsRefused 3 why.BadWord (with_line (codes "call a rmdir //a//b/"))
+  pub path_before_mode : IsRefused 3 why.BadWord (with_line (codes "call a mkdir /d/e 800"))
   pub dot : IsRefused 3 why.BadWord (with_line (codes "call a stat /."))
   pub dot_dot : IsRefused 3 why.BadWord (with_line (codes "call a stat /.."))
+  pub dot_below : IsRefused 3 why.BadWord (with_line (codes "call a create /d/. 644"))
+  pub below_dot_dot : IsRefused 3 why.BadWord (with_line (codes "call a stat /../f"))
+  pub dot_made : IsRefused 3 why.BadWord (with_line (codes "call a mkdir /. 755"))
   pub nul : IsRefused 3 why.BadWord (with_line (codes "call a stat /f" ++ 0 ∷ []))
+  pub nul_below : IsRefused 3 why.BadWord (with_line (codes "call a stat /d/f" ++ 0 ∷ []))
   pub long_name : IsRefused 3 why.BadWord (with_line (codes "call a stat /" ++ replicate 256 120))
+  pub long_name_below : IsRefused 3 why.BadWord (with_line (codes "call a stat /d/" ++ replicate 256 120))
+  pub long_directory : IsRefused 3 why.BadWord (with_line (codes "call a rmdir /" ++ replicate 256 120))
 
 pub record MovesAreRefused : Type 0 where
   pub none : IsRefused 3 why.BadWord (with_line (codes "order"))

@@ -1,24 +1,9 @@
--- The words that are names, paths, modes and numbers.
-use Rattle.std.specs.Prelude.{ℕ, ◌+◌, ◌-◌, ◌*◌, ◌==◌, Bool, false, ◌&&◌, ◌||◌, not, nat_le, nat_lt, if◌then◌else◌, List, [], ◌∷◌, length, Result, Ok, Err}
+-- The words that are modes and numbers.
+use Rattle.std.specs.Prelude.{ℕ, ◌+◌, ◌-◌, ◌*◌, ◌==◌, Bool, false, ◌&&◌, not, nat_le, nat_lt, if◌then◌else◌, List, [], ◌∷◌, Result, Ok, Err}
 use Rattle.std.specs.List.{list_all}
-use Rattle.inf_base.specs.Path.{is_slash, is_piece, is_reserved}
-use Rattle.inf_base.specs.Setup.{is_digit, ends_word}
-use Rattle.inf_base.specs.declared.limits.TheConstants.{MOST_NAME_BYTES}
+use Rattle.inf_base.specs.Setup.{is_digit}
 use Rattle.inf_script.specs.declared.refusal.Why.{Why}
 use Rattle.inf_script.specs.Faults.{bad_number}
-
--- no slash, space, tab or newline
-abbrev pub is_plain : ℕ → Bool
-is_plain byte = not (is_slash byte || ends_word byte)
-
--- 1 to 255 plain bytes without a NUL, and neither `.` nor `..`
-abbrev pub is_entry_name : List ℕ → Bool
-is_entry_name name = is_piece name && nat_le (length name) MOST_NAME_BYTES && not (is_reserved name) && list_all is_plain name
-
--- a slash and one name
-abbrev pub is_single_path : List ℕ → Bool
-is_single_path [] = false
-is_single_path (byte ∷ name) = is_slash byte && is_entry_name name
 
 abbrev pub is_octal : ℕ → Bool
 is_octal byte = nat_le 48 byte && nat_le byte 55

@@ -6,7 +6,7 @@ use Rattle.inf_script.specs.declared.refusal.ScriptRefusal.{ScriptRefusal}
 use Rattle.inf_script.specs.declared.script.Script.{Script}
 use Rattle.inf_script.specs.declared.script.TheConstants.{MOST_SCRIPT_BYTES}
 use Rattle.inf_script.specs.declared.draft.Draft.{Draft}
-use Rattle.inf_script.specs.Draft.{rank, start, servers_of, order_of}
+use Rattle.inf_script.specs.Draft.{rank, start, servers_of, digest_bytes_of, order_of}
 use Rattle.inf_script.specs.Faults.{bad_word}
 use Rattle.inf_script.specs.Lines.{lines_of}
 use Rattle.inf_script.specs.Sections.{after_line}
@@ -16,9 +16,9 @@ abbrev pub at_line : {X : Type 0} → ℕ → Result X Why → Result X ScriptRe
 at_line number (Ok value) = Ok value
 at_line number (Err reason) = Err (record { line = number; why = reason })
 
--- whole digests and caches of 256 entries
+-- caches of 256 entries
 abbrev pub script_of : Draft → Script
-script_of draft = record { setup = record { servers = servers_of draft; digest_bytes = 32; cache = 256; clients = draft.clients }; order = order_of draft.moves }
+script_of draft = record { setup = record { servers = servers_of draft; digest_bytes = digest_bytes_of draft; cache = 256; clients = draft.clients }; order = order_of draft.moves }
 
 -- a text ends behind its line `end`
 abbrev pub ended : Draft → Result Script Why

@@ -9,7 +9,7 @@ use Rattle.inf_script.specs.declared.draft.Draft.{Draft}
 use Rattle.inf_script.specs.Draft.{may_stand}
 use Rattle.inf_script.specs.Faults.{bad_word}
 use Rattle.inf_script.specs.Words.{without_return, words_of, is_comment}
-use Rattle.inf_script.specs.Settings.{no_more, first_line, servers_line}
+use Rattle.inf_script.specs.Settings.{no_more, first_line, servers_line, digest_bytes_line}
 use Rattle.inf_script.specs.ClientLine.{client_line}
 use Rattle.inf_script.specs.CallLine.{call_line}
 use Rattle.inf_script.specs.OrderLine.{order_line}
@@ -23,10 +23,11 @@ abbrev pub word_line : Draft → List ℕ → List (List ℕ) → Result Draft W
 word_line draft word words =
     if bytes_eq word (codes "infinifs") then first_line draft words
     else (if bytes_eq word (codes "servers") then servers_line draft words
+    else (if bytes_eq word (codes "digest-bytes") then digest_bytes_line draft words
     else (if bytes_eq word (codes "client") then client_line draft words
     else (if bytes_eq word (codes "call") then call_line draft words
     else (if bytes_eq word (codes "order") then order_line draft words
-    else (if bytes_eq word (codes "end") then end_line draft words else bad_word)))))
+    else (if bytes_eq word (codes "end") then end_line draft words else bad_word))))))
 
 -- empty lines and comments are passed over
 abbrev pub after_words : Draft → List (List ℕ) → Result Draft Why

@@ -3,18 +3,35 @@
 ghost use Rattle.std.specs.Prelude.{◌≡◌, ◌<◌, length, Ok};
 ghost use Rattle.inf_base.specs.Memory.{Gives};
 ghost use Rattle.inf_script.specs.Faults.{line_cause};
-ghost use Rattle.inf_script.specs.CallLine.{create_mode, create_path, stat_path, call_kind, with_call, call_client, call_line};
+ghost use Rattle.inf_script.specs.CallLine.{path_alone, mode_behind, path_and_mode, mkdir_call, create_call, rmdir_call, stat_call, call_kind, with_call, call_client, call_line};
 
 use crate::draft::Draft;
 use crate::fault::{BAD_WORD, LineFault, TOO_MANY, UNKNOWN_CLIENT};
-use crate::names::{is_single_path, mode_of};
+use crate::names::mode_of;
+use crate::paths::names_within;
 use crate::section::Section;
 use crate::words::Words;
 use inf_base::{Call, MOST_CALLS, Text};
 use std::alloc::Global;
 
-fn create_mode(alloc: Global, path: &[u8], words: Words<'_>) -> Result<Call, LineFault>
-    ensures { Gives line_cause result (create_mode path.now words.entry) }
+/// A path of 1 to `most` names, and no word behind it.
+fn path_alone(alloc: Global, most: usize, words: Words<'_>) -> Result<Text, LineFault>
+    ensures { Gives line_cause result (path_alone most words.entry) }
+{
+    let Some((path, words)) = words.split_first() else {
+        return Err(BAD_WORD);
+    };
+    if !names_within(1, most, path) {
+        return Err(BAD_WORD);
+    }
+    if !words.is_empty() {
+        return Err(BAD_WORD);
+    }
+    Ok(Text::from_slice(alloc, path)?)
+}
+
+fn mode_behind(alloc: Global, path: &[u8], words: Words<'_>) -> Result<(Text, u16), LineFault>
+    ensures { Gives line_cause result (mode_behind path.now words.entry) }
 {
     let Some((word, words)) = words.split_first() else {
         return Err(BAD_WORD);
@@ -24,34 +41,47 @@ fn create_mode(alloc: Global, path: &[u8], words: Words<'_>) -> Result<Call, Lin
         return Err(BAD_WORD);
     }
     let path = Text::from_slice(alloc, path)?;
+    Ok((path, mode))
+}
+
+/// A path of 1 to `most` names, a mode, and no word behind it.
+fn path_and_mode(alloc: Global, most: usize, words: Words<'_>) -> Result<(Text, u16), LineFault>
+    ensures { Gives line_cause result (path_and_mode most words.entry) }
+{
+    let Some((path, words)) = words.split_first() else {
+        return Err(BAD_WORD);
+    };
+    if !names_within(1, most, path) {
+        return Err(BAD_WORD);
+    }
+    mode_behind(alloc, path, words)
+}
+
+fn mkdir_call(alloc: Global, words: Words<'_>) -> Result<Call, LineFault>
+    ensures { Gives line_cause result (mkdir_call words.entry) }
+{
+    let (path, mode) = path_and_mode(alloc, 1, words)?;
+    Ok(Call::Mkdir { path, mode })
+}
+
+fn create_call(alloc: Global, words: Words<'_>) -> Result<Call, LineFault>
+    ensures { Gives line_cause result (create_call words.entry) }
+{
+    let (path, mode) = path_and_mode(alloc, 2, words)?;
     Ok(Call::Create { path, mode })
 }
 
-fn create_path(alloc: Global, words: Words<'_>) -> Result<Call, LineFault>
-    ensures { Gives line_cause result (create_path words.entry) }
+fn rmdir_call(alloc: Global, words: Words<'_>) -> Result<Call, LineFault>
+    ensures { Gives line_cause result (rmdir_call words.entry) }
 {
-    let Some((path, words)) = words.split_first() else {
-        return Err(BAD_WORD);
-    };
-    if !is_single_path(path) {
-        return Err(BAD_WORD);
-    }
-    create_mode(alloc, path, words)
+    let path = path_alone(alloc, 1, words)?;
+    Ok(Call::Rmdir { path })
 }
 
-fn stat_path(alloc: Global, words: Words<'_>) -> Result<Call, LineFault>
-    ensures { Gives line_cause result (stat_path words.entry) }
+fn stat_call(alloc: Global, words: Words<'_>) -> Result<Call, LineFault>
+    ensures { Gives line_cause result (stat_call words.entry) }
 {
-    let Some((path, words)) = words.split_first() else {
-        return Err(BAD_WORD);
-    };
-    if !is_single_path(path) {
-        return Err(BAD_WORD);
-    }
-    if !words.is_empty() {
-        return Err(BAD_WORD);
-    }
-    let path = Text::from_slice(alloc, path)?;
+    let path = path_alone(alloc, 2, words)?;
     Ok(Call::Stat { path })
 }
 
@@ -61,11 +91,17 @@ fn call_kind(alloc: Global, words: Words<'_>) -> Result<Call, LineFault>
     let Some((word, words)) = words.split_first() else {
         return Err(BAD_WORD);
     };
+    if word == b"mkdir".as_slice() {
+        return mkdir_call(alloc, words);
+    }
     if word == b"create".as_slice() {
-        return create_path(alloc, words);
+        return create_call(alloc, words);
+    }
+    if word == b"rmdir".as_slice() {
+        return rmdir_call(alloc, words);
     }
     if word == b"stat".as_slice() {
-        return stat_path(alloc, words);
+        return stat_call(alloc, words);
     }
     Err(BAD_WORD)
 }
@@ -81,6 +117,7 @@ fn with_call(alloc: Global, draft: Draft, client: u32, call: Call) -> Result<Dra
     Ok(Draft {
         reached: Section::Calls,
         servers: draft.servers,
+        digest_bytes: draft.digest_bytes,
         clients,
         moves: draft.moves,
     })
@@ -99,7 +136,7 @@ fn call_client(alloc: Global, draft: Draft, words: Words<'_>) -> Result<Draft, L
     with_call(alloc, draft, client, call)
 }
 
-/// `call NAME create PATH MODE` or `call NAME stat PATH`.
+/// `call NAME mkdir PATH MODE`, `call NAME create PATH MODE`, `call NAME rmdir PATH` or `call NAME stat PATH`.
 pub fn call_line(alloc: Global, draft: Draft, words: Words<'_>) -> Result<Draft, LineFault>
     ensures { Gives line_cause result (call_line draft words.entry) }
 {

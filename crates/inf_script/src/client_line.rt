@@ -29,6 +29,7 @@ fn with_client(alloc: Global, draft: Draft, name: &[u8]) -> Result<Draft, LineFa
     Ok(Draft {
         reached: Section::Clients,
         servers: draft.servers,
+        digest_bytes: draft.digest_bytes,
         clients,
         moves: draft.moves,
     })

@@ -1,10 +1,11 @@
 //! What was read of a script so far.
 
 ghost use Rattle.std.specs.Prelude.{◌≡◌, ◌<◌};
-ghost use Rattle.inf_script.specs.Draft.{start, servers_of};
+ghost use Rattle.inf_script.specs.Draft.{start, servers_of, digest_bytes_of};
 
 use crate::client_table::ClientTable;
 use crate::section::Section;
+use inf_base::MOST_DIGEST_BYTES;
 use inf_order::Moves;
 use std::alloc::Global;
 
@@ -15,6 +16,8 @@ pub struct Draft {
     pub reached: Section,
     /// How many servers there are, where a line tells it.
     pub servers: Option<u32>,
+    /// How many bytes of a digest an identifier keeps, where a line tells it.
+    pub digest_bytes: Option<u8>,
     pub clients: ClientTable,
     pub moves: Moves,
 }
@@ -27,6 +30,7 @@ impl Draft {
         Draft {
             reached: Section::Start,
             servers: None,
+            digest_bytes: None,
             clients: ClientTable::new(alloc),
             moves: Moves::new(Vec::new(alloc)),
         }
@@ -36,5 +40,11 @@ impl Draft {
         ensures { result ≡ servers_of self.now }
     {
         self.servers.unwrap_or(1)
+    }
+
+    pub fn digest_bytes(&self) -> u8
+        ensures { result ≡ digest_bytes_of self.now }
+    {
+        self.digest_bytes.unwrap_or(MOST_DIGEST_BYTES)
     }
 }

@@ -1,10 +1,15 @@
 //! What some texts say, and laws of all of them. These functions do nothing: their contracts are what is proved.
 
-ghost use Rattle.inf_script.specs.Examples.{ScriptsAreRead, LinesAreRefused, WordsAreRefused, PathsAreRefused, MovesAreRefused, LimitsHold, TooLongIsRefused};
+ghost use Rattle.inf_script.specs.Examples.{ScriptsAreRead, CallsAreRead, LinesAreRefused, WordsAreRefused, PathsAreRefused, MovesAreRefused, LimitsHold, TooLongIsRefused};
 
-/// Scripts with each kind of line, and with the least and the greatest of what a word may be.
+/// Scripts with each kind of line.
 pub fn scripts_are_read()
     ensures { ScriptsAreRead }
+{}
+
+/// Call lines of each kind, with the least and the greatest of what a word may be.
+pub fn calls_are_read()
+    ensures { CallsAreRead }
 {}
 
 /// A text for each fault of the lines.

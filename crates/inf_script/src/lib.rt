@@ -11,6 +11,7 @@ mod fault;
 mod lines;
 mod names;
 mod order_line;
+mod paths;
 mod reader;
 mod refusal;
 mod script;
@@ -20,8 +21,8 @@ mod settings;
 mod words;
 
 pub use examples::{
-    limits_hold, lines_are_refused, moves_are_refused, paths_are_refused, scripts_are_read,
-    too_long_is_refused, words_are_refused,
+    calls_are_read, limits_hold, lines_are_refused, moves_are_refused, paths_are_refused,
+    scripts_are_read, too_long_is_refused, words_are_refused,
 };
 pub use fault::ScriptFault;
 pub use reader::read_script;

@@ -1,16 +1,14 @@
-//! The words that are names, paths, modes and numbers.
+//! The words that are names of clients, modes and numbers.
 
-ghost use Rattle.std.specs.Prelude.{◌≡◌, ◌+◌, ◌^◌, ◌<◌, ◌≤◌, ◌==◌, ◌||◌, length, IsTrue};
-ghost use Rattle.std.specs.List.{list_all, list_any};
+ghost use Rattle.std.specs.Prelude.{◌≡◌, ◌+◌, ◌^◌, ◌<◌, ◌≤◌, ◌||◌, length, IfOk, IsTrue};
+ghost use Rattle.std.specs.List.{list_all};
 ghost use Rattle.inf_base.specs.Memory.{Gives};
-ghost use Rattle.inf_base.specs.Path.{is_reserved};
-ghost use Rattle.inf_base.specs.Setup.{is_letter, is_digit, ends_word, is_client_name};
+ghost use Rattle.inf_base.specs.Setup.{is_letter, is_digit, is_client_name};
 ghost use Rattle.inf_base.specs.declared.limits.TheConstants.{MOST_NAME_BYTES};
 ghost use Rattle.inf_script.specs.Faults.{line_cause};
-ghost use Rattle.inf_script.specs.Names.{is_plain, is_entry_name, is_single_path, is_octal, mode_of, is_number, value_from, if_below, number_below, number_within};
+ghost use Rattle.inf_script.specs.Names.{is_octal, mode_of, is_number, value_from, if_below, number_below, number_within};
 
 use crate::fault::{BAD_NUMBER, LineFault};
-use inf_base::MOST_NAME_BYTES;
 
 fn is_letter(byte: u8) -> bool
     ensures { result ≡ is_letter byte }
@@ -40,52 +38,6 @@ pub fn is_client_name(name: &[u8]) -> bool
         return false;
     };
     is_letter(*first) && are_letters_or_digits(others) && others.len() < 16
-}
-
-fn ends_word(byte: u8) -> bool
-    ensures { result ≡ ends_word byte }
-{
-    byte == b' ' || byte == b'\t' || byte == b'\n'
-}
-
-fn is_plain(byte: u8) -> bool
-    ensures { result ≡ is_plain byte }
-{
-    !(byte == b'/' || ends_word(byte))
-}
-
-fn are_plain(bytes: &[u8]) -> bool
-    ensures { result ≡ list_all is_plain bytes.now }
-{
-    bytes.iter().all(|b| is_plain(*b))
-}
-
-fn has_nul(bytes: &[u8]) -> bool
-    ensures { result ≡ list_any (λ byte. byte == 0) bytes.now }
-{
-    bytes.iter().any(|b| *b == 0)
-}
-
-fn is_reserved(name: &[u8]) -> bool
-    ensures { result ≡ is_reserved name.now }
-{
-    name == b".".as_slice() || name == b"..".as_slice() || has_nul(name)
-}
-
-fn is_entry_name(name: &[u8]) -> bool
-    ensures { result ≡ is_entry_name name.now }
-{
-    !name.is_empty() && name.len() <= MOST_NAME_BYTES && !is_reserved(name) && are_plain(name)
-}
-
-/// Whether a word is the path of one name in the root.
-pub fn is_single_path(word: &[u8]) -> bool
-    ensures { result ≡ is_single_path word.now }
-{
-    let Some((first, name)) = word.split_first() else {
-        return false;
-    };
-    *first == b'/' && is_entry_name(name)
 }
 
 fn is_octal(byte: u8) -> bool
@@ -126,7 +78,8 @@ fn is_number(word: &[u8]) -> bool
 
 /// The number below the bound that digits spell.
 fn value_below(bound: u32, digits: &[u8]) -> Result<u32, LineFault>
-    ensures { Gives line_cause result (if_below bound (value_from 0 digits.now)) }
+    ensures value { Gives line_cause result (if_below bound (value_from 0 digits.now)) }
+    ensures below { IfOk result (λ number. number < bound) }
 {
     let mut value: u64 = 0;
     let mut rest = digits;
@@ -146,7 +99,8 @@ fn value_below(bound: u32, digits: &[u8]) -> Result<u32, LineFault>
 
 /// The number that a word spells, of those below a bound.
 pub fn number_below(bound: u32, word: &[u8]) -> Result<u32, LineFault>
-    ensures { Gives line_cause result (number_below bound word.now) }
+    ensures value { Gives line_cause result (number_below bound word.now) }
+    ensures below { IfOk result (λ number. number < bound) }
 {
     if !is_number(word) {
         return Err(BAD_NUMBER);
@@ -157,7 +111,8 @@ pub fn number_below(bound: u32, word: &[u8]) -> Result<u32, LineFault>
 /// The number that a word spells, from `low` to `high`.
 pub fn number_within(low: u32, high: u32, word: &[u8]) -> Result<u32, LineFault>
     requires { high + 1 < 2 ^ 32 }
-    ensures { Gives line_cause result (number_within low high word.now) }
+    ensures value { Gives line_cause result (number_within low high word.now) }
+    ensures at_most { IfOk result (λ number. number ≤ high) }
 {
     let number = number_below(high + 1, word)?;
     if number < low {

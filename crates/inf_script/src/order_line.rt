@@ -133,6 +133,7 @@ fn order_moves(draft: Draft, words: Words<'_>) -> Result<Draft, LineFault>
     let number = draft.servers();
     let Draft {
         servers,
+        digest_bytes,
         clients,
         moves,
         ..
@@ -144,6 +145,7 @@ fn order_moves(draft: Draft, words: Words<'_>) -> Result<Draft, LineFault>
     Ok(Draft {
         reached: Section::Order,
         servers,
+        digest_bytes,
         clients,
         moves,
     })

@@ -14,7 +14,7 @@ use crate::order_line::order_line;
 use crate::refusal::Why;
 use crate::script::MOST_LINE_BYTES;
 use crate::section::Section;
-use crate::settings::{first_line, servers_line};
+use crate::settings::{digest_bytes_line, first_line, servers_line};
 use crate::words::{Words, is_comment, without_return};
 use std::alloc::Global;
 
@@ -41,6 +41,9 @@ fn word_line(alloc: Global, draft: Draft, word: &[u8], words: Words<'_>) -> Resu
     }
     if word == b"servers".as_slice() {
         return servers_line(draft, words);
+    }
+    if word == b"digest-bytes".as_slice() {
+        return digest_bytes_line(draft, words);
     }
     if word == b"client".as_slice() {
         return client_line(alloc, draft, words);

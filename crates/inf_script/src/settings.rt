@@ -3,14 +3,14 @@
 ghost use Rattle.std.specs.Prelude.{◌≡◌, [], ◌∷◌, MatchOption, Ok};
 ghost use Rattle.inf_base.specs.Memory.{Gives};
 ghost use Rattle.inf_script.specs.Faults.{line_cause};
-ghost use Rattle.inf_script.specs.Settings.{version, first_line, servers_end, servers_number, servers_line};
+ghost use Rattle.inf_script.specs.Settings.{version, first_line, servers_end, servers_number, servers_line, digest_bytes_end, digest_bytes_number, digest_bytes_line};
 
 use crate::draft::Draft;
 use crate::fault::{BAD_WORD, LineFault};
 use crate::names::number_within;
 use crate::section::Section;
 use crate::words::Words;
-use inf_base::MOST_SERVERS;
+use inf_base::{MOST_DIGEST_BYTES, MOST_SERVERS};
 
 fn version(draft: Draft, words: Words<'_>) -> Result<Draft, LineFault>
     ensures { Gives line_cause result (version draft words.entry) }
@@ -67,4 +67,33 @@ pub fn servers_line(draft: Draft, words: Words<'_>) -> Result<Draft, LineFault>
         return Err(BAD_WORD);
     }
     servers_number(draft, words)
+}
+
+fn digest_bytes_number(draft: Draft, words: Words<'_>) -> Result<Draft, LineFault>
+    ensures { Gives line_cause result (digest_bytes_number draft words.entry) }
+{
+    let Some((word, words)) = words.split_first() else {
+        return Err(BAD_WORD);
+    };
+    let number = number_within(1, u32::from(MOST_DIGEST_BYTES), word)?;
+    if !words.is_empty() {
+        return Err(BAD_WORD);
+    }
+    Ok(Draft {
+        digest_bytes: Some(number as u8),
+        ..draft
+    })
+}
+
+/// `digest-bytes N`, once.
+pub fn digest_bytes_line(draft: Draft, words: Words<'_>) -> Result<Draft, LineFault>
+    ensures { Gives line_cause result (digest_bytes_line draft words.entry) }
+{
+    if !Section::Settings.may_stand(draft.reached) {
+        return Err(BAD_WORD);
+    }
+    if draft.digest_bytes.is_some() {
+        return Err(BAD_WORD);
+    }
+    digest_bytes_number(draft, words)
 }

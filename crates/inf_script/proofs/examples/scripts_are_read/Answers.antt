@@ -4,4 +4,4 @@ use Rattle.inf_script.proofs.examples.scripts_are_read.Goals as goal
 
 pub returns : goal.returns
 unfolding chars is_utf8 lib.Utf8.encode
-returns c = record { shortest = refl; all_lines = refl; blanks = refl; returns = refl; any_bytes = refl; least_mode = refl; greatest_mode = refl; longest_name = refl; most_servers = refl }
+returns c = record { shortest = refl; all_lines = refl; one_byte = refl; all_bytes = refl; bytes_behind_servers = refl; blanks = refl; returns = refl; most_servers = refl }
