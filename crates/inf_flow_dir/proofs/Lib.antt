@@ -1,6 +1,6 @@
-pub mod AskedFacts
-pub mod ChainFacts
-pub mod KnowsFacts
-pub mod PathClients
+pub mod DraftFacts
+pub mod NamesFacts
 pub mod PathFacts
-pub mod ToldAlong
+pub mod ReplyFacts
+pub mod SendingFacts
+pub mod WalkFacts

@@ -1,186 +1,48 @@
--- Flows follow the path of their call.
-use Rattle.std.proofs.Common.{◌≡◌, ℕ, ◌==◌, Bool, true, false, if◌then◌else◌, List, [], ◌∷◌, ◌++◌, Option, Some, None, Result, Ok, refl, sym, ap, ◌∙◌, subst, append_assoc}
-use Rattle.std.proofs.lemmas.List.{append-nil}
-use Rattle.inf_base.specs.declared.answer.Answer.TheVariants as answer
-use Rattle.inf_base.specs.declared.call.Call.{Call}
-use Rattle.inf_base.specs.declared.call.Call.TheVariants as call
-use Rattle.inf_base.specs.declared.entry.Entry.{Entry}
-use Rattle.inf_base.specs.declared.errno.Errno.{Errno}
-use Rattle.inf_base.specs.declared.id.Id.{Id}
-use Rattle.inf_base.specs.declared.key.LookKey.TheVariants as look
-use Rattle.inf_base.specs.declared.triple.Triple.{Triple}
-use Rattle.inf_base.specs.Path.{path_of}
-use Rattle.inf_base.specs.Same.{dir_of}
-use Rattle.inf_message.specs.declared.op.Op.TheVariants as op
-use Rattle.inf_message.specs.declared.reply.Reply.{Reply}
-use Rattle.inf_message.specs.declared.reply.Reply.TheVariants as reply
-use Rattle.inf_message.specs.History.{Told}
-use Rattle.inf_flow_dir.specs.Client.{Sent, answers, retries}
-use Rattle.inf_flow_dir.specs.Flow.{Flow, Who, birth_of, finishes, links, makes, reserves, root_id, seals, unlinks}
-use Rattle.inf_flow_dir.specs.Group.{Course, course_at, course_in, course_of, keys_along, rmdir_stop, split, text_of}
-use Rattle.inf_flow_dir.specs.Paths.{AreToldFor, Follows, IsToldFor, StopsBefore, TurnFollows, name_of, names_in, names_of}
-use Rattle.inf_flow_dir.specs.Told.{IfTold}
-use Rattle.inf_flow_dir.specs.Turn.{Next, Turn, after_act, after_make, after_round, by_next, fails, follow, from_root, is_busy, links_to, next_entry, steps, stops, told_entry, winds_up}
+-- The pieces of a path, by the place of its first slash.
+use Rattle.std.proofs.Common.{◌≡◌, ℕ, ◌+◌, ◌<◌, ◌≤◌, Bool, true, false, cond, eqb, nat_lt, List, [], ◌∷◌, length, take, drop, filter, position, Some, None, refl, sym, ap, ◌∙◌, subst, arith, length-take}
+use Rattle.std.specs.List.{slice_split, position_or_len}
+use Rattle.std.proofs.lemmas.Bool.{ltb-true, ltb-false}
+use Rattle.std.proofs.lemmas.Bool.Decides.{nat_tests}
+use Rattle.std.proofs.lemmas.List.Splits.{slice_split_first, slice_split_none}
+use Rattle.std.proofs.lemmas.List.Sums.{fails_before_first}
+use Rattle.inf_base.specs.Path.{is_piece, is_slash, pieces_of}
 
-abbrev ok : List (List ℕ) → Result (List (List ℕ)) Errno
-ok names = Ok names
+-- a place that was found is the length of what stands before it
+pub record IsFound {X : Type 0} (p : X → Bool) (xs : List X) (i : ℕ) : Type 0 where
+  pub place : position_or_len p xs ≡ i
+  pub within : i < length xs
 
--- ---- courses
+pub found_at : {X : Type 0} (p : X → Bool) (xs : List X) (i : ℕ) → position p xs ≡ Some i → IsFound p xs i
+found_at {X} p xs i found = by_test (nat_lt (position_or_len p xs) (length xs)) refl found where
+  by_test : (b : Bool) → nat_lt (position_or_len p xs) (length xs) ≡ b → cond b (Some (position_or_len p xs)) None ≡ Some i → IsFound p xs i
+  by_test true within at =
+      let place : position_or_len p xs ≡ i = cc in
+      record { place = place; within = subst (λ k. k < length xs) place (ltb-true _ _ within) }
+  by_test false past at = absurd (cc)
 
-record IsCourse (asked : Call) (course : Course) : Type 0 where
-  arrives : (chain : List Entry) → names_of chain ≡ course.looked → Follows asked (course.arrive chain)
-  stops_at : (chain : List Entry) (name : List ℕ) (rest : List (List ℕ)) → names_of chain ++ name ∷ rest ≡ course.looked
-      → Follows asked (finishes chain (course.stop name rest))
+pub missed : {X : Type 0} (p : X → Bool) (xs : List X) → position p xs ≡ None → length xs ≤ position_or_len p xs
+missed {X} p xs none = by_test (nat_lt (position_or_len p xs) (length xs)) refl none where
+  by_test : (b : Bool) → nat_lt (position_or_len p xs) (length xs) ≡ b → cond b (Some (position_or_len p xs)) None ≡ None → length xs ≤ position_or_len p xs
+  by_test true within at = absurd (cc)
+  by_test false past at = ltb-false (position_or_len p xs) (length xs) past
 
-abbrev IfCourse : Call → Option Course → Type 0
-IfCourse asked None = Unit {0}
-IfCourse asked (Some course) = IsCourse asked course
+not_empty : (piece : List ℕ) (pieces : List (List ℕ)) → 0 < length piece → filter is_piece (piece ∷ pieces) ≡ piece ∷ filter is_piece pieces
+not_empty [] pieces some = absurd (omega arith)
+not_empty (b ∷ bs) pieces some = refl
 
-split_joins : (name : List ℕ) (rest : List (List ℕ)) → (split name rest).0 ++ (split name rest).1 ∷ [] ≡ name ∷ rest
-split_joins name [] = refl
-split_joins name (next ∷ rest) = ap (λ (names : List (List ℕ)). name ∷ names) (split_joins next rest)
+pub piece_alone : (text : List ℕ) → position is_slash text ≡ None → eqb (length text) 0 ≡ false → pieces_of text ≡ text ∷ []
+piece_alone text none full =
+    let some : 0 < length text = grind (arith, nat_tests) in
+    let past = missed is_slash text none in
+    ap (filter is_piece) (slice_split_none is_slash text (λ k d below. fails_before_first is_slash text k d (omega arith))) ∙ not_empty text [] some
 
-stopped : (asked : Call) (chain : List Entry) (way : List (List ℕ)) (last name : List ℕ) (rest : List (List ℕ)) → path_of (text_of asked) ≡ ok (way ++ last ∷ [])
-    → names_of chain ++ name ∷ rest ≡ way → StopsBefore asked chain name
-stopped asked chain way last name [] is along = record {
-  next = last;
-  rest = [];
-  names = is ∙ ap ok (ap (λ (names : List (List ℕ)). names ++ last ∷ []) (sym along) ∙ append_assoc (names_of chain) (name ∷ []) (last ∷ []));
-}
-stopped asked chain way last name (r ∷ rs) is along = record {
-  next = r;
-  rest = rs ++ last ∷ [];
-  names = is ∙ ap ok (ap (λ (names : List (List ℕ)). names ++ last ∷ []) (sym along) ∙ append_assoc (names_of chain) (name ∷ r ∷ rs) (last ∷ []));
-}
+split_at : (text : List ℕ) (end : ℕ) → position is_slash text ≡ Some end → slice_split is_slash text ≡ take end text ∷ slice_split is_slash (drop (end + 1) text)
+split_at text end at =
+    let found = found_at is_slash text end at in
+    subst (λ k. slice_split is_slash text ≡ take k text ∷ slice_split is_slash (drop (k + 1) text)) found.place
+    (slice_split_first is_slash text 0 (subst (λ k. k < length text) (sym found.place) found.within))
 
-to_last : (path : List ℕ) (chain : List Entry) (way : List (List ℕ)) (last : List ℕ) → path_of path ≡ ok (way ++ last ∷ []) → names_of chain ≡ way
-    → path_of path ≡ ok (names_of chain ++ last ∷ [])
-to_last path chain way last is along = is ∙ ap ok (ap (λ (names : List (List ℕ)). names ++ last ∷ []) (sym along))
-
-course_in_is : (asked : Call) (names : List (List ℕ) × List ℕ) → path_of (text_of asked) ≡ ok (names.0 ++ names.1 ∷ []) → IfCourse asked (course_in asked names)
-course_in_is (call.Create path mode) (way, name) is = record {
-  arrives = λ chain along. record { text = path; is = refl; names = to_last path chain way name is along };
-  stops_at = λ chain at rest along. stopped (call.Create path mode) chain way name at rest is along;
-}
-course_in_is (call.Stat path) (way, name) is = record {
-  arrives = λ chain along. record { text = path; is = refl; names = to_last path chain way name is along };
-  stops_at = λ chain at rest along. stopped (call.Stat path) chain way name at rest is along;
-}
-course_in_is (call.Mkdir path mode) (way, name) is = record {
-  arrives = λ chain along. record { text = path; is = refl; names = to_last path chain way name is along };
-  stops_at = λ chain at rest along. stopped (call.Mkdir path mode) chain way name at rest is along;
-}
-course_in_is other names is = tt
-
-rmdir_stops : (path : List ℕ) (chain : List Entry) (name : List ℕ) (rest names : List (List ℕ)) → path_of path ≡ ok names
-    → names_of chain ++ name ∷ rest ≡ names → Follows (call.Rmdir path) (finishes chain (rmdir_stop name rest))
-rmdir_stops path chain name [] names is along = record { text = path; is = refl; names = is ∙ ap ok (sym along) }
-rmdir_stops path chain name (next ∷ rest) names is along = record { next = next; rest = rest; names = is ∙ ap ok (sym along) }
-
-course_at_is : (asked : Call) (path : Result (List (List ℕ)) Errno) → path_of (text_of asked) ≡ path → IfCourse asked (course_at asked path)
-course_at_is (call.Rmdir path) (Ok (name ∷ names)) is = record {
-  arrives = λ chain along. record { text = path; is = refl; names = is ∙ ap ok (sym along) };
-  stops_at = λ chain at rest along. rmdir_stops path chain at rest (name ∷ names) is along;
-}
-course_at_is asked (Ok (name ∷ names)) is = course_in_is asked (split name names) (is ∙ ap ok (sym (split_joins name names)))
-course_at_is asked other is = tt
-
-is_course : (asked : Call) → IfCourse asked (course_of asked)
-is_course asked = course_at_is asked (path_of (text_of asked)) refl
-
--- ---- after a round
-
-abbrev NextNamed : List ℕ → Next → Type 0
-NextNamed name (steps e) = name_of e.key ≡ name
-NextNamed name other = Unit {0}
-
-named_if : (name : List ℕ) (b : Bool) (first second : Next) → NextNamed name first → NextNamed name second → NextNamed name (if b then first else second)
-named_if name true first second one other = one
-named_if name false first second one other = other
-
-reply_named : (before : Entry) (id : Id) (name : List ℕ) (place : ℕ) (given : Reply) → IsToldFor (look.At id name) given
-    → NextNamed name (next_entry before (Some (record { serve_place = place; reply = given })))
-reply_named before id name place (reply.Found k access) told =
-    named_if name (links_to (dir_of before.access) k) (steps (told_entry k access place)) stops told tt
-reply_named before id name place (reply.Busy by at born) told =
-    named_if name (born == before.access.born) (is_busy (answer.Again by) place) stops tt tt
-reply_named before id name place any_reply told = tt
-
-next_named : (before : Entry) (id : Id) (name : List ℕ) (told : Option Told) → IfTold (IsToldFor (look.At id name)) told → NextNamed name (next_entry before told)
-next_named before id name None tells = tt
-next_named before id name (Some told) tells = reply_named before id name told.serve_place told.reply tells
-
-names_more : (more : List Entry) (e : Entry) (names : List (List ℕ)) → names_in (more ++ e ∷ []) ++ names ≡ names_in more ++ name_of e.key ∷ names
-names_more [] e names = refl
-names_more (first ∷ more) e names = ap (λ (later : List (List ℕ)). name_of first.key ∷ later) (names_more more e names)
-
-module _ (asked : Call) (course : Course) (is : IsCourse asked course) where
-  by_next_follows : (chain : List Entry) (name : List ℕ) (names : List (List ℕ)) (go : Entry → Turn) (next : Next)
-      → names_of chain ++ name ∷ names ≡ course.looked → NextNamed name next → ((e : Entry) → name_of e.key ≡ name → TurnFollows asked (go e))
-      → TurnFollows asked (by_next course chain name names go next)
-  by_next_follows chain name names go (steps e) along named goes = goes e named
-  by_next_follows chain name names go stops along named goes = is.stops_at chain name names along
-  by_next_follows chain name names go (is_busy given place) along named goes = tt
-
-  follow_follows : (who : Who) (id : Id) (first : Entry) (more : List Entry) (before : Entry) (names : List (List ℕ)) (sent : List Sent)
-      → names_in more ++ names ≡ course.looked → AreToldFor (keys_along who id names) sent → TurnFollows asked (follow course (first ∷ more) before names sent)
-  follow_follows who id first more before [] sent along told = is.arrives (first ∷ more) (sym (append-nil (names_in more)) ∙ along)
-  follow_follows who id first more before (name ∷ names) [] along told = is.stops_at (first ∷ more) name names along
-  follow_follows who id first more before (name ∷ names) (x ∷ xs) along told =
-      by_next_follows (first ∷ more) name names (λ e. follow course (first ∷ (more ++ e ∷ [])) e names xs) (next_entry before x.told) along
-      (next_named before id name x.told told.0)
-      (λ e named. follow_follows who _ first (more ++ e ∷ []) e names xs
-      (names_more more e names ∙ ap (λ (n : List ℕ). names_in more ++ n ∷ names) named ∙ along) told.1)
-
-  root_follows : (who : Who) (xs : List Sent) (told : Told) (given : Reply) → AreToldFor (keys_along who (root_id who) course.looked) xs
-      → TurnFollows asked (from_root course xs told given)
-  root_follows who xs told (reply.Found k access) more =
-      let first = told_entry k access told.serve_place in
-      follow_follows who (root_id who) first [] first course.looked xs refl more
-  root_follows who xs told (reply.Busy by at born) more = tt
-  root_follows who xs told any_reply more = tt
-
-  follows_if : (b : Bool) (first second : Turn) → TurnFollows asked first → TurnFollows asked second → TurnFollows asked (if b then first else second)
-  follows_if true first second one other = one
-  follows_if false first second one other = other
-
-  first_follows : (who : Who) (place : ℕ) (told : Option Told) (xs : List Sent) → AreToldFor (keys_along who (root_id who) course.looked) xs
-      → TurnFollows asked (after_round (Some course) (record { place = place; told = told } ∷ xs))
-  first_follows who place None xs more = follows_if _ (winds_up (answers answer.NoMemory None) []) (winds_up retries []) tt tt
-  first_follows who place (Some told) xs more =
-      follows_if _ (winds_up (answers answer.NoMemory None) []) (from_root course xs told told.reply) tt (root_follows who xs told told.reply more)
-
-  round_follows : (who : Who) (sent : List Sent) → AreToldFor (look.Top ∷ keys_along who (root_id who) course.looked) sent
-      → TurnFollows asked (after_round (Some course) sent)
-  round_follows who [] told = tt
-  round_follows who (x ∷ xs) told = first_follows who x.place x.told xs told.1
-
-pub after_round_follows : (who : Who) (asked : Call) (course : Course) (sent : List Sent) → course_of asked ≡ Some course
-    → AreToldFor (look.Top ∷ keys_along who (root_id who) course.looked) sent → TurnFollows asked (after_round (Some course) sent)
-after_round_follows who asked course sent found told =
-    round_follows asked course (subst (λ (c : Option Course). IfCourse asked c) found (is_course asked)) who sent told
-
--- ---- after a message of a flow
-
-fails_follows : (asked : Call) (who : Who) (flow : Flow) (place : ℕ) (given : Reply) → TurnFollows asked (fails who flow place given)
-fails_follows asked who flow place (reply.Busy by at born) = tt
-fails_follows asked who flow place (reply.Refused error) = tt
-fails_follows asked who flow place reply.NoMem = tt
-fails_follows asked who flow place any_reply = tt
-
-make_follows : (asked : Call) (who : Who) (flow : Flow) (own : Triple) (place : ℕ) (given : Reply) → TurnFollows asked (after_make who flow own place given)
-make_follows asked who flow own place (reply.Clash kept) = tt
-make_follows asked who flow own place any_reply = fails_follows asked who flow place any_reply
-
-pub after_act_follows : (asked : Call) (who : Who) (flow : Flow) (ask_place place : ℕ) (given : Reply) → Follows asked flow
-    → TurnFollows asked (after_act who flow ask_place place given)
-after_act_follows asked who (finishes chain (op.Create name mode)) ask_place place reply.Fine is = tt
-after_act_follows asked who (finishes chain (op.Stat name)) ask_place place (reply.Stat kind meta) is = tt
-after_act_follows asked who (reserves chain name mode) ask_place place (reply.Reserved version) is = is
-after_act_follows asked who (makes chain name mode version) ask_place place reply.Fine is = is
-after_act_follows asked who (makes chain name mode version) ask_place place given is =
-    make_follows asked who (makes chain name mode version) (birth_of who chain name version) place given
-after_act_follows asked who (links chain name mode version born) ask_place place reply.Fine is = tt
-after_act_follows asked who (seals chain) ask_place place reply.Fine is = is
-after_act_follows asked who (unlinks chain) ask_place place reply.Fine is = tt
-after_act_follows asked who flow ask_place place given is = fails_follows asked who flow place given
+pub piece_first : (text : List ℕ) (end : ℕ) → position is_slash text ≡ Some end → (end ≡ 0 → ⊥) → pieces_of text ≡ take end text ∷ pieces_of (drop (end + 1) text)
+piece_first text end at some =
+    let found = found_at is_slash text end at in
+    ap (filter is_piece) (split_at text end at) ∙ not_empty (take end text) (slice_split is_slash (drop (end + 1) text)) (omega (arith, length-take end text, found.within, some))

@@ -1,5 +1,5 @@
 -- What comes of the answers to a group.
-use Rattle.std.specs.Prelude.{ℕ, ◌==◌, ◌&&◌, Bool, true, false, if◌then◌else◌, List, [], ◌∷◌, ◌++◌, length, map, Option, Some, None}
+use Rattle.std.specs.Prelude.{ℕ, ◌==◌, ◌&&◌, nat_lt, Bool, true, false, if◌then◌else◌, List, [], ◌∷◌, ◌++◌, length, map, Option, Some, None}
 use Rattle.std.specs.List.{list_all, list_any}
 use Rattle.inf_base.specs.declared.access.Access.{Access}
 use Rattle.inf_base.specs.declared.answer.Answer.{Answer}
@@ -158,8 +158,13 @@ abbrev pub settled : Bool → Client → Client
 settled true s = turned (turn_at s s.stage) s
 settled false s = s
 
+abbrev pub later_place : Option ℕ → ℕ → Option ℕ
+later_place None place = Some place
+later_place (Some earlier) place = Some (if nat_lt earlier place then place else earlier)
+
 abbrev pub recorded : ℕ → Told → Client → Client
-recorded ask_place told s = record s { sent = map (told_at ask_place told) s.sent; counts = record s.counts { last = Some told.serve_place } }
+recorded ask_place told s =
+    record s { sent = map (told_at ask_place told) s.sent; counts = record s.counts { last = later_place s.counts.last told.serve_place } }
 
 abbrev pub after_record : Client → Client
 after_record s = settled (is_complete s) s

@@ -1,15 +1,35 @@
-//! The flows of calls that make and remove directories, as definitions: what a client is to send, one message after
-//! another, and what is cleaned up where one does not succeed.
+//! The flows of calls that make and remove directories: what a client is to send, one message after another, and what is
+//! cleaned up where one does not succeed.
 #![tactic(auto)]
 
-mod examples;
-mod laws;
+mod aim;
+mod chain;
+mod clean_up;
+mod dir_flow;
+mod draft;
+mod ending;
+mod identity;
+mod lift;
+mod new_dir;
+mod next;
+mod party;
+mod path;
+mod phase;
+mod room;
+mod round;
+mod sending;
+mod telling;
+#[cfg(test)]
+mod tests;
+mod turn;
 
-pub use examples::{
-    example_of_clashes, example_of_clean_ups, example_of_paths, example_of_removals_and_creations,
-    example_of_rounds, example_of_wanting_memory, example_of_whole_lives,
-};
-pub use laws::{
-    chains_are_told_along, clients_ask_their_groups, clients_keep_to_paths,
-    clients_know_what_they_were_told, flows_follow_paths, what_is_sent_was_told,
-};
+pub use clean_up::{CleanUp, CleanUps};
+pub use dir_flow::DirFlow;
+pub use draft::{Draft, has_course};
+pub use ending::Ending;
+pub use party::{LookKeys, Party};
+pub use room::ReplyRoom;
+pub use round::after_round;
+pub use sending::{Sending, are_told, has_place, record_answer};
+pub use telling::Telling;
+pub use turn::Turn;

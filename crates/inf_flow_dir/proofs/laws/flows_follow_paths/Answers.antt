@@ -1,8 +1,0 @@
-use Rattle.inf_flow_dir.proofs.PathFacts.{after_act_follows, after_round_follows}
-use Rattle.inf_flow_dir.proofs.laws.flows_follow_paths.Goals as goal
-
-pub returns-clause-rounds : goal.returns-clause-rounds
-returns-clause-rounds c = λ who asked course sent found told. after_round_follows who asked course sent found told
-
-pub returns-clause-acts : goal.returns-clause-acts
-returns-clause-acts c = λ who asked flow ask_place place given is. after_act_follows asked who flow ask_place place given is

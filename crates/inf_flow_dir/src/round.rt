@@ -1,0 +1,68 @@
+//! What comes of the answers to a round.
+
+ghost use Rattle.std.specs.Prelude.{◌≡◌, [], false, Some, vec_capacity};
+ghost use Rattle.std.specs.List.{list_any};
+ghost use Rattle.inf_flow_dir.specs.Client.{Sent};
+ghost use Rattle.inf_flow_dir.specs.Draft.{course_with};
+ghost use Rattle.inf_flow_dir.specs.Flow.{Who};
+ghost use Rattle.inf_flow_dir.specs.Turn.{after_round, wants_memory};
+ghost use Rattle.inf_flow_dir.specs.TurnOf.{TurnIsMadeFor, turn_of};
+
+use crate::clean_up::CleanUps;
+use crate::draft::Draft;
+use crate::ending::Ending;
+use crate::sending::{Sending, is_one_wanting, take_first};
+use crate::turn::{Turn, again, ends};
+use inf_base::{Answer, Entry};
+use inf_message::Reply;
+
+/// What comes of the answers to a round, which are taken from `sent`.
+pub fn after_round(draft: Draft, sent: &mut Vec<Sending>) -> Turn
+    ensures turn { turn_of result ≡ after_round (Some (course_with draft)) sent.old.items }
+    ensures made { (who : Who) → TurnIsMadeFor who result }
+    ensures emptied { sent.new.items ≡ [] }
+    ensures capacity { vec_capacity sent.new ≡ vec_capacity sent.old }
+{
+    let turn = after_answers(draft, sent);
+    sent.clear();
+    turn
+}
+
+fn after_answers(draft: Draft, sent: &mut Vec<Sending>) -> Turn
+    ensures turn { turn_of result ≡ after_round (Some (course_with draft)) sent.old.items }
+    ensures made { (who : Who) → TurnIsMadeFor who result }
+    ensures capacity { vec_capacity sent.new ≡ vec_capacity sent.old }
+{
+    if is_one_wanting(sent.as_slice()) {
+        return Turn::WindsUp(Ending::Answers(Answer::NoMemory, None), CleanUps::none());
+    }
+    after_entries(draft, sent)
+}
+
+/// What comes of them where none says that memory is wanting.
+fn after_entries(draft: Draft, sent: &mut Vec<Sending>) -> Turn
+    requires { list_any (λ (x : Sent). wants_memory x.told) sent.old.items ≡ false }
+    ensures turn { turn_of result ≡ after_round (Some (course_with draft)) sent.old.items }
+    ensures made { (who : Who) → TurnIsMadeFor who result }
+    ensures capacity { vec_capacity sent.new ≡ vec_capacity sent.old }
+{
+    let Some(first) = take_first(sent) else {
+        return again();
+    };
+    let Some(told) = first.into_told() else {
+        return again();
+    };
+    let (place, reply) = told.into_parts();
+    match reply {
+        Reply::Found { key, access } => {
+            let root = Entry {
+                key,
+                access,
+                stamp: place,
+            };
+            draft.follow(root, sent)
+        }
+        Reply::Busy { by, .. } => ends(Answer::Again(by), place),
+        _ => again(),
+    }
+}

@@ -1,0 +1,175 @@
+-- A client asks the messages of its group, in their order.
+use Rattle.std.proofs.Common.{◌≡◌, ℕ, ◌==◌, Bool, true, false, if◌then◌else◌, List, [], ◌∷◌, ◌++◌, length, map, slice_get, Option, Some, None, subst}
+use Rattle.inf_base.specs.declared.answer.Answer.TheVariants as answer
+use Rattle.inf_base.specs.declared.call.Call.{Call}
+use Rattle.inf_base.specs.declared.key.LookKey.{LookKey}
+use Rattle.inf_base.specs.declared.key.LookKey.TheVariants as look
+use Rattle.inf_message.specs.declared.ask.Ask.{Ask}
+use Rattle.inf_message.specs.declared.reply.Reply.{Reply}
+use Rattle.inf_message.specs.declared.reply.Reply.TheVariants as reply
+use Rattle.inf_message.specs.declared.request.Request.{Request}
+use Rattle.inf_message.specs.declared.request.Request.TheVariants as request
+use Rattle.inf_message.specs.declared.step.Message.{Message}
+use Rattle.inf_message.specs.History.{Told, or_told}
+use Rattle.inf_laws_client.specs.Asked.{AnswersAsked, AreAskedFor, AsksItsGroup}
+use Rattle.inf_flow_dir.specs.Client.{Client, Ending, Sent, Stage, act, answers, compose, has_place, idle, placed, retries, round, told_at, winds, wound}
+use Rattle.inf_duty.specs.Duty.{asks, at_call, begun, found_at, given_up, given_up_in, is_acting, lifts, next_step}
+use Rattle.inf_flow_dir.specs.Flow.{Who, clean_up, root_id}
+use Rattle.inf_flow_dir.specs.Group.{Course, composed, composed_stage, group, keys_along, keys_of, lookup_of, next_course}
+use Rattle.inf_laws_client.specs.Paths.{AnswersKeys, AnswersLookup, IsToldFor, KeepsToPath, StandsOnPath}
+use Rattle.inf_laws_client.specs.Told.{AnswersTop, IfFirst, IsOfTop}
+use Rattle.inf_flow_dir.specs.Turn.{Turn, goes_on, is_complete, recorded, served, settled, turn_at, turned, winds_up}
+use Rattle.inf_laws_client.proofs.KnowsFacts.{asks_next, is_sent}
+
+-- what is told of the root's lookup is of the root
+of_top : (given : Reply) → IsToldFor look.Top given → IsOfTop given
+of_top (reply.Found k access) told = told
+of_top any_reply told = tt
+
+top_in : (rest : List LookKey) (sent : List Sent) (place : ℕ) (given : Reply) → AnswersKeys (look.Top ∷ rest) sent place given → IfFirst sent place given
+top_in rest [] place given told = tt
+top_in rest (x ∷ xs) place given told = λ same. of_top given (told.0 same)
+
+top_of : (who : Who) (found : Option Course) (keys : List LookKey) (sent : List Sent) (place : ℕ) (given : Reply) → keys_of who found ≡ round keys
+    → AnswersKeys keys sent place given → IfFirst sent place given
+top_of who None keys sent place given is told = absurd cc
+top_of who (Some course) keys sent place given is told =
+    let same : keys ≡ look.Top ∷ keys_along who (root_id who) course.looked = cc in
+    top_in (keys_along who (root_id who) course.looked) sent place given
+    (subst (λ (ks : List LookKey). AnswersKeys ks sent place given) same told)
+
+top_at : (who : Who) (calls : List Call) (stage : Stage) (sent : List Sent) (place : ℕ) (given : Reply) → StandsOnPath who calls stage sent
+    → AnswersLookup stage sent place given → AnswersTop stage sent place given
+top_at who calls (round keys) sent place given stands told = top_of who (next_course calls) keys sent place given stands.0 told
+top_at who calls compose sent place given stands told = tt
+top_at who calls (act flow) sent place given stands told = tt
+top_at who calls (winds ending m ms) sent place given stands told = tt
+
+pub answers_top : (place : ℕ) (given : Reply) (s : Client) → KeepsToPath s → AnswersLookup s.stage s.sent place given → AnswersTop s.stage s.sent place given
+answers_top place given s keeps told = top_at s.who s.left s.stage s.sent place given keeps.stands told
+
+module _ (A : ℕ → Request → Type 0) where
+  asks_if : (b : Bool) (s other : Client) → AsksItsGroup A s → AsksItsGroup A other → AsksItsGroup A (if b then s else other)
+  asks_if true s other one two = one
+  asks_if false s other one two = two
+
+  pub idle_asks : (who : Who) (calls : List Call) → AsksItsGroup A (idle who calls)
+  idle_asks who calls = record { asked = tt }
+
+  wound_asks : (ending : Ending) (more : List Message) (s : Client) → AsksItsGroup A (wound ending more s)
+  wound_asks (answers given place) [] s = record { asked = tt }
+  wound_asks retries [] s = record { asked = tt }
+  wound_asks ending (m ∷ ms) s = record { asked = tt }
+
+  turned_asks : (t : Turn) (s : Client) → AsksItsGroup A (turned t s)
+  turned_asks (goes_on next) s = record { asked = tt }
+  turned_asks (winds_up ending more) s = wound_asks ending more s
+
+  none_asked : (ms : List Message) (sent : List Sent) → AreAskedFor A [] sent → AreAskedFor A ms sent
+  none_asked ms [] asked = tt
+  none_asked ms (x ∷ xs) asked = absurd asked
+
+  composed_at : (s : Client) (stage : Stage) → AreAskedFor A (group s.who stage) s.sent → AsksItsGroup A (record s { stage = composed_stage s stage })
+  composed_at s compose asked = record { asked = none_asked (group s.who (keys_of s.who (next_course s.left))) s.sent asked }
+  composed_at s (round keys) asked = record { asked = asked }
+  composed_at s (act flow) asked = record { asked = asked }
+  composed_at s (winds ending m ms) asked = record { asked = asked }
+
+  pub composed_asks : (s : Client) → AsksItsGroup A s → AsksItsGroup A (composed s)
+  composed_asks s asks_its = composed_at s s.stage asks_its.asked
+
+  given_up_at : (s : Client) (stage : Stage) → AsksItsGroup A s → AsksItsGroup A (given_up_in s stage)
+  given_up_at s (act flow) asks_its = wound_asks (answers answer.NoMemory None) (clean_up s.who flow) s
+  given_up_at s (winds ending m ms) asks_its = asks_its
+  given_up_at s compose asks_its = record { asked = tt }
+  given_up_at s (round keys) asks_its = record { asked = tt }
+
+  pub given_up_asks : (s : Client) → AsksItsGroup A s → AsksItsGroup A (given_up s)
+  given_up_asks s asks_its = given_up_at s s.stage asks_its
+
+  found_asks : (asked : Request) (s : Client) → AsksItsGroup A s → AsksItsGroup A (found_at asked s)
+  found_asks asked s asks_its =
+      asks_if (lifts asked) _ _ (asks_if (is_acting s.stage) _ _ (given_up_asks s asks_its) asks_its) (composed_asks s asks_its)
+
+  at_call_asks : (number : ℕ) (asked : Request) (calls : List Call) (s : Client) → AsksItsGroup A s → AsksItsGroup A (at_call number asked calls s)
+  at_call_asks number asked [] s asks_its = asks_its
+  at_call_asks number asked (call ∷ calls) s asks_its =
+      asks_if (number == s.number) _ _ (found_asks asked s asks_its)
+      (asks_if _ (at_call number asked calls (given_up s)) s (at_call_asks number asked calls (given_up s) (given_up_asks s asks_its)) asks_its)
+
+  begun_in : (ask : Ask) (sent : List Sent) (s : Client) → AsksItsGroup A s → AsksItsGroup A (begun ask sent s)
+  begun_in ask [] s asks_its = at_call_asks ask.from.number ask.request s.left s asks_its
+  begun_in ask (x ∷ xs) s asks_its = asks_its
+
+  pub begun_asks : (ask : Ask) (s : Client) → AsksItsGroup A s → AsksItsGroup A (begun ask s.sent s)
+  begun_asks ask s asks_its = begun_in ask s.sent s asks_its
+
+  -- ---- an Ask more
+
+  asked_more : (ms : List Message) (sent : List Sent) (x : Sent) (m : Message) → slice_get ms (length sent) ≡ Some m → A x.place m.request
+      → AreAskedFor A ms sent → AreAskedFor A ms (sent ++ x ∷ [])
+  asked_more [] [] x m is at asked = absurd cc
+  asked_more [] (y ∷ ys) x m is at asked = absurd asked
+  asked_more (first ∷ ms) [] x m is at asked =
+      let same : m ≡ first = cc in (subst (λ (message : Message). A x.place message.request) same at, tt)
+  asked_more (first ∷ ms) (y ∷ ys) x m is at asked = (asked.0, asked_more ms ys x m is at asked.1)
+
+  pub placed_asks : (place number : ℕ) (ask : Ask) (s : Client) → AsksItsGroup A s → next_step s ≡ asks number ask → A place ask.request
+      → AsksItsGroup A (placed place s)
+  placed_asks place number ask s asks_its is at =
+      let sent = is_sent s number ask _ (asks_next s number ask s.left is) in
+      record {
+        asked = asked_more (group s.who s.stage) s.sent (record { place = place; told = None }) sent.message sent.found_there
+            (subst (λ (asked : Request). A place asked) sent.request at) asks_its.asked;
+      }
+
+  -- ---- once an Ask was served
+
+  same_place : (asked : Request) (place : ℕ) (old told : Option Told) (b : Bool) → A place asked
+      → A ((λ (x : Sent). x.place) (if b then record { place = place; told = told } else record { place = place; told = old })) asked
+  same_place asked place old told true at = at
+  same_place asked place old told false at = at
+
+  asked_told : (place : ℕ) (told : Told) (ms : List Message) (sent : List Sent) → AreAskedFor A ms sent → AreAskedFor A ms (map (told_at place told) sent)
+  asked_told place told ms [] asked = tt
+  asked_told place told [] (x ∷ xs) asked = absurd asked
+  asked_told place told (m ∷ ms) (x ∷ xs) asked =
+      (same_place m.request x.place x.told (Some (or_told x.told told)) (x.place == place) asked.0, asked_told place told ms xs asked.1)
+
+  settled_asks : (b : Bool) (s : Client) → AsksItsGroup A s → AsksItsGroup A (settled b s)
+  settled_asks true s asks_its = turned_asks (turn_at s s.stage) s
+  settled_asks false s asks_its = asks_its
+
+  pub served_asks : (place : ℕ) (told : Told) (s : Client) → AsksItsGroup A s → AsksItsGroup A (served place told s)
+  served_asks place told s asks_its =
+      let here : AsksItsGroup A (recorded place told s) = record { asked = asked_told place told (group s.who s.stage) s.sent asks_its.asked } in
+      asks_if (has_place place s.sent) _ s (settled_asks (is_complete (recorded place told s)) (recorded place told s) here) asks_its
+
+  -- ---- what is told of them
+
+  keys_answered : (who : Who) (keys : List LookKey) (sent : List Sent) (place : ℕ) (given : Reply) → AreAskedFor A (map (lookup_of who) keys) sent
+      → AnswersAsked A place given → AnswersKeys keys sent place given
+  keys_answered who [] [] place given asked told = tt
+  keys_answered who [] (x ∷ xs) place given asked told = tt
+  keys_answered who (k ∷ keys) [] place given asked told = tt
+  keys_answered who (k ∷ keys) (x ∷ xs) place given asked told =
+      (λ same. told k (subst (λ (p : ℕ). A p (request.Lookup k)) same asked.0), keys_answered who keys xs place given asked.1 told)
+
+  lookup_answered : (who : Who) (stage : Stage) (sent : List Sent) (place : ℕ) (given : Reply) → AreAskedFor A (group who stage) sent
+      → AnswersAsked A place given → AnswersLookup stage sent place given
+  lookup_answered who (round keys) sent place given asked told = keys_answered who keys sent place given asked told
+  lookup_answered who compose sent place given asked told = tt
+  lookup_answered who (act flow) sent place given asked told = tt
+  lookup_answered who (winds ending m ms) sent place given asked told = tt
+
+  pub answers_lookup : (place : ℕ) (given : Reply) (s : Client) → AsksItsGroup A s → AnswersAsked A place given → AnswersLookup s.stage s.sent place given
+  answers_lookup place given s asks_its told = lookup_answered s.who s.stage s.sent place given asks_its.asked told
+
+module _ (A B : ℕ → Request → Type 0) (weaker : (place : ℕ) (asked : Request) → A place asked → B place asked) where
+  weaker_group : (ms : List Message) (sent : List Sent) → AreAskedFor A ms sent → AreAskedFor B ms sent
+  weaker_group ms [] asked = tt
+  weaker_group [] (x ∷ xs) asked = absurd asked
+  weaker_group (m ∷ ms) (x ∷ xs) asked = (weaker x.place m.request asked.0, weaker_group ms xs asked.1)
+
+  pub weaker_asks : (s : Client) → AsksItsGroup A s → AsksItsGroup B s
+  weaker_asks s asks_its = record { asked = weaker_group (group s.who s.stage) s.sent asks_its.asked }

@@ -1,0 +1,6 @@
+pub mod AskedFacts
+pub mod ChainFacts
+pub mod KnowsFacts
+pub mod PathClients
+pub mod PathFacts
+pub mod ToldAlong

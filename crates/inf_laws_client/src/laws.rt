@@ -1,0 +1,106 @@
+//! Laws of clients: what they know is what they were told, and what they ask and send follows the path of their call.
+
+ghost use Rattle.std.specs.Prelude.{◌≡◌, ℕ, List, ◌∷◌, All, Some};
+ghost use Rattle.inf_base.specs.declared.access.Access.{Access};
+ghost use Rattle.inf_base.specs.declared.call.Call.{Call};
+ghost use Rattle.inf_base.specs.declared.entry.Entry.{Entry};
+ghost use Rattle.inf_base.specs.declared.key.Key.{Key};
+ghost use Rattle.inf_base.specs.declared.key.LookKey.TheVariants as look;
+ghost use Rattle.inf_message.specs.declared.ask.Ask.{Ask};
+ghost use Rattle.inf_message.specs.declared.reply.Reply.{Reply};
+ghost use Rattle.inf_message.specs.declared.request.Request.{Request};
+ghost use Rattle.inf_message.specs.History.{Told};
+ghost use Rattle.inf_server.specs.Chains.{chains_of};
+ghost use Rattle.inf_laws_client.specs.Asked.{AnswersAsked, AsksItsGroup, Posting, WasAsked};
+ghost use Rattle.inf_flow_dir.specs.Client.{Client, Sent, idle, placed};
+ghost use Rattle.inf_duty.specs.Duty.{asks, begun, given_up, next_step};
+ghost use Rattle.inf_flow_dir.specs.Flow.{Flow, Who, root_id};
+ghost use Rattle.inf_flow_dir.specs.Group.{Course, composed, course_of, keys_along};
+ghost use Rattle.inf_laws_client.specs.Paths.{AnswersLookup, AreToldFor, Follows, KeepsToPath, TurnFollows, names_of};
+ghost use Rattle.inf_laws_client.specs.Told.{AnswersTop, CarriesOnly, IsAmong, IsChainOf, KnowsOnly, LinksUp, Telling, TellsOnly};
+ghost use Rattle.inf_flow_dir.specs.Turn.{after_act, after_round, served};
+ghost use Rattle.inf_laws_directory.specs.Objects.{Objects, Service};
+ghost use Rattle.inf_laws_directory.specs.Phases.{Phases};
+ghost use Rattle.inf_laws_directory.specs.Standing.{IsToldAlong};
+ghost use Rattle.inf_laws_directory.specs.Told.{IsToldAs};
+
+/// A client knows what it was told, and links it into chains from the root on; `proofs/` says the same of whatever is
+/// true of all that is told.
+pub fn clients_know_what_they_were_told()
+    ensures start { (tellings : List Telling) (who : Who) (calls : List Call) → KnowsOnly (IsAmong tellings) (idle who calls) }
+    ensures composing { (tellings : List Telling) (s : Client)
+        → KnowsOnly (IsAmong tellings) s → KnowsOnly (IsAmong tellings) (composed s) }
+    ensures giving_up { (tellings : List Telling) (s : Client)
+        → KnowsOnly (IsAmong tellings) s → KnowsOnly (IsAmong tellings) (given_up s) }
+    ensures beginning { (tellings : List Telling) (s : Client) (ask : Ask)
+        → KnowsOnly (IsAmong tellings) s → KnowsOnly (IsAmong tellings) (begun ask s.sent s) }
+    ensures asking { (tellings : List Telling) (s : Client) (place number : ℕ) (ask : Ask)
+        → KnowsOnly (IsAmong tellings) s → next_step s ≡ asks number ask → KnowsOnly (IsAmong tellings) (placed place s) }
+    ensures telling { (tellings : List Telling) (s : Client) (place : ℕ) (told : Told)
+        → KnowsOnly (IsAmong tellings) s → TellsOnly (IsAmong tellings) told.reply
+        → AnswersTop s.stage s.sent place told.reply → KnowsOnly (IsAmong tellings) (served place told s) }
+    ensures more { (tellings others : List Telling) (s : Client)
+        → ((key : Key) (access : Access) → IsAmong tellings key access → IsAmong others key access)
+        → KnowsOnly (IsAmong tellings) s → KnowsOnly (IsAmong others) s }
+{}
+
+/// Each chain that a client sends is of what it was told.
+pub fn what_is_sent_was_told()
+    ensures { (tellings : List Telling) (s : Client) (number : ℕ) (ask : Ask)
+        → KnowsOnly (IsAmong tellings) s → next_step s ≡ asks number ask
+        → All (λ (chain : List Entry). IsChainOf (IsAmong tellings) chain) (chains_of ask.request) }
+{}
+
+/// A flow stands on the path of its call, where each lookup of a name is told under that name.
+pub fn flows_follow_paths()
+    ensures rounds { (who : Who) (asked : Call) (course : Course) (sent : List Sent) → course_of asked ≡ Some course
+        → AreToldFor (look.Top ∷ keys_along who (root_id who) course.looked) sent
+        → TurnFollows asked (after_round (Some course) sent) }
+    ensures acts { (who : Who) (asked : Call) (flow : Flow) (ask_place place : ℕ) (reply : Reply) → Follows asked flow
+        → TurnFollows asked (after_act who flow ask_place place reply) }
+{}
+
+/// A client keeps to the path of the call under way, where each lookup of a name is told under that name.
+pub fn clients_keep_to_paths()
+    ensures start { (who : Who) (calls : List Call) → KeepsToPath (idle who calls) }
+    ensures composing { (s : Client) → KeepsToPath s → KeepsToPath (composed s) }
+    ensures giving_up { (s : Client) → KeepsToPath s → KeepsToPath (given_up s) }
+    ensures beginning { (s : Client) (ask : Ask) → KeepsToPath s → KeepsToPath (begun ask s.sent s) }
+    ensures asking { (s : Client) (place number : ℕ) (ask : Ask)
+        → KeepsToPath s → next_step s ≡ asks number ask → KeepsToPath (placed place s) }
+    ensures telling { (s : Client) (place : ℕ) (told : Told)
+        → KeepsToPath s → AnswersLookup s.stage s.sent place told.reply → KeepsToPath (served place told s) }
+{}
+
+/// A client asks the messages of its group in their order, so that what answers what was asked at a place answers the
+/// client's lookup there.
+pub fn clients_ask_their_groups()
+    ensures start { (postings : List Posting) (who : Who) (calls : List Call) → AsksItsGroup (WasAsked postings) (idle who calls) }
+    ensures composing { (postings : List Posting) (s : Client)
+        → AsksItsGroup (WasAsked postings) s → AsksItsGroup (WasAsked postings) (composed s) }
+    ensures giving_up { (postings : List Posting) (s : Client)
+        → AsksItsGroup (WasAsked postings) s → AsksItsGroup (WasAsked postings) (given_up s) }
+    ensures beginning { (postings : List Posting) (s : Client) (ask : Ask)
+        → AsksItsGroup (WasAsked postings) s → AsksItsGroup (WasAsked postings) (begun ask s.sent s) }
+    ensures asking { (postings : List Posting) (s : Client) (place number : ℕ) (ask : Ask)
+        → AsksItsGroup (WasAsked postings) s → next_step s ≡ asks number ask → WasAsked postings place ask.request
+        → AsksItsGroup (WasAsked postings) (placed place s) }
+    ensures telling { (postings : List Posting) (s : Client) (place : ℕ) (told : Told)
+        → AsksItsGroup (WasAsked postings) s → AsksItsGroup (WasAsked postings) (served place told s) }
+    ensures more { (postings others : List Posting) (s : Client)
+        → ((place : ℕ) (asked : Request) → WasAsked postings place asked → WasAsked others place asked)
+        → AsksItsGroup (WasAsked postings) s → AsksItsGroup (WasAsked others) s }
+    ensures lookups { (postings : List Posting) (s : Client) (place : ℕ) (reply : Reply)
+        → AsksItsGroup (WasAsked postings) s → AnswersAsked (WasAsked postings) place reply
+        → AnswersLookup s.stage s.sent place reply }
+    ensures roots { (s : Client) (place : ℕ) (reply : Reply)
+        → KeepsToPath s → AnswersLookup s.stage s.sent place reply → AnswersTop s.stage s.sent place reply }
+{}
+
+/// A chain that carries only entries which are true now or whose directories are gone, and that links up, is one that was
+/// told along its names: it is what the laws of directories ask of a request.
+pub fn chains_are_told_along()
+    ensures { (service : Service) (objects : Objects) (root : Access) (phases : Phases) (chain : List Entry)
+        → CarriesOnly (IsToldAs service objects root phases) chain → LinksUp chain
+        → IsToldAlong service objects root phases (names_of chain) chain }
+{}
