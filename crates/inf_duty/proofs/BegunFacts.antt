@@ -1,172 +1,173 @@
 -- Where an ask finds a client that has sent nothing: calls that it gave up, and the call that it takes up.
-use Rattle.std.proofs.Common.{◌≡◌, ◌≢◌, ℕ, zero, suc, ◌+◌, ◌<◌, ◌≤◌, Bool, true, false, cond, eqb, List, [], ◌∷◌, length, drop, slice_get, Some, None, is_some, refl, sym, ap, ◌∙◌, subst, arith, length-drop}
+use Rattle.std.proofs.Common.{◌≡◌, ◌≢◌, ◌⊎◌, inl, inr, ⊎_elim, ℕ, ◌+◌, ◌<◌, Bool, true, false, cond, eqb, List, [], ◌∷◌, length, None, is_some, refl, sym, ap, ◌∙◌, arith}
 use Rattle.std.proofs.lemmas.Bool.Decides.{nat_tests}
-use Rattle.std.proofs.lemmas.Option.{slice_get_within}
+use Rattle.inf_base.specs.declared.answer.Answer.TheVariants as answer
 use Rattle.inf_base.specs.declared.call.Call.{Call}
-use Rattle.inf_base.specs.declared.key.LookKey.TheVariants as look
-use Rattle.inf_duty.specs.Client.{Client, Sent, rest_of}
-use Rattle.inf_duty.specs.Duty.{at_call, begun, given_up}
-use Rattle.inf_duty.specs.Group.{composed, composed_stage, first_round, op_of}
-use Rattle.inf_duty.specs.Kept.{ended_times}
-use Rattle.inf_duty.specs.Messages.{is_compose}
-use Rattle.inf_duty.specs.Turn.{next_op}
-use Rattle.inf_duty.specs.declared.stage.Stage.{Stage}
-use Rattle.inf_duty.specs.declared.stage.Stage.TheVariants as stage
+use Rattle.inf_duty.specs.Duty.{at_call, begun, found_at, given_up, given_up_in, is_acting, lifts}
+use Rattle.inf_duty.specs.Kept.{weight}
+use Rattle.inf_duty.specs.Messages.{is_compose, is_winding}
+use Rattle.inf_flow_dir.specs.Client.{Client, Ending, Sent, Stage, act, answers, compose, rest_of, retries, round, winds, wound}
+use Rattle.inf_flow_dir.specs.Flow.{clean_up}
+use Rattle.inf_flow_dir.specs.Group.{composed, composed_stage, course_of, next_course}
 use Rattle.inf_message.specs.declared.ask.Ask.{Ask}
-use Rattle.inf_message.specs.declared.op.Op.{Op}
+use Rattle.inf_message.specs.declared.request.Request.{Request}
+use Rattle.inf_message.specs.declared.step.Message.{Message}
 
-pub first_stage_is : (left : List Call) (s : Stage) → is_compose s ≡ true → composed_stage left s ≡ first_round (next_op left)
-first_stage_is [] stage.Compose open_still = refl
-first_stage_is (next ∷ calls) stage.Compose open_still = refl
-first_stage_is left (stage.Round keys) open_still = absurd (cc)
-first_stage_is left (stage.Act chain op) open_still = absurd (cc)
+-- ---- a client that winds up gives nothing up
+
+winding_given_in : (s : Client) (x : Stage) → is_winding x ≡ true → given_up_in s x ≡ s
+winding_given_in s compose is = absurd (cc)
+winding_given_in s (round keys) is = absurd (cc)
+winding_given_in s (act flow) is = absurd (cc)
+winding_given_in s (winds ending m ms) is = refl
+
+settled_stage : (s : Client) (x : Stage) → is_compose x ≡ false → x ≡ composed_stage s x
+settled_stage s compose settled = absurd (cc)
+settled_stage s (round keys) settled = refl
+settled_stage s (act flow) settled = refl
+settled_stage s (winds ending m ms) settled = refl
 
 same_stage : (s : Client) (next : Stage) → s.stage ≡ next → s ≡ record s { stage = next }
 same_stage s next is = ap (λ (x : Stage). record s { stage = x }) is
 
-pub opens : (s : Client) (op : Op) → is_compose s.stage ≡ true → Some op ≡ next_op s.left → record s { stage = stage.Round (look.Top ∷ []) } ≡ composed s
-opens s op open_still is =
-    ap (λ (x : Stage). record s { stage = x }) (sym (first_stage_is s.left s.stage open_still ∙ ap first_round (sym is)))
+-- what is settled stays
+pub stays_composed : (s : Client) → is_compose s.stage ≡ false → s ≡ composed s
+stays_composed s settled = same_stage s (composed_stage s s.stage) (settled_stage s s.stage settled)
 
-was_compose : (x : Stage) → is_compose x ≡ true → x ≡ stage.Compose
-was_compose stage.Compose open_still = refl
-was_compose (stage.Round keys) open_still = absurd (cc)
-was_compose (stage.Act chain op) open_still = absurd (cc)
+winding_acts : (x : Stage) → is_winding x ≡ true → is_acting x ≡ false
+winding_acts compose is = absurd (cc)
+winding_acts (round keys) is = absurd (cc)
+winding_acts (act flow) is = absurd (cc)
+winding_acts (winds ending m ms) is = refl
 
-pub opens_nothing : (s : Client) → is_compose s.stage ≡ true → None ≡ next_op s.left → s ≡ composed s
-opens_nothing s open_still is =
-    same_stage s (composed_stage s.left s.stage)
-    (was_compose s.stage open_still ∙ sym (first_stage_is s.left s.stage open_still ∙ ap first_round (sym is)))
+winding_settled : (x : Stage) → is_winding x ≡ true → is_compose x ≡ false
+winding_settled compose is = absurd (cc)
+winding_settled (round keys) is = absurd (cc)
+winding_settled (act flow) is = absurd (cc)
+winding_settled (winds ending m ms) is = refl
 
-pub some_call : (left : List Call) (op : Op) → next_op left ≡ Some op → 0 < length left
-some_call [] op is = absurd (cc)
-some_call (next ∷ calls) op is = omega arith
+either_same : (b c : Bool) (x y s : Client) → c ≡ false → y ≡ s → cond b (cond c x s) y ≡ s
+either_same true c x y s idle same = rw idle refl
+either_same false c x y s idle same = same
 
-pub some_built : (left : List Call) (op : Op) → next_op left ≡ Some op → is_some (next_op left) ≡ true
-some_built left op is = rw is refl
+found_stays : (asked : Request) (s : Client) → is_winding s.stage ≡ true → found_at asked s ≡ s
+found_stays asked s is =
+    either_same (lifts asked) (is_acting s.stage) (given_up s) (composed s) s (winding_acts s.stage is)
+    (sym (stays_composed s (winding_settled s.stage is)))
 
-pub built_left : (left : List Call) → is_some (next_op left) ≡ true → 0 < length left
+all_same : (b c : Bool) (x y s : Client) → x ≡ s → y ≡ s → cond b x (cond c y s) ≡ s
+all_same true c x y s here there = here
+all_same false true x y s here there = there
+all_same false false x y s here there = refl
+
+pub winding_stays : (number : ℕ) (asked : Request) (calls : List Call) (s : Client) → is_winding s.stage ≡ true → at_call number asked calls s ≡ s
+winding_stays number asked [] s is = refl
+winding_stays number asked (next ∷ calls) s is =
+    all_same (eqb number s.number) (is_some (course_of next)) (found_at asked s) (at_call number asked calls (given_up s)) s
+    (found_stays asked s is)
+    (ap (at_call number asked calls) (winding_given_in s s.stage is) ∙ winding_stays number asked calls s is)
+
+-- ---- a call is given up
+
+wound_left : (ending : Ending) (ms : List Message) (s : Client) → ending ≡ answers answer.NoMemory None → ((wound ending ms s).left ≡ rest_of s.left) ⊎ (is_winding (wound ending ms s).stage ≡ true)
+wound_left (answers given place) [] s is = inl refl
+wound_left retries [] s is = absurd (cc)
+wound_left ending (m ∷ ms) s is = inr refl
+
+given_left_in : (s : Client) (x : Stage) → is_winding x ≡ false → ((given_up_in s x).left ≡ rest_of s.left) ⊎ (is_winding (given_up_in s x).stage ≡ true)
+given_left_in s compose going = inl refl
+given_left_in s (round keys) going = inl refl
+given_left_in s (act flow) going = wound_left (answers answer.NoMemory None) (clean_up s.who flow) s refl
+given_left_in s (winds ending m ms) going = absurd (cc)
+
+wound_sent : (given : Ending) (ms : List Message) (s : Client) → (wound given ms s).sent ≡ []
+wound_sent (answers given place) [] s = refl
+wound_sent retries [] s = refl
+wound_sent ending (m ∷ ms) s = refl
+
+given_sent_in : (s : Client) (x : Stage) → is_winding x ≡ false → (given_up_in s x).sent ≡ []
+given_sent_in s compose going = refl
+given_sent_in s (round keys) going = refl
+given_sent_in s (act flow) going = wound_sent (answers answer.NoMemory None) (clean_up s.who flow) s
+given_sent_in s (winds ending m ms) going = absurd (cc)
+
+-- a client that gives up has sent nothing
+pub given_sent : (s : Client) → is_winding s.stage ≡ false → (given_up s).sent ≡ []
+given_sent s going = given_sent_in s s.stage going
+
+-- giving up a call before the one that is looked for changes nothing of what is found
+pub gives_up : (number : ℕ) (asked : Request) (s : Client) → s.number ≢ number → is_some (next_course s.left) ≡ true → is_winding s.stage ≡ false
+    → at_call number asked (given_up s).left (given_up s) ≡ at_call number asked s.left s
+gives_up number asked s unlike built going = by s.left refl built
+  where
+    elsewhere : eqb number s.number ≡ false
+    elsewhere = grind (arith, nat_tests)
+
+    by : (left : List Call) → s.left ≡ left → is_some (next_course left) ≡ true → at_call number asked (given_up s).left (given_up s) ≡ at_call number asked left s
+    by [] same built = absurd (cc)
+    by (next ∷ calls) same built =
+        let step : at_call number asked (next ∷ calls) s ≡ at_call number asked calls (given_up s) = rw (elsewhere, built) refl in
+        ⊎_elim
+        (λ e. ap (λ xs. at_call number asked xs (given_up s)) (e ∙ ap rest_of same) ∙ sym step)
+        (λ w. winding_stays number asked (given_up s).left (given_up s) w ∙ sym (winding_stays number asked calls (given_up s) w) ∙ sym step)
+        (given_left_in s s.stage going)
+
+pub built_left : (left : List Call) → is_some (next_course left) ≡ true → 0 < length left
 built_left [] is = absurd (cc)
 built_left (next ∷ calls) is = omega arith
 
-drop_rest : (k : ℕ) (calls : List Call) → rest_of (drop k calls) ≡ drop (suc k) calls
-drop_rest zero [] = refl
-drop_rest zero (next ∷ calls) = refl
-drop_rest (suc k) [] = refl
-drop_rest (suc k) (next ∷ calls) = drop_rest k calls
+weight_wound : (ending : Ending) (ms : List Message) (s : Client) → ending ≡ answers answer.NoMemory None → 0 < length s.left → weight (wound ending ms s) < length s.left + 1
+weight_wound (answers given place) [] s is some = rest s.left some
+  where
+    rest : (left : List Call) → 0 < length left → length (rest_of left) + 1 < length left + 1
+    rest [] some = absurd (omega arith)
+    rest (next ∷ calls) some = omega arith
+weight_wound retries [] s is some = absurd (cc)
+weight_wound ending (m ∷ ms) s is some = omega arith
 
-pub times_left : (k : ℕ) (s : Client) → (ended_times k s).left ≡ drop k s.left
-times_left zero s = refl
-times_left (suc k) s = ap rest_of (times_left k s) ∙ drop_rest k s.left
+weight_in : (s : Client) (x : Stage) → is_winding x ≡ false → 0 < length s.left → weight (given_up_in s x) < length s.left + 1
+weight_in s compose going some = weight_wound (answers answer.NoMemory None) [] s refl some
+weight_in s (round keys) going some = weight_wound (answers answer.NoMemory None) [] s refl some
+weight_in s (act flow) going some = weight_wound (answers answer.NoMemory None) (clean_up s.who flow) s refl some
+weight_in s (winds ending m ms) going some = absurd (cc)
 
-pub times_number : (k : ℕ) (s : Client) → (ended_times k s).number ≡ s.number + k
-times_number zero s = omega arith
-times_number (suc k) s = let before = times_number k s in omega arith
+weight_is : (s : Client) → is_winding s.stage ≡ false → weight s ≡ length s.left + 1
+weight_is s going = rw going refl
 
-pub times_who : (k : ℕ) (s : Client) → (ended_times k s).who ≡ s.who
-times_who zero s = refl
-times_who (suc k) s = times_who k s
+pub gives_up_less : (s : Client) → is_winding s.stage ≡ false → is_some (next_course s.left) ≡ true → weight (given_up s) < weight s
+gives_up_less s going built = rw (weight_is s going) (weight_in s s.stage going (built_left s.left built))
 
-pub times_sent : (k : ℕ) (s : Client) → s.sent ≡ [] → (ended_times k s).sent ≡ []
-times_sent zero s none = none
-times_sent (suc k) s none = refl
+-- ---- where the walk ends
 
-pub times_stage : (k : ℕ) (s : Client) → 0 < k → (ended_times k s).stage ≡ stage.Compose
-times_stage zero s some = absurd (omega arith)
-times_stage (suc k) s some = refl
+-- a call that asks for nothing is where the client stays, as is one that winds up
+pub stays_at : (number : ℕ) (asked : Request) (s : Client) → s.number ≢ number → (is_some (next_course s.left) ≡ true → is_winding s.stage ≡ true) → at_call number asked s.left s ≡ s
+stays_at number asked s unlike stopped = by s.left refl (is_some (next_course s.left)) refl
+  where
+    elsewhere : eqb number s.number ≡ false
+    elsewhere = grind (arith, nat_tests)
 
--- so many calls are given up while some are left
-pub times_some : (k : ℕ) (s : Client) → k < length s.left → 0 < length (ended_times k s).left
-times_some k s within = rw (times_left k s) (omega (arith, length-drop k s.left))
+    by : (left : List Call) → s.left ≡ left → (b : Bool) → is_some (next_course s.left) ≡ b → at_call number asked left s ≡ s
+    by [] same b is = refl
+    by (next ∷ calls) same true is = winding_stays number asked (next ∷ calls) s (stopped is)
+    by (next ∷ calls) same false is =
+        let none : is_some (course_of next) ≡ false = ap (λ xs. is_some (next_course xs)) (sym same) ∙ is in
+        rw (elsewhere, none) refl
 
-pub next_op_at : (index : ℕ) (left : List Call) (call : Call) → slice_get left index ≡ Some call → next_op (drop index left) ≡ op_of call
-next_op_at zero [] call at = absurd (cc)
-next_op_at zero (next ∷ calls) call at = let same : next ≡ call = cc in ap op_of same
-next_op_at (suc index) [] call at = absurd (cc)
-next_op_at (suc index) (next ∷ calls) call at = next_op_at index calls call at
+pub at_nothing : (number : ℕ) (asked : Request) (s : Client) → s.left ≡ [] → at_call number asked s.left s ≡ s
+at_nothing number asked s over = ap (λ calls. at_call number asked calls s) over
 
-pub no_op_at : (index : ℕ) (left : List Call) → slice_get left index ≡ None → next_op (drop index left) ≡ None
-no_op_at zero [] at = refl
-no_op_at zero (next ∷ calls) at = absurd (cc)
-no_op_at (suc index) [] at = refl
-no_op_at (suc index) (next ∷ calls) at = no_op_at index calls at
+pub at_found : (number : ℕ) (asked : Request) (s : Client) → s.number ≡ number → (s.left ≡ [] → ⊥) → at_call number asked s.left s ≡ found_at asked s
+at_found number asked s same some = by s.left some
+  where
+    here : eqb number s.number ≡ true
+    here = grind (arith, nat_tests)
 
-pub drop_at : (index : ℕ) (left : List Call) (call : Call) → slice_get left index ≡ Some call → drop index left ≡ call ∷ drop (suc index) left
-drop_at zero [] call at = absurd (cc)
-drop_at zero (next ∷ calls) call at = let same : next ≡ call = cc in ap (λ c. c ∷ calls) same
-drop_at (suc index) [] call at = absurd (cc)
-drop_at (suc index) (next ∷ calls) call at = drop_at index calls call at
+    by : (left : List Call) → (left ≡ [] → ⊥) → at_call number asked left s ≡ found_at asked s
+    by [] some = absurd (some refl)
+    by (next ∷ calls) some = rw here refl
 
-pub drop_past : (index : ℕ) (left : List Call) → slice_get left index ≡ None → drop index left ≡ []
-drop_past zero [] at = refl
-drop_past zero (next ∷ calls) at = absurd (cc)
-drop_past (suc index) [] at = refl
-drop_past (suc index) (next ∷ calls) at = drop_past index calls at
-
--- ---- the walk to a call
-
--- so many calls were given up so far
-pub record IsOnTheWay (number : ℕ) (s : Client) (count : ℕ) : Type 0 where
-  pub within : count ≤ length s.left
-  pub same : at_call number (drop count s.left) (ended_times count s) ≡ at_call number s.left s
-
-on_call : (number count : ℕ) (s : Client) (call : Call) → slice_get s.left count ≡ Some call → IsOnTheWay number s count → at_call number s.left s ≡ at_call number (call ∷ drop (suc count) s.left) (ended_times count s)
-on_call number count s call at way =
-    sym way.same ∙ ap (λ calls. at_call number calls (ended_times count s)) (drop_at _ s.left call at)
-
-pub at_the_call : (number count : ℕ) (s : Client) (call : Call) → slice_get s.left count ≡ Some call → IsOnTheWay number s count → number ≡ s.number + count → at_call number s.left s ≡ composed (ended_times count s)
-at_the_call number count s call at way is =
-    let here : eqb number (ended_times count s).number ≡ true = grind (arith, nat_tests, times_number count s) in
-    on_call number count s call at way ∙ rw here refl
-
-pub at_no_call : (number count : ℕ) (s : Client) → slice_get s.left count ≡ None → IsOnTheWay number s count → at_call number s.left s ≡ ended_times count s
-at_no_call number count s at way =
-    sym way.same ∙ ap (λ calls. at_call number calls (ended_times count s)) (drop_past _ s.left at)
-
-pub sets_out : (number : ℕ) (s : Client) → IsOnTheWay number s 0
-sets_out number s = record { within = omega arith; same = refl }
-
-pub gives_up : (number count : ℕ) (s : Client) (call : Call) → slice_get s.left count ≡ Some call → IsOnTheWay number s count → number ≢ s.number + count → is_some (op_of call) ≡ true → IsOnTheWay number s (count + 1)
-gives_up number count s call at way unlike built =
-    let elsewhere : eqb number (ended_times count s).number ≡ false = grind (arith, nat_tests, times_number count s) in
-    let one : count + 1 ≡ suc count = omega arith in
-    record {
-      within = omega (arith, slice_get_within s.left _ call at);
-      same = rw one (sym (on_call number count s call at way ∙ rw (elsewhere, built) refl));
-    }
-
--- a call that asks for nothing is where the client stays
-pub stays_at : (number count : ℕ) (s : Client) (call : Call) → slice_get s.left count ≡ Some call → IsOnTheWay number s count → number ≢ s.number + count → is_some (op_of call) ≡ false → at_call number s.left s ≡ ended_times count s
-stays_at number count s call at way unlike other =
-    let elsewhere : eqb number (ended_times count s).number ≡ false = grind (arith, nat_tests, times_number count s) in
-    on_call number count s call at way ∙ rw (elsewhere, other) refl
-
--- ---- the end of the walk
-
-past_all : {X : Type 0} (xs : List X) (i : ℕ) → slice_get xs i ≡ None → length xs ≤ i
-past_all [] i none = omega arith
-past_all (x ∷ xs) zero none = absurd (cc)
-past_all (x ∷ xs) (suc i) none = let past = past_all xs i none in omega arith
-
-pub passed_all : (count : ℕ) (s : Client) → slice_get s.left count ≡ None → count ≡ 0 → 0 < length s.left → ⊥
-passed_all count s at none some = let past = past_all s.left _ at in omega arith
-
--- ---- where an ask finds the client
-
-settled_stage : (left : List Call) (x : Stage) → is_compose x ≡ false → x ≡ composed_stage left x
-settled_stage left stage.Compose settled = absurd (cc)
-settled_stage left (stage.Round keys) settled = refl
-settled_stage left (stage.Act chain op) settled = refl
-
-pub stays_composed : (s : Client) → is_compose s.stage ≡ false → s ≡ composed s
-stays_composed s settled = same_stage s (composed_stage s.left s.stage) (settled_stage s.left s.stage settled)
-
-pub times_compose : (k : ℕ) (s : Client) → (k ≡ 0 → is_compose s.stage ≡ true) → is_compose (ended_times k s).stage ≡ true
-times_compose zero s open_still = open_still refl
-times_compose (suc k) s open_still = refl
-
-pub begun_between : (ask : Ask) (s : Client) → s.sent ≡ [] → at_call ask.from.number s.left s ≡ begun ask s.sent s
-begun_between ask s none = subst (λ xs. at_call ask.from.number s.left s ≡ begun ask xs s) (sym none) refl
+pub begun_between : (ask : Ask) (s : Client) → s.sent ≡ [] → begun ask s.sent s ≡ at_call ask.from.number ask.request s.left s
+begun_between ask s none = ap (λ xs. begun ask xs s) none
 
 begun_with : (ask : Ask) (xs : List Sent) (s : Client) → (xs ≡ [] → ⊥) → s ≡ begun ask xs s
 begun_with ask [] s some = absurd (some refl)
@@ -175,15 +176,19 @@ begun_with ask (x ∷ xs) s some = refl
 pub begun_inside : (ask : Ask) (s : Client) → (s.sent ≡ [] → ⊥) → s ≡ begun ask s.sent s
 begun_inside ask s some = begun_with ask s.sent s some
 
-either : {A : Type 0} (P : A → Type 0) (b : Bool) (x y : A) → P x → P y → P (cond b x y)
-either P true x y here there = here
-either P false x y here there = there
+-- ---- found at its call
 
--- a call that is taken up has sent no more than before
-pub at_call_messages : (number : ℕ) (calls : List Call) (s : Client) → (at_call number calls s).counts.messages ≤ s.counts.messages
-at_call_messages number [] s = omega arith
-at_call_messages number (next ∷ calls) s =
-    let P : Client → Type 0 = λ t. t.counts.messages ≤ s.counts.messages in
-    let later = at_call_messages number calls (given_up s) in
-    either P (eqb number s.number) (composed s) _ (omega arith)
-    (either P (is_some (op_of next)) (at_call number calls (given_up s)) s (omega arith) (omega arith))
+pub found_lifts : (asked : Request) (s : Client) → lifts asked ≡ true → is_acting s.stage ≡ true → given_up s ≡ found_at asked s
+found_lifts asked s is acting = rw (is, acting) refl
+
+pub found_idle : (asked : Request) (s : Client) → lifts asked ≡ true → is_acting s.stage ≡ false → s ≡ found_at asked s
+found_idle asked s is acting = rw (is, acting) refl
+
+pub found_other : (asked : Request) (s : Client) → lifts asked ≡ false → composed s ≡ found_at asked s
+found_other asked s is = rw is refl
+
+pub acting_goes : (x : Stage) → is_acting x ≡ true → is_winding x ≡ false
+acting_goes compose is = absurd (cc)
+acting_goes (round keys) is = absurd (cc)
+acting_goes (act flow) is = refl
+acting_goes (winds ending m ms) is = absurd (cc)

@@ -1,11 +1,9 @@
-pub mod ResultFacts
-pub mod Placed
-pub mod MessageFacts
-pub mod PathFacts
-pub mod SendingFacts
+pub mod StartFacts
 pub mod TurnFacts
 pub mod BegunFacts
-pub mod NextFacts
-pub mod StartFacts
-pub mod OwnFacts
 pub mod StepFacts
+pub mod ResultFacts
+pub mod OwnFacts
+pub mod RecordFacts
+pub mod AnswerFacts
+pub mod BeginFacts

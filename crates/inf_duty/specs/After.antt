@@ -1,9 +1,11 @@
 -- The state of a client after a history.
 use Rattle.std.specs.Prelude.{ℕ, suc, ◌==◌, if◌then◌else◌, List, [], ◌∷◌, length}
-use Rattle.inf_duty.specs.Client.{Client, start}
 use Rattle.inf_duty.specs.Duty.{asked}
-use Rattle.inf_duty.specs.Turn.{served}
+use Rattle.inf_duty.specs.Start.{start}
 use Rattle.inf_duty.specs.World.{World}
+use Rattle.inf_flow_dir.specs.Client.{Client}
+use Rattle.inf_flow_dir.specs.Heard.{heard}
+use Rattle.inf_flow_dir.specs.Turn.{served}
 use Rattle.inf_message.specs.declared.event.Event.{Event}
 use Rattle.inf_message.specs.declared.event.Event.TheVariants as event
 use Rattle.inf_message.specs.History.{told_reply}
@@ -14,4 +16,4 @@ client_after world client [] = start world client
 client_after world client (event.Ask number ask ∷ h) =
     if ask.from.client == client then asked (suc (length h)) ask (client_after world client h) else client_after world client h
 client_after world client (event.Serve number ask_place given ∷ h) =
-    served ask_place (told_reply (suc (length h)) given) (client_after world client h)
+    served ask_place (told_reply (suc (length h)) (heard given)) (client_after world client h)

@@ -1,12 +1,14 @@
 -- What a client may send next.
-use Rattle.std.specs.Prelude.{◌≡◌, ℕ, ◌==◌, if◌then◌else◌, List, [], ◌∷◌, length, slice_get, Option, Some, None, is_some}
+use Rattle.std.specs.Prelude.{◌≡◌, ℕ, ◌==◌, Bool, true, false, if◌then◌else◌, List, [], ◌∷◌, length, slice_get, Option, Some, None, is_some}
 use Rattle.inf_base.specs.declared.answer.Answer.TheVariants as answer
 use Rattle.inf_base.specs.declared.call.Call.{Call}
-use Rattle.inf_duty.specs.Client.{Client, Sent, call_ref, ended, placed}
-use Rattle.inf_duty.specs.Group.{composed, group, op_of}
 use Rattle.inf_message.specs.declared.ask.Ask.{Ask}
 use Rattle.inf_message.specs.declared.request.Request.{Request}
+use Rattle.inf_message.specs.declared.request.Request.TheVariants as request
 use Rattle.inf_message.specs.declared.step.Message.{Message}
+use Rattle.inf_flow_dir.specs.Client.{Client, Sent, Stage, act, answers, call_ref, ended, placed, winds, wound}
+use Rattle.inf_flow_dir.specs.Flow.{clean_up}
+use Rattle.inf_flow_dir.specs.Group.{composed, course_of, group}
 
 pub data Next : Type 0 where
   -- this ask, to the server of this number
@@ -16,11 +18,8 @@ pub data Next : Type 0 where
   -- nothing any more
   is_over : Next
 
-abbrev pub ask_of : Client → Request → Ask
-ask_of s request = record { from = call_ref s; caller = s.who.caller; request = request }
-
 abbrev pub next_of : Client → Option Message → Next
-next_of s (Some message) = asks message.number (ask_of s message.request)
+next_of s (Some message) = asks message.number (record { from = call_ref s; caller = s.who.caller; request = message.request })
 next_of s None = waits
 
 abbrev pub next_in : Client → List Call → Next
@@ -31,21 +30,41 @@ next_in s (call ∷ calls) = next_of s (slice_get (group s.who s.stage) (length 
 abbrev pub next_step : Client → Next
 next_step s = next_in s s.left
 
--- a client that wants memory between two groups gives its call up; there is nothing to clean up behind a call of the
--- kinds that are built
-abbrev pub given_up : Client → Client
-given_up s = ended answer.NoMemory None s
+-- a client that wants memory between two groups takes the clean-up of its next step, and gives its call up
+abbrev pub given_up_in : Client → Stage → Client
+given_up_in s (act flow) = wound (answers answer.NoMemory None) (clean_up s.who flow) s
+given_up_in s (winds ending m ms) = s
+given_up_in s other = ended answer.NoMemory None s
 
--- the client at the call of this number, where it gives up those before it; a call of another kind asks for nothing,
--- so it wants no memory, and the client stays there
-abbrev pub at_call : ℕ → List Call → Client → Client
-at_call number [] s = s
-at_call number (call ∷ calls) s = if number == s.number then composed s else (if is_some (op_of call) then at_call number calls (given_up s) else s)
+abbrev pub given_up : Client → Client
+given_up s = given_up_in s s.stage
+
+-- the messages of clean-ups
+abbrev pub lifts : Request → Bool
+lifts (request.Cancel dir) = true
+lifts (request.Drop dir) = true
+lifts (request.Unseal dir) = true
+lifts other = false
+
+abbrev pub is_acting : Stage → Bool
+is_acting (act flow) = true
+is_acting other = false
+
+-- an ask of a clean-up shows that the client wanted memory for its next step
+abbrev pub found_at : Request → Client → Client
+found_at asked s = if lifts asked then (if is_acting s.stage then given_up s else s) else composed s
+
+-- the client at the call of this number, where it gives up those before it; one that has something to clean up does that
+-- first, and one that cleans up gives nothing up
+abbrev pub at_call : ℕ → Request → List Call → Client → Client
+at_call number asked [] s = s
+at_call number asked (call ∷ calls) s =
+    if number == s.number then found_at asked s else (if is_some (course_of call) then at_call number asked calls (given_up s) else s)
 
 -- whom the client's ask finds: within a group the next message; between groups it may have given up calls
 abbrev pub begun : Ask → List Sent → Client → Client
 begun ask (x ∷ xs) s = s
-begun ask [] s = at_call ask.from.number s.left s
+begun ask [] s = at_call ask.from.number ask.request s.left s
 
 -- the ask is the next one, of the call that it names
 abbrev pub Duty : Client → ℕ → Ask → Type 0

@@ -1,56 +1,72 @@
 -- What is kept true of a client in code, and words for what its parts do.
-use Rattle.std.specs.Prelude.{◌≡◌, ℕ, zero, suc, ◌+◌, ◌<◌, ◌≤◌, Bool, true, false, List, [], length, Option, Some, None, is_some}
+use Rattle.std.specs.Prelude.{◌≡◌, ℕ, ◌+◌, ◌<◌, ◌≤◌, not, true, List, [], ◌∷◌, length, filter, Option, Some, None, is_some}
 use Rattle.inf_base.specs.declared.answer.Answer.{Answer}
-use Rattle.inf_base.specs.declared.answer.Answer.TheVariants as answer
 use Rattle.inf_base.specs.declared.call.Call.{Call}
 use Rattle.inf_base.specs.declared.limits.TheConstants.{MOST_CALLS}
-use Rattle.inf_duty.specs.Client.{Client, Sent, Who, ended, no_counts, result_of}
-use Rattle.inf_duty.specs.Group.{composed, group}
-use Rattle.inf_duty.specs.Sending.{AreApart}
+use Rattle.inf_duty.specs.declared.standing.Standing.{Standing}
+use Rattle.inf_duty.specs.declared.standing.Standing.TheVariants as standing
+use Rattle.inf_flow_dir.specs.Client.{Client, Sent, is_told, one_if, result_of}
+use Rattle.inf_duty.specs.Messages.{is_winding}
+use Rattle.inf_flow_dir.specs.DirFlow.{IsMadeFor, IsReady}
+use Rattle.inf_flow_dir.specs.Draft.{course_with}
+use Rattle.inf_flow_dir.specs.Flow.{Who}
+use Rattle.inf_flow_dir.specs.Group.{next_course}
 use Rattle.inf_duty.specs.Tally.{without_serves}
-use Rattle.inf_duty.specs.Turn.{next_op}
-use Rattle.inf_duty.specs.declared.stage.Stage.{Stage}
-use Rattle.inf_duty.specs.declared.stage.Stage.TheVariants as stage
 use Rattle.inf_message.specs.declared.call_result.CallResult.{CallResult}
-use Rattle.inf_message.specs.declared.op.Op.{Op}
 
--- what is to follow a round of one key was made ready; a group belongs to a call that is built
-abbrev pub IsReady : List Call → Stage → Option Op → Type 0
-IsReady left stage.Compose draft = Unit {0}
-IsReady left (stage.Round keys) None = ⊥
-IsReady left (stage.Round keys) (Some op) = (next_op left ≡ Some op) × (length keys ≡ 1)
-IsReady left (stage.Act chain op) draft = is_some (next_op left) ≡ true
+-- a group belongs to a call that is built, and what follows a round was made ready
+abbrev pub IsOf : List Call → Standing → Type 0
+IsOf left standing.Compose = Unit {0}
+IsOf left (standing.Round keys draft) = (next_course left ≡ Some (course_with draft)) × (0 < length keys)
+IsOf left (standing.Act flow) = is_some (next_course left) ≡ true
+IsOf left (standing.Winds ending first rest) = is_some (next_course left) ≡ true
 
-pub record IsKept (number : ℕ) (left : List Call) (stage : Stage) (draft : Option Op) (sent : List Sent) (room : ℕ) (results capacity : ℕ) : Type 0 where
+-- what a message needs was computed
+abbrev pub IsComputed : Who → Standing → Type 0
+IsComputed who (standing.Act flow) = IsMadeFor who flow × IsReady flow
+IsComputed who other = Unit {0}
+
+abbrev pub told_count : List Sent → ℕ
+told_count sent = length (filter is_told sent)
+
+-- the answer to an Ask that is alone is kept nowhere; those of more are
+abbrev pub AloneOrFits : ℕ → List Sent → Type 0
+AloneOrFits rooms [] = Unit {0}
+AloneOrFits rooms (x ∷ []) = x.told ≡ None
+AloneOrFits rooms (x ∷ y ∷ sent) = length (x ∷ y ∷ sent) ≤ rooms + told_count (x ∷ y ∷ sent)
+
+-- room for each answer of a group that is kept
+abbrev pub RoomsFit : Standing → ℕ → List Sent → Type 0
+RoomsFit standing.Compose rooms sent = length sent ≤ rooms + told_count sent
+RoomsFit (standing.Round keys draft) rooms sent = (length keys ≤ rooms + told_count sent) × (length sent ≤ rooms + told_count sent)
+RoomsFit (standing.Act flow) rooms sent = AloneOrFits rooms sent
+RoomsFit (standing.Winds ending first rest) rooms sent = AloneOrFits rooms sent
+
+-- the Asks of a group take no memory
+abbrev pub AsksFit : Standing → ℕ → Type 0
+AsksFit (standing.Round keys draft) capacity = length keys ≤ capacity
+AsksFit other capacity = Unit {0}
+
+pub record IsKept (who : Who) (number : ℕ) (left : List Call) (stands : Standing) (sent : List Sent) (capacity rooms : ℕ) (results most_results : ℕ) : Type 0 where
   -- the numbers of the calls that are left fit
   pub numbered : number + length left ≤ MOST_CALLS + 1
-  pub ready : IsReady left stage draft
-  -- the first Ask of a group takes no memory
-  pub first_fits : 0 < room
+  pub is_of : IsOf left stands
+  pub computed : IsComputed who stands
+  pub rooms_fit : RoomsFit stands rooms sent
+  -- the first Ask of a group takes no memory, nor do those of a round
+  pub first_fits : 0 < capacity
+  pub asks_fit : AsksFit stands capacity
   -- neither does a result
-  pub results_fit : results + length left ≤ capacity
-  pub apart : AreApart sent
-  -- a group has one message at most
-  pub one_message : (who : Who) → length (group who stage) ≤ 1
+  pub results_fit : results + length left ≤ most_results
 
 -- the result of the call under way, were it to end so
 abbrev pub ended_result : Answer → Option ℕ → Client → CallResult
 ended_result given place s = result_of given place s.counts.last s
 
--- a client that gives up so many calls
-abbrev pub ended_times : ℕ → Client → Client
-ended_times zero s = s
-ended_times (suc count) s = ended answer.NoMemory None (ended_times count s)
-
--- it takes up the call that it has come to, if that is the one looked for
-abbrev pub settled_at : Bool → Client → Client
-settled_at true s = composed s
-settled_at false s = s
-
 -- a client that remembers no Serve of the call under way
 abbrev pub unserved : Client → Client
 unserved s = record s { counts = without_serves s.counts }
 
--- a client before its first Ask
-abbrev pub idle_as : Who → List Call → Client
-idle_as who calls = record { who = who; number = 1; left = calls; stage = stage.Compose; sent = []; counts = no_counts; results = [] }
+-- how often a client can give up yet
+abbrev pub weight : Client → ℕ
+weight s = length s.left + one_if (not (is_winding s.stage))

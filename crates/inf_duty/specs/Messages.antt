@@ -1,16 +1,26 @@
--- Words for messages and stages that the code asks about.
+-- Words for stages and messages that the code asks about.
 use Rattle.std.specs.Prelude.{ℕ, Bool, true, false}
-use Rattle.inf_duty.specs.declared.stage.Stage.{Stage}
-use Rattle.inf_duty.specs.declared.stage.Stage.TheVariants as stage
-use Rattle.inf_message.specs.declared.request.Request.{Request}
+use Rattle.inf_duty.specs.Duty.{Next, asks}
+use Rattle.inf_flow_dir.specs.Client.{Client, Stage, act, call_ref, compose, round, winds}
+use Rattle.inf_message.specs.declared.ask.Ask.{Ask}
 use Rattle.inf_message.specs.declared.step.Message.{Message}
-
--- a message from its two parts
-abbrev pub message : ℕ → Request → Message
-message number request = record { number = number; request = request }
 
 -- nothing is settled yet
 abbrev pub is_compose : Stage → Bool
-is_compose stage.Compose = true
-is_compose (stage.Round keys) = false
-is_compose (stage.Act chain op) = false
+is_compose compose = true
+is_compose other = false
+
+-- nothing is left of the call but what winds it up
+abbrev pub is_winding : Stage → Bool
+is_winding (winds ending m ms) = true
+is_winding other = false
+
+-- the group is one message, and no round
+abbrev pub has_one_message : Stage → Bool
+has_one_message (act flow) = true
+has_one_message (winds ending m ms) = true
+has_one_message other = false
+
+-- the ask that sends a message, and the number of the server that it is for
+abbrev pub post_of : Client → Message → ℕ × Ask
+post_of s message = (message.number, record { from = call_ref s; caller = s.who.caller; request = message.request })

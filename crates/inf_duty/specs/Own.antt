@@ -1,10 +1,12 @@
 -- A client by its own Asks, in the order of asking, each with its answer if it was served.
 use Rattle.std.specs.Prelude.{◌≡◌, ℕ, Bool, true, ◌&&◌, nat_lt, List, [], ◌∷◌, fold, map, reverse, Option, Some, None}
-use Rattle.inf_duty.specs.Client.{Client, start}
 use Rattle.inf_duty.specs.Duty.{asked}
-use Rattle.inf_duty.specs.Turn.{served}
+use Rattle.inf_duty.specs.Start.{start}
 use Rattle.inf_duty.specs.World.{World}
 use Rattle.inf_duty.specs.declared.own.OwnAsk.{OwnAsk}
+use Rattle.inf_flow_dir.specs.Client.{Client}
+use Rattle.inf_flow_dir.specs.Heard.{heard}
+use Rattle.inf_flow_dir.specs.Turn.{served}
 use Rattle.inf_message.specs.declared.reply.Reply.{Reply}
 use Rattle.inf_message.specs.declared.event.Event.{Event}
 use Rattle.inf_message.specs.History.{Own, Told, asks_of, told_reply}
@@ -12,7 +14,7 @@ use Rattle.inf_message.specs.History.{Own, Told, asks_of, told_reply}
 -- the client once an Ask was answered, if it was
 abbrev pub after_answer : ℕ → Option (ℕ × Reply) → Client → Client
 after_answer ask_place None s = s
-after_answer ask_place (Some told) s = served ask_place (told_reply told.0 told.1) s
+after_answer ask_place (Some told) s = served ask_place (told_reply told.0 (heard told.1)) s
 
 -- the client once it has made an Ask, and knows the answer
 abbrev pub after_own : Client → OwnAsk → Client

@@ -1,6 +1,7 @@
 -- How the counts of a call change.
-use Rattle.std.specs.Prelude.{ℕ, ◌+◌, Bool, true, false, not, Some, None}
-use Rattle.inf_duty.specs.Client.{Counts, first_place, one_if}
+use Rattle.std.specs.Prelude.{ℕ, ◌+◌, Bool, true, false, not, None}
+use Rattle.inf_flow_dir.specs.Client.{Counts, first_place, one_if}
+use Rattle.inf_flow_dir.specs.Turn.{later_place}
 
 -- an Ask more
 abbrev pub with_ask : ℕ → Bool → Counts → Counts
@@ -13,9 +14,9 @@ with_ask place begins_round c = record {
   is_begun = true;
 }
 
--- a Serve more
+-- a Serve more; the latest is the last
 abbrev pub with_serve : ℕ → Counts → Counts
-with_serve place c = record c { last = Some place }
+with_serve place c = record c { last = later_place c.last place }
 
 -- no Serve is known any more
 abbrev pub without_serves : Counts → Counts

@@ -3,33 +3,33 @@
 ghost use Rattle.std.specs.Prelude.{◌≡◌, ◌+◌, ◌<◌, ◌≤◌, ◌^◌, ◌↔◌, false, IfOk, IsTrue, OnOk};
 ghost use Rattle.inf_base.specs.declared.limits.TheConstants.{MOST_CALLS};
 ghost use Rattle.inf_base.specs.Setup.{call_count};
-ghost use Rattle.inf_duty.specs.Client.{has_place};
+ghost use Rattle.inf_duty.specs.ClientBy.{client_by};
 ghost use Rattle.inf_duty.specs.Duty.{Duty};
 ghost use Rattle.inf_duty.specs.World.{world_by};
 ghost use Rattle.inf_duty.specs.Own.{AreInOrder, after_own, client_of};
 
 use crate::client::ClientMachine;
 use crate::own::OwnAsk;
-use inf_base::{NoMemory, Setup, TryClone};
+use inf_base::{NoMemory, Setup};
 use inf_birth::IdRule;
 use inf_message::Ask;
 use std::alloc::Global;
 
 /// The client makes one more of its Asks, and is answered if that Ask was.
-fn follow(alloc: Global, machine: &mut ClientMachine, own: &OwnAsk) -> Result<(), NoMemory>
-    requires fresh { has_place own.now.ask_place machine.old.sent ≡ false }
-    requires room { machine.old.counts.messages + 1 < 2 ^ 64 }
-    ensures { OnOk result (machine.new ≡ after_own machine.old own.now) }
+fn follow<R: IdRule>(
+    alloc: Global,
+    machine: &mut ClientMachine<R>,
+    own: &OwnAsk,
+) -> Result<(), NoMemory>
+    requires { machine.old.counts.messages + 1 < 2 ^ 64 }
+    ensures { OnOk result (client_by R.digest_of machine.new
+        ≡ after_own (client_by R.digest_of machine.old) own.now) }
 {
     machine.asked(alloc, own.ask_place, &own.ask)?;
-    match &own.told {
-        None => Ok(()),
-        Some((serve_place, reply)) => {
-            let reply = reply.try_clone(alloc)?;
-            let _ = machine.told(own.ask_place, *serve_place, reply);
-            Ok(())
-        }
+    if let Some((serve_place, reply)) = &own.told {
+        machine.told(own.ask_place, *serve_place, reply);
     }
+    Ok(())
 }
 
 /// Whether the Asks stand in the order of asking, which their places tell.
@@ -50,7 +50,7 @@ pub fn are_in_order(own: &[OwnAsk]) -> bool
 /// the order of asking, and was given their answers.
 pub fn allowed<R: IdRule>(
     alloc: Global,
-    rule: &R,
+    rule: R,
     setup: &Setup,
     client: u32,
     own: &[OwnAsk],
@@ -61,11 +61,11 @@ pub fn allowed<R: IdRule>(
     requires few_calls { call_count setup.now.clients ≤ MOST_CALLS }
     requires order { AreInOrder own.now }
     ensures { IfOk result (λ yes. IsTrue yes
-        ↔ Duty (client_of (world_by (R.digest_of rule.now) setup.now) client own.now) number ask.now) }
+        ↔ Duty (client_of (world_by (R.digest_of rule) setup.now) client own.now) number ask.now) }
 {
     let mut machine = ClientMachine::start(alloc, rule, setup, client)?;
     for made in own {
         follow(alloc, &mut machine, made)?;
     }
-    Ok(machine.allows(number, ask))
+    machine.allows(alloc, number, ask)
 }

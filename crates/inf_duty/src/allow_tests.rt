@@ -150,7 +150,7 @@ fn may<R: AllocGlobal + Abort>(
 ) -> Result<bool, NoMemory> {
     assert!(rt; are_in_order(own));
     let setup = setup(rt.alloc())?;
-    allowed(rt.alloc(), &RULE, &setup, 0, own, number, ask)
+    allowed(rt.alloc(), RULE, &setup, 0, own, number, ask)
 }
 
 fn may_look_up<R: AllocGlobal + Abort>(

@@ -4,24 +4,23 @@ ghost use Rattle.std.specs.Prelude.{◌≡◌, ◌+◌, ◌<◌, ◌≤◌, ◌�
 ghost use Rattle.std.specs.Option.{option_copied};
 ghost use Rattle.inf_base.specs.declared.limits.TheConstants.{MOST_CALLS};
 ghost use Rattle.inf_base.specs.Setup.{call_count};
-ghost use Rattle.inf_duty.specs.Client.{ended, start};
-ghost use Rattle.inf_duty.specs.Kept.{ended_result, idle_as};
+ghost use Rattle.inf_duty.specs.ClientBy.{client_by};
+ghost use Rattle.inf_duty.specs.Kept.{ended_result};
+ghost use Rattle.inf_duty.specs.Start.{start};
 ghost use Rattle.inf_duty.specs.World.{world_by};
+ghost use Rattle.inf_flow_dir.specs.Client.{ended, idle};
+ghost use Rattle.inf_flow_dir.specs.Party.{who_of};
 
 mod allowing;
 mod asking;
 mod step;
 mod turning;
 
-use crate::draft::Draft;
-use crate::party::Party;
-use crate::sending::Sending;
-use crate::stage::Stage;
+use crate::standing::Standing;
 use crate::tally::Tally;
-use inf_base::{
-    Answer, Call, CallRef, Caller, ClientLine, NoMemory, Place, Setup, Triple, TryClone,
-};
-use inf_birth::{IdRule, identify};
+use inf_base::{Answer, Call, CallRef, Caller, ClientLine, NoMemory, Place, Setup, TryClone};
+use inf_birth::IdRule;
+use inf_flow_dir::{Party, ReplyRoom, Sending};
 use inf_message::CallResult;
 use std::alloc::Global;
 use std::collections::VecDeque;
@@ -30,69 +29,66 @@ use std::marker::Model;
 /// A client of a script, which asks for one call after another. Its answers take no memory: what they need was made
 /// ready before the Asks.
 #[derive(Drop)]
-pub struct ClientMachine {
-    party: Party,
+pub struct ClientMachine<R: IdRule> {
+    party: Party<R>,
     number: u32,
     left: VecDeque<Call>,
-    stage: Stage,
-    /// What follows a round.
-    draft: Option<Draft>,
+    stands: Standing,
     sent: Vec<Sending>,
+    /// For the answers that are still to come.
+    rooms: Vec<ReplyRoom>,
     counts: Tally,
     results: Vec<CallResult>,
 }
 
-impl Model for ClientMachine {
+impl<R: IdRule> Model for ClientMachine<R> {
     ghost use Rattle.std.specs.Prelude.{vec_len, vec_capacity};
-    ghost use Rattle.inf_duty.specs.Client.{Client};
+    ghost use Rattle.inf_duty.specs.ClientBy.{ClientBy};
     ghost use Rattle.inf_duty.specs.Kept.{IsKept};
+    ghost use Rattle.inf_duty.specs.Standing.{stage_of};
+    ghost use Rattle.inf_flow_dir.specs.Party.{who_of};
 
-    ghost Value = { Client };
+    ghost Value = { ClientBy R };
 
     ghost view = { λ c. record {
       who = c.party;
       number = c.number;
       left = c.left.items;
-      stage = c.stage;
+      stage = stage_of c.stands;
       sent = c.sent.items;
       counts = c.counts;
       results = c.results.items;
     } };
 
-    ghost invariant = { λ c. IsKept c.number c.left.items c.stage c.draft c.sent.items (vec_capacity c.sent)
-        (vec_len c.results) (vec_capacity c.results) };
+    ghost invariant = { λ c. IsKept (who_of R.digest_of c.party) c.number c.left.items c.stands c.sent.items
+        (vec_capacity c.sent) (vec_len c.rooms) (vec_len c.results) (vec_capacity c.results) };
 }
 
-impl ClientMachine {
+impl<R: IdRule> ClientMachine<R> {
     /// The client of this number before its first Ask. A client that the setup does not have calls nothing.
-    pub fn start<R: IdRule>(
-        alloc: Global,
-        rule: &R,
-        setup: &Setup,
-        client: u32,
-    ) -> Result<Self, NoMemory>
+    pub fn start(alloc: Global, rule: R, setup: &Setup, client: u32) -> Result<Self, NoMemory>
         requires some_servers { 1 ≤ setup.now.servers }
         requires few_calls { call_count setup.now.clients ≤ MOST_CALLS }
-        ensures { IfOk result (λ made. made ≡ start (world_by (R.digest_of rule.now) setup.now) client) }
+        ensures { IfOk result (λ made.
+            client_by R.digest_of made ≡ start (world_by (R.digest_of rule) setup.now) client) }
     {
-        let root = identify(alloc, rule, &Triple::Root)?;
         match line_of(setup, client) {
             Some(line) => ClientMachine::idle(
                 alloc,
-                Party::new(client, line.caller, setup.servers, root),
+                Party::new(alloc, rule, client, line.caller, setup.servers)?,
                 line.calls.as_slice(),
             ),
             None => ClientMachine::idle(
                 alloc,
-                Party::new(client, NOBODY, setup.servers, root),
+                Party::new(alloc, rule, client, NOBODY, setup.servers)?,
                 &[],
             ),
         }
     }
 
-    fn idle(alloc: Global, party: Party, calls: &[Call]) -> Result<Self, NoMemory>
+    fn idle(alloc: Global, party: Party<R>, calls: &[Call]) -> Result<Self, NoMemory>
         requires { length calls.now ≤ MOST_CALLS }
-        ensures { IfOk result (λ made. made ≡ idle_as party calls.now) }
+        ensures { IfOk result (λ made. client_by R.digest_of made ≡ idle (who_of R.digest_of party) calls.now) }
     {
         let left = copied(alloc, calls)?;
         let sent = Vec::with_capacity(alloc, 1)?;
@@ -101,9 +97,9 @@ impl ClientMachine {
             party,
             number: 1,
             left,
-            stage: Stage::Compose,
-            draft: None,
+            stands: Standing::Compose,
             sent,
+            rooms: Vec::new(alloc),
             counts: Tally::new(),
             results,
         })
@@ -111,7 +107,7 @@ impl ClientMachine {
 
     /// The result of the call under way, were it to end so.
     fn result_of(&self, answer: Answer, place: Option<Place>) -> CallResult
-        ensures { result ≡ ended_result answer place self.now }
+        ensures { result ≡ ended_result answer place (client_by R.digest_of self.now) }
     {
         CallResult {
             call: CallRef {
@@ -131,13 +127,13 @@ impl ClientMachine {
     /// The call under way ends with this answer, and the next one is under way.
     fn end(&mut self, answer: Answer, place: Option<Place>)
         requires { 0 < length self.old.left }
-        ensures { self.new ≡ ended answer place self.old }
+        ensures { client_by R.digest_of self.new ≡ ended answer place (client_by R.digest_of self.old) }
     {
         let result = self.result_of(answer, place);
         self.results.push_reserved(result);
         let _ = self.left.pop_front();
         self.number += 1;
-        self.stage = Stage::Compose;
+        self.stands = Standing::Compose;
         self.sent.clear();
         self.counts = Tally::new();
     }
@@ -151,10 +147,10 @@ impl ClientMachine {
         self.number
     }
 
-    fn call_at(&self, index: usize) -> Option<&Call>
-        ensures { option_copied result ≡ slice_get self.now.left index }
+    fn first_call(&self) -> Option<&Call>
+        ensures { option_copied result ≡ slice_get self.now.left 0 }
     {
-        self.left.get(index)
+        self.left.get(0)
     }
 
     /// Whether it has asked for nothing of its group.

@@ -1,7 +1,7 @@
 //! What a call takes.
 
 ghost use Rattle.std.specs.Prelude.{◌≡◌, ◌+◌, ◌<◌, ◌≤◌, ◌^◌};
-ghost use Rattle.inf_duty.specs.Client.{no_counts};
+ghost use Rattle.inf_flow_dir.specs.Client.{no_counts};
 ghost use Rattle.inf_duty.specs.Tally.{at_new_attempt, with_ask, with_serve, without_serves};
 
 use inf_base::Place;
@@ -20,7 +20,7 @@ pub struct Tally {
 
 impl Model for Tally {
     ghost use Rattle.std.specs.Prelude.{◌≤◌};
-    ghost use Rattle.inf_duty.specs.Client.{Counts};
+    ghost use Rattle.inf_flow_dir.specs.Client.{Counts};
 
     ghost Value = { Counts };
 
@@ -99,10 +99,15 @@ impl Tally {
         self.is_begun = true;
     }
 
+    /// A Serve more, of which the latest is the last.
     pub fn count_serve(&mut self, place: Place)
         ensures { self.new ≡ with_serve place self.old }
     {
-        self.last = Some(place);
+        let last = match self.last {
+            None => place,
+            Some(earlier) => { if earlier < place { place } else { earlier } }
+        };
+        self.last = Some(last);
     }
 
     /// Only a call that has ended has a last Serve.

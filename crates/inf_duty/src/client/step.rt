@@ -1,25 +1,27 @@
 //! A client that is driven: what it is to do next, and the steps that it takes.
 
-ghost use Rattle.std.specs.Prelude.{◌≡◌, ◌≢◌, ◌↔◌, ◌+◌, ◌<◌, ◌≤◌, ◌^◌, [], length, is_some, true, false, Some, IfOk, OnOk, OnErr, IsTrue};
-ghost use Rattle.inf_duty.specs.Client.{placed};
+ghost use Rattle.std.specs.Prelude.{◌≡◌, ◌↔◌, ◌+◌, ◌<◌, ◌≤◌, ◌∷◌, ◌^◌, [], length, map, is_some, true, false, None, IfOk, IsTrue};
+ghost use Rattle.inf_duty.specs.ClientBy.{client_by};
 ghost use Rattle.inf_duty.specs.ClientStep.{IsQuiet, is_ask, next_as};
-ghost use Rattle.inf_duty.specs.Duty.{asks, given_up, next_of, next_step};
-ghost use Rattle.inf_duty.specs.Group.{composed, group};
+ghost use Rattle.inf_duty.specs.Duty.{asks, given_up, next_step};
 ghost use Rattle.inf_duty.specs.Kept.{unserved};
-ghost use Rattle.inf_duty.specs.Messages.{is_compose};
-ghost use Rattle.inf_duty.specs.Outcome.{results_of};
-ghost use Rattle.inf_duty.specs.Turn.{next_op};
+ghost use Rattle.inf_duty.specs.Messages.{is_compose, is_winding, post_of};
+ghost use Rattle.inf_duty.specs.Outcome.{results_of, so_far};
+ghost use Rattle.inf_flow_dir.specs.Client.{compose, placed, result_of};
+ghost use Rattle.inf_flow_dir.specs.Group.{composed, group, lookup_of, next_course};
 
 use super::ClientMachine;
-use crate::call_op::has_op;
 use crate::client_step::ClientStep;
-use crate::group::{first_message, is_compose, is_round};
-use crate::sending::Sending;
-use inf_base::{Answer, CallRef, NoMemory, Place};
+use crate::group::{is_round, is_winding};
+use crate::standing::Standing;
+use inf_base::{Answer, CallRef, LookKey, NoMemory, Place};
+use inf_birth::IdRule;
+use inf_flow_dir::{Ending, Sending, has_course};
 use inf_message::{Ask, CallResult, Message};
 use std::alloc::Global;
+use std::mem;
 
-impl ClientMachine {
+impl<R: IdRule> ClientMachine<R> {
     pub fn client(&self) -> u32
         ensures { result ≡ self.now.who.client }
     {
@@ -50,35 +52,27 @@ impl ClientMachine {
     /// Whether the call under way is of a kind that is built. Between two groups there is an ask to make for it.
     #[tactic(auto, using(crate::proofs::StepFacts::built_asks))]
     pub fn is_built(&self) -> bool
-        ensures value { result ≡ is_some (next_op self.now.left) }
-        ensures asking { self.now.sent ≡ [] → result ≡ true → is_ask (next_step (composed self.now)) ≡ true }
+        ensures value { result ≡ is_some (next_course self.now.left) }
+        ensures asking { self.now.sent ≡ [] → result ≡ true
+            → is_ask (next_step (composed (client_by R.digest_of self.now))) ≡ true }
     {
-        let _ = &self.stage;
-        match self.call_at(0) {
-            Some(call) => has_op(call),
+        let _ = &self.stands;
+        match self.first_call() {
+            Some(call) => has_course(call),
             None => false,
         }
     }
 
-    /// What is asked for next is settled, where nothing is yet.
-    #[tactic(auto, using(crate::proofs::StepFacts::composed_settled))]
-    pub fn take_up(&mut self, alloc: Global) -> Result<(), NoMemory>
-        requires between { self.old.sent ≡ [] }
-        ensures ok { OnOk result (self.new ≡ composed self.old) }
-        ensures settled { OnOk result (is_some (next_op self.old.left) ≡ true → is_compose self.new.stage ≡ false) }
-        ensures err { OnErr result (self.new ≡ self.old) }
+    /// Whether nothing is left of the call under way but the messages that wind it up.
+    pub fn is_winding(&self) -> bool
+        ensures { result ≡ is_winding self.now.stage }
     {
-        if !is_compose(&self.stage) {
-            return Ok(());
-        }
-        let opening = self.opening_at(alloc, 0)?;
-        self.compose(opening);
-        Ok(())
+        is_winding(&self.stands)
     }
 
     /// The ask that sends this message, and the server that it is for.
-    fn posted(&self, message: Message) -> (u32, Ask)
-        ensures { next_of self.now (Some message) ≡ asks result.0 result.1 }
+    pub(super) fn posted(&self, message: Message) -> (u32, Ask)
+        ensures { result ≡ post_of (client_by R.digest_of self.now) message }
     {
         let Message { number, request } = message;
         let ask = Ask {
@@ -92,26 +86,59 @@ impl ClientMachine {
         (number, ask)
     }
 
-    /// The one message of the group that is settled.
-    #[tactic(auto, using(crate::proofs::StepFacts::first_there, crate::proofs::StepFacts::ready_left, crate::proofs::StepFacts::first_next))]
-    pub fn first_ask(&self, alloc: Global) -> Result<(u32, Ask), NoMemory>
-        requires between { self.now.sent ≡ [] }
-        requires settled { is_compose self.now.stage ≡ false }
-        ensures { IfOk result (λ first. next_step self.now ≡ asks first.0 first.1) }
+    fn lookups(&self, alloc: Global, keys: &[LookKey]) -> Result<Vec<(u32, Ask)>, NoMemory>
+        ensures { IfOk result (λ posts. posts.items
+            ≡ map (post_of (client_by R.digest_of self.now)) (map (lookup_of (client_by R.digest_of self.now).who) keys.now)) }
     {
-        let Some(message) = first_message(alloc, &self.party, &self.stage)? else {
-            unreachable!()
-        };
-        Ok(self.posted(message))
+        let mut posts = Vec::with_capacity(alloc, keys.len())?;
+        for key in keys {
+            let message = self.party.lookup(alloc, key)?;
+            posts.push(self.posted(message))?;
+        }
+        Ok(posts)
+    }
+
+    fn alone(&self, alloc: Global, message: Message) -> Result<Vec<(u32, Ask)>, NoMemory>
+        ensures { IfOk result (λ posts. posts.items ≡ post_of (client_by R.digest_of self.now) message ∷ []) }
+    {
+        let mut posts = Vec::with_capacity(alloc, 1)?;
+        posts.push(self.posted(message))?;
+        Ok(posts)
+    }
+
+    /// The asks of the group that is settled, in their order, each with the server that it is for.
+    pub fn asks(&self, alloc: Global) -> Result<Vec<(u32, Ask)>, NoMemory>
+        ensures { IfOk result (λ posts. posts.items
+            ≡ map (post_of (client_by R.digest_of self.now)) (group (client_by R.digest_of self.now).who self.now.stage)) }
+    {
+        match &self.stands {
+            Standing::Compose => Ok(Vec::new(alloc)),
+            Standing::Round(keys, _) => self.lookups(alloc, keys.as_slice()),
+            Standing::Act(flow) => self.alone(alloc, flow.message(alloc, &self.party)?),
+            Standing::Winds(_, first, _) => self.alone(alloc, first.message()),
+        }
+    }
+
+    /// The ask of the message that winds the call up, and the server that it is for. Takes no memory.
+    pub fn winding_ask(&self) -> (u32, Ask)
+        requires winding { is_winding self.now.stage ≡ true }
+        requires between { self.now.sent ≡ [] }
+        ensures { next_step (client_by R.digest_of self.now) ≡ asks result.0 result.1 }
+    {
+        match &self.stands {
+            Standing::Winds(_, first, _) => self.posted(first.message()),
+            _ => unreachable!(),
+        }
     }
 
     /// What a client does next that has no ask to make.
     #[tactic(auto, using(crate::proofs::StepFacts::over_next, crate::proofs::StepFacts::waits_inside, crate::proofs::StepFacts::waits_unbuilt))]
     pub fn rest(&self) -> ClientStep
         ensures quiet { IsQuiet result }
-        ensures inside { self.now.sent ≢ [] → next_step self.now ≡ next_as result }
-        ensures unbuilt { self.now.sent ≡ [] → is_some (next_op self.now.left) ≡ false
-            → next_step (composed self.now) ≡ next_as result }
+        ensures inside { length (group (client_by R.digest_of self.now).who self.now.stage) ≤ length self.now.sent
+            → next_step (client_by R.digest_of self.now) ≡ next_as result }
+        ensures unbuilt { is_some (next_course self.now.left) ≡ false
+            → next_step (composed (client_by R.digest_of self.now)) ≡ next_as result }
     {
         if self.left.is_empty() {
             ClientStep::Finished
@@ -121,40 +148,84 @@ impl ClientMachine {
     }
 
     /// An Ask more, which takes no memory.
-    #[tactic(auto, using(crate::proofs::StepFacts::none_sent))]
     pub fn place_ask(&mut self, place: Place)
-        requires next { length self.old.sent < length (group self.old.who self.old.stage) }
+        requires next { length self.old.sent < length (group (client_by R.digest_of self.old).who self.old.stage) }
         requires room { self.old.counts.messages + 1 < 2 ^ 64 }
-        ensures after { self.new ≡ placed place self.old }
-        ensures one { length (group self.old.who self.old.stage) ≤ 1 }
+        ensures { client_by R.digest_of self.new ≡ placed place (client_by R.digest_of self.old) }
     {
-        let begins_round = is_round(&self.stage);
+        let begins_round = is_round(&self.stands) && self.sent.is_empty();
         self.sent.push_reserved(Sending::new(place));
         self.counts.count_ask(place, begins_round);
     }
 
-    /// The call under way ends for want of memory.
+    /// The call under way ends for want of memory, once what its next step would have changed is cleaned up.
+    #[tactic(auto, using(crate::proofs::TurnFacts::turned_afresh))]
     pub fn give_up_call(&mut self)
-        requires { 0 < length self.old.left }
-        ensures { self.new ≡ given_up self.old }
+        requires call { 0 < length self.old.left }
+        requires going { is_winding self.old.stage ≡ false }
+        ensures { client_by R.digest_of self.new ≡ given_up (client_by R.digest_of self.old) }
     {
-        self.end(Answer::NoMemory, None);
+        let ending = Ending::Answers(Answer::NoMemory, None);
+        self.sent.clear();
+        match mem::replace(&mut self.stands, Standing::Compose) {
+            Standing::Act(flow) => {
+                let clean_ups = flow.clean_up(&self.party);
+                self.wind(ending, clean_ups);
+            }
+            Standing::Compose => self.end(Answer::NoMemory, None),
+            Standing::Round(_, _) => self.end(Answer::NoMemory, None),
+            Standing::Winds(_, _, _) => unreachable!(),
+        }
     }
 
     /// Only a call that has ended has a last Serve.
     fn forget_serves(&mut self)
-        ensures { self.new ≡ unserved self.old }
+        ensures { client_by R.digest_of self.new ≡ unserved (client_by R.digest_of self.old) }
     {
         self.counts.forget_serves();
     }
 
-    /// One result for each call; those that have not ended are unanswered.
-    #[tactic(auto, using(crate::proofs::StepFacts::unserved_results, crate::proofs::StepFacts::unanswered_one, crate::proofs::StepFacts::all_results))]
+    /// What the call under way has come to.
+    fn take_so_far(&mut self) -> (Answer, Option<Place>)
+        ensures so_far { so_far self.old.stage (client_by R.digest_of self.old)
+            ≡ result_of result.0 result.1 None (client_by R.digest_of self.old) }
+        ensures after { self.new ≡ record self.old { stage = compose; sent = [] } }
+    {
+        self.sent.clear();
+        match mem::replace(&mut self.stands, Standing::Compose) {
+            Standing::Compose => (Answer::Unanswered, None),
+            Standing::Round(_, _) => (Answer::Unanswered, None),
+            Standing::Act(_) => (Answer::Unanswered, None),
+            Standing::Winds(ending, _, _) => match ending {
+                Ending::Answers(answer, place) => (answer, place),
+                Ending::Retries => (Answer::Unanswered, None),
+            },
+        }
+    }
+
+    /// The call under way ends with what it has come to.
+    #[tactic(auto, using(crate::proofs::ResultFacts::ended_one))]
+    fn end_so_far(&mut self)
+        requires { self.old.counts.last ≡ None }
+        ensures results { results_of (client_by R.digest_of self.new) ≡ results_of (client_by R.digest_of self.old) }
+        ensures stage { 0 < length self.new.left → self.new.stage ≡ compose }
+        ensures last { self.new.counts.last ≡ None }
+    {
+        if self.is_over() {
+            return;
+        }
+        let (answer, place) = self.take_so_far();
+        self.end(answer, place);
+    }
+
+    /// One result for each call; those that have no answer yet are unanswered.
+    #[tactic(auto, using(crate::proofs::ResultFacts::unserved_results, crate::proofs::ResultFacts::ended_next, crate::proofs::ResultFacts::all_results))]
     pub fn into_results(self) -> Vec<CallResult>
-        ensures results { result.items ≡ results_of self }
+        ensures { result.items ≡ results_of (client_by R.digest_of self) }
     {
         let mut machine = self;
         machine.forget_serves();
+        machine.end_so_far();
         while !machine.is_over() {
             machine.end(Answer::Unanswered, None);
         }

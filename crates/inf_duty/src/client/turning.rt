@@ -1,128 +1,188 @@
 //! What a client makes of what it is told.
 
-ghost use Rattle.std.specs.Prelude.{◌≡◌, [], true, false, Some, is_some};
-ghost use Rattle.inf_duty.specs.Client.{is_round};
-ghost use Rattle.inf_duty.specs.Course.{IsPossible, turn_of};
-ghost use Rattle.inf_duty.specs.Turn.{begins_again, first_told, goes_on, is_complete, next_op, recorded, served, settled, turn_at, turned};
-ghost use Rattle.inf_duty.specs.declared.stage.Stage.TheVariants as stage;
-ghost use Rattle.inf_duty.specs.Tellings.{given_back, reply_of};
+ghost use Rattle.std.specs.Prelude.{◌≡◌, ◌==◌, ◌&&◌, ◌<◌, [], true, false, length, is_some};
+ghost use Rattle.inf_duty.specs.Messages.{has_one_message};
+ghost use Rattle.inf_duty.specs.ClientBy.{client_by};
+ghost use Rattle.inf_flow_dir.specs.Client.{act, begins_again, compose, finished, has_place, is_round, wound};
+ghost use Rattle.inf_flow_dir.specs.DirFlow.{IsMadeFor};
+ghost use Rattle.inf_flow_dir.specs.Party.{who_of};
+ghost use Rattle.inf_flow_dir.specs.Ending.{ending_of};
+ghost use Rattle.inf_flow_dir.specs.Group.{next_course};
+ghost use Rattle.inf_flow_dir.specs.Heard.{heard};
+ghost use Rattle.inf_flow_dir.specs.Turn.{goes_on, is_complete, recorded, served, settled, turn_at, turned};
+ghost use Rattle.inf_flow_dir.specs.TurnOf.{TurnIsMadeFor, turn_of};
 ghost use Rattle.inf_message.specs.History.{told_reply};
 
 use super::ClientMachine;
-use crate::course::{Course, after_act, after_lookup};
-use crate::group::group_size;
-use crate::sending::{are_told, has_place, record_answer, take_first_told};
-use crate::stage::Stage;
-use crate::telling::Telling;
+use crate::group::{group_size, has_one_message};
+use crate::recording::record_answer;
+use crate::standing::Standing;
 use inf_base::Place;
+use inf_birth::IdRule;
+use inf_flow_dir::{CleanUps, DirFlow, Ending, Turn, after_round, are_told, has_place};
 use inf_message::Reply;
 use std::mem;
 
-impl ClientMachine {
+impl<R: IdRule> ClientMachine<R> {
     /// The next attempt at the call.
     fn begin_again(&mut self)
-        ensures { self.new ≡ turned begins_again self.old }
+        ensures { client_by R.digest_of self.new ≡ begins_again (client_by R.digest_of self.old) }
     {
-        self.stage = Stage::Compose;
+        self.stands = Standing::Compose;
         self.sent.clear();
         self.counts.begin_again();
     }
 
-    /// The next group of the attempt.
-    #[tactic(auto, using(crate::proofs::StepFacts::one_message_at, crate::proofs::BegunFacts::built_left))]
-    fn go_on(&mut self, next: Stage)
-        requires call { is_some (next_op self.old.left) ≡ true }
-        requires no_round { is_round next ≡ false }
-        ensures { self.new ≡ turned (goes_on next) self.old }
+    /// The call has come to its end, or the attempt.
+    fn finish(&mut self, ending: Ending)
+        requires { 0 < length self.old.left }
+        ensures { client_by R.digest_of self.new ≡ finished (ending_of ending) (client_by R.digest_of self.old) }
     {
-        self.stage = next;
+        match ending {
+            Ending::Answers(answer, place) => self.end(answer, place),
+            Ending::Retries => self.begin_again(),
+        }
+    }
+
+    /// The messages that are left, and then the end.
+    pub(super) fn wind(&mut self, ending: Ending, more: CleanUps)
+        requires { is_some (next_course self.old.left) ≡ true }
+        ensures { client_by R.digest_of self.new ≡ wound (ending_of ending) more (client_by R.digest_of self.old) }
+    {
+        match more.take_first() {
+            None => self.finish(ending),
+            Some((first, rest)) => {
+                self.stands = Standing::Winds(ending, first, rest);
+                self.sent.clear();
+            }
+        }
+    }
+
+    /// The next message of the attempt.
+    fn go_on(&mut self, flow: DirFlow)
+        requires call { is_some (next_course self.old.left) ≡ true }
+        requires made { IsMadeFor (who_of R.digest_of self.old.who) flow }
+        ensures { client_by R.digest_of self.new ≡ turned (goes_on (act flow.flow)) (client_by R.digest_of self.old) }
+    {
+        let mut flow = flow;
+        flow.prepare(&self.party);
+        self.stands = Standing::Act(flow);
         self.sent.clear();
     }
 
-    /// What comes of the answer to the group, which is over.
-    #[tactic(auto, using(crate::proofs::BegunFacts::some_call, crate::proofs::BegunFacts::some_built, crate::proofs::BegunFacts::built_left))]
-    fn take_course(&mut self, place: Place, reply: &Reply) -> Course
-        ensures course { turn_of result
-            ≡ turn_at self.old.left self.old.stage (Some (told_reply place reply.now)) }
-        ensures possible { IsPossible self.old.left result }
-        ensures after { self.new ≡ record self.old { stage = stage.Compose } }
+    fn follow(&mut self, turn: Turn)
+        requires made { TurnIsMadeFor (who_of R.digest_of self.old.who) turn }
+        requires call { is_some (next_course self.old.left) ≡ true }
+        ensures { client_by R.digest_of self.new ≡ turned (turn_of turn) (client_by R.digest_of self.old) }
     {
-        match mem::replace(&mut self.stage, Stage::Compose) {
-            Stage::Compose => Course::BeginsAgain,
-            Stage::Round(_) => match self.draft.take() {
-                Some(draft) => after_lookup(draft, place, reply),
-                None => unreachable!(),
-            },
-            Stage::Act { chain: _, op } => after_act(&op, place, reply),
+        match turn {
+            Turn::GoesOn(flow) => self.go_on(flow),
+            Turn::WindsUp(ending, more) => self.wind(ending, more),
         }
     }
 
-    fn follow(&mut self, course: Course)
-        requires { IsPossible self.old.left course }
-        ensures { self.new ≡ turned (turn_of course) self.old }
+    /// What comes of the answers to a round, which is over.
+    fn take_round(&mut self) -> Turn
+        requires round { is_round self.old.stage ≡ true }
+        ensures turn { turn_of result ≡ turn_at (client_by R.digest_of self.old) self.old.stage }
+        ensures made { TurnIsMadeFor (who_of R.digest_of self.old.who) result }
+        ensures after { self.new ≡ record self.old { stage = compose; sent = [] } }
+        ensures call { is_some (next_course self.old.left) ≡ true }
     {
-        match course {
-            Course::GoesOn(next) => self.go_on(next),
-            Course::Ends(answer, place) => self.end(answer, place),
-            Course::BeginsAgain => self.begin_again(),
+        match mem::replace(&mut self.stands, Standing::Compose) {
+            Standing::Round(_, draft) => after_round(draft, &mut self.sent),
+            _ => unreachable!(),
         }
     }
 
-    /// The answers to the group, of which none is left to come, and none is kept.
-    fn take_told(&mut self) -> Option<Telling>
-        ensures told { result ≡ first_told self.old.sent }
-        ensures after { self.new ≡ record self.old { sent = [] } }
+    /// What comes of the answer to the one message of a group that is no round.
+    #[tactic(auto, using(crate::proofs::TurnFacts::alone_turn, crate::proofs::TurnFacts::heard_act))]
+    fn take_answer(&mut self, ask_place: Place, serve_place: Place, reply: &Reply) -> Turn
+        requires alone { length self.old.sent ≡ 1 }
+        requires here { has_place ask_place self.old.sent ≡ true }
+        requires stage { has_one_message self.old.stage ≡ true }
+        ensures turn { turn_of result
+            ≡ turn_at (recorded ask_place (told_reply serve_place (heard reply.now)) (client_by R.digest_of self.old)) self.old.stage }
+        ensures made { TurnIsMadeFor (who_of R.digest_of self.old.who) result }
+        ensures after { self.new ≡ record self.old { stage = compose; sent = [] } }
+        ensures call { is_some (next_course self.old.left) ≡ true }
     {
-        take_first_told(&mut self.sent)
+        self.sent.clear();
+        match mem::replace(&mut self.stands, Standing::Compose) {
+            Standing::Act(flow) => flow.next(&self.party, ask_place, serve_place, reply),
+            Standing::Winds(ending, _, rest) => Turn::WindsUp(ending, rest),
+            _ => unreachable!(),
+        }
     }
 
-    /// The group is over, and the reply that came first in it is given back.
-    #[tactic(auto, using(crate::proofs::TurnFacts::turned_afresh, crate::proofs::TurnFacts::turned_emptied))]
-    fn turn(&mut self) -> Option<Reply>
-        ensures after { self.new ≡ settled true self.old }
-        ensures reply { result ≡ reply_of (first_told self.old.sent) }
+    /// Whether a group of one message, and no round, waits for its answer.
+    fn is_alone(&self) -> bool
+        ensures { result ≡ (has_one_message self.now.stage && length self.now.sent == 1) }
     {
-        match self.take_told() {
-            None => {
-                self.begin_again();
-                None
-            }
-            Some(told) => {
-                let (place, reply) = told.into_parts();
-                let course = self.take_course(place, &reply);
-                self.follow(course);
-                Some(reply)
-            }
-        }
+        has_one_message(&self.stands) && self.sent.len() == 1
     }
 
     fn is_complete(&self) -> bool
-        ensures { result ≡ is_complete self.now }
+        ensures { result ≡ is_complete (client_by R.digest_of self.now) }
     {
-        self.sent.len() == group_size(&self.stage) && are_told(self.sent.as_slice())
+        self.sent.len() == group_size(&self.stands) && are_told(self.sent.as_slice())
     }
 
-    #[tactic(auto, using(crate::proofs::SendingFacts::apart_told))]
-    fn record(&mut self, ask_place: Place, told: Telling)
-        ensures { self.new ≡ recorded ask_place told self.old }
+    /// Keeps the answer of the Ask at this place.
+    fn record(&mut self, ask_place: Place, serve_place: Place, reply: &Reply)
+        requires { (has_one_message self.old.stage && length self.old.sent == 1) ≡ false }
+        ensures { client_by R.digest_of self.new
+            ≡ recorded ask_place (told_reply serve_place (heard reply.now)) (client_by R.digest_of self.old) }
     {
-        self.counts.count_serve(told.serve_place());
-        record_answer(&mut self.sent, ask_place, told);
+        self.counts.count_serve(serve_place);
+        record_answer(
+            &mut self.sent,
+            &mut self.rooms,
+            ask_place,
+            serve_place,
+            reply,
+        );
     }
 
-    /// The Ask at a place was served. Only an Ask of the present group is waited for. The reply is given back where the
-    /// group is over.
-    pub fn told(&mut self, ask_place: Place, serve_place: Place, reply: Reply) -> Option<Reply>
-        ensures after { self.new ≡ served ask_place (told_reply serve_place reply) self.old }
-        ensures reply { result ≡ given_back ask_place (told_reply serve_place reply) self.old }
+    /// The answer to the one message of a group that is no round ends the group.
+    #[tactic(auto, using(crate::proofs::TurnFacts::alone_ends))]
+    fn end_alone(&mut self, ask_place: Place, serve_place: Place, reply: &Reply)
+        requires alone { length self.old.sent ≡ 1 }
+        requires here { has_place ask_place self.old.sent ≡ true }
+        requires stage { has_one_message self.old.stage ≡ true }
+        ensures { client_by R.digest_of self.new
+            ≡ served ask_place (told_reply serve_place (heard reply.now)) (client_by R.digest_of self.old) }
+    {
+        let turn = self.take_answer(ask_place, serve_place, reply);
+        self.counts.count_serve(serve_place);
+        self.follow(turn);
+    }
+
+    #[tactic(auto, using(crate::proofs::TurnFacts::turned_afresh))]
+    fn end_round(&mut self)
+        requires { is_round self.old.stage ≡ true }
+        ensures { client_by R.digest_of self.new ≡ settled true (client_by R.digest_of self.old) }
+    {
+        let turn = self.take_round();
+        self.follow(turn);
+    }
+
+    /// The Ask at a place was served. Only an Ask of the present group is waited for.
+    #[tactic(auto, using(crate::proofs::TurnFacts::complete_round, crate::proofs::TurnFacts::some_sent))]
+    pub fn told(&mut self, ask_place: Place, serve_place: Place, reply: &Reply)
+        ensures { client_by R.digest_of self.new
+            ≡ served ask_place (told_reply serve_place (heard reply.now)) (client_by R.digest_of self.old) }
     {
         if !has_place(self.sent.as_slice(), ask_place) {
-            return None;
+            return;
         }
-        self.record(ask_place, Telling::new(serve_place, reply));
-        if !self.is_complete() {
-            return None;
+        if self.is_alone() {
+            self.end_alone(ask_place, serve_place, reply);
+            return;
         }
-        self.turn()
+        self.record(ask_place, serve_place, reply);
+        if self.is_complete() {
+            self.end_round();
+        }
     }
 }

@@ -1,8 +1,8 @@
-use Rattle.std.proofs.lemmas.Bool.{false≢true}
-use Rattle.inf_base.proofs.Decides.{different}
-use Rattle.inf_duty.proofs.NextFacts.{duty_own}
+use Rattle.inf_duty.specs.ClientBy.{client_by}
+use Rattle.inf_duty.proofs.BeginFacts.{found_decides}
 use Rattle.inf_duty.proofs.client.ClientMachine.allows.Goals as goal
 
-pub returns-then-not-is_own : goal.returns-then-not-is_own
-returns-then-not-is_own c =
-    different (λ duty. false≢true (c.if-not-is_own.ensures.1 (duty_own c.args.self.now c.args.number c.args.ask.now duty)))
+pub returns : goal.returns
+returns g c =
+    found_decides c.args.number c.args.ask.now (client_by g.R.IdRule.digest_of c.args.self) (client_by g.R.IdRule.digest_of c.begin.new.self) c.is_next.result
+    c.in_ok-begin.ensures.ok c.is_next.ensures

@@ -1,0 +1,12 @@
+-- Where a client in code stands.
+use Rattle.std.specs.Prelude.{List}
+use Rattle.inf_flow_dir.specs.Client.{Stage, act, compose, round, winds}
+use Rattle.inf_flow_dir.specs.Ending.{ending_of}
+use Rattle.inf_duty.specs.declared.standing.Standing.{Standing}
+use Rattle.inf_duty.specs.declared.standing.Standing.TheVariants as standing
+
+abbrev pub stage_of : Standing → Stage
+stage_of standing.Compose = compose
+stage_of (standing.Round keys draft) = round keys
+stage_of (standing.Act flow) = act flow.flow
+stage_of (standing.Winds ending first rest) = winds (ending_of ending) first rest

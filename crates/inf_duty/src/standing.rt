@@ -1,0 +1,16 @@
+//! Where a client stands in the attempt of a call.
+
+use inf_flow_dir::{CleanUp, CleanUps, DirFlow, Draft, Ending, LookKeys};
+
+/// Where a client stands in the attempt of a call: between two groups, what it asks for next.
+#[derive(Drop)]
+pub enum Standing {
+    /// The attempt begins.
+    Compose,
+    /// Lookups of these keys, and what follows them.
+    Round(LookKeys, Draft),
+    /// A message of a flow.
+    Act(DirFlow),
+    /// Messages whose replies do not matter, one after another, and then the end.
+    Winds(Ending, CleanUp, CleanUps),
+}
