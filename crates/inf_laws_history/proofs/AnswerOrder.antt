@@ -1,0 +1,162 @@
+-- The order of answers within a group: an Ask that still waits may as well be answered before a later Ask of the group is
+-- made, and before that one is answered.
+use Rattle.std.proofs.Common.{◌≡◌, ℕ, ◌+◌, ◌<◌, ◌&&◌, ◌||◌, zero, suc, Bool, true, false, cond, eqb, List, [], ◌∷◌, ◌++◌, length, map, slice_get, Option, Some, None, option_map, refl, sym, ap, ap₂, ◌∙◌, subst, arith}
+use Rattle.std.proofs.lemmas.Bool.Decides.{Decides-eqb, nat_tests}
+use Rattle.std.proofs.lemmas.List.{length-map, map-append}
+use Rattle.std.proofs.lemmas.Option.{slice_get-map}
+use Rattle.std.specs.List.{list_all}
+use Rattle.inf_duty.specs.Duty.{asked}
+use Rattle.inf_duty.specs.Own.{after_answer, told_pair}
+use Rattle.inf_flow_dir.specs.Client.{Client, Counts, Sent, counted, has_place, is_first, is_round, is_told, one_if, placed, told_at}
+use Rattle.inf_flow_dir.specs.Group.{group}
+use Rattle.inf_flow_dir.specs.Heard.{heard}
+use Rattle.inf_flow_dir.specs.Turn.{after_record, is_complete, later_place, recorded, served}
+use Rattle.inf_laws_history.proofs.ClientSteps.{served_within}
+use Rattle.inf_laws_history.proofs.PendingFacts.{begun_stays, last_sent, not_complete, sent_recorded, sent_stays, waiting_at}
+use Rattle.inf_message.specs.declared.ask.Ask.{Ask}
+use Rattle.inf_message.specs.History.{Told, told_reply}
+use Rattle.inf_message.proofs.HistoryLaws.{itself}
+
+-- what a client makes of an answer
+abbrev pub hear : Told → Told
+hear told = told_reply told.serve_place (heard told.reply)
+
+-- ---- the later of two places
+
+later_twice : (before : Option ℕ) (a b : ℕ) → later_place (later_place before b) a ≡ later_place (later_place before a) b
+later_twice None a b = ap Some (grind (arith, nat_tests))
+later_twice (Some place) a b = ap Some (grind (arith, nat_tests))
+
+-- ---- two answers
+
+pub differing : (a b : ℕ) → a ≡ b → eqb a b ≡ false → ⊥
+differing a b same unlike = let yes = subst (λ c. eqb a c ≡ true) same (itself a) in cc
+
+told_twice : (at place : ℕ) (a b : Told) (x : Sent) → eqb place at ≡ false → told_at at a (told_at place b x) ≡ told_at place b (told_at at a x)
+told_twice at place a b x unlike = by (eqb x.place place) (eqb x.place at) refl refl
+  where
+    by : (here there : Bool) → eqb x.place place ≡ here → eqb x.place at ≡ there → told_at at a (told_at place b x) ≡ told_at place b (told_at at a x)
+    by true true here there =
+        absurd (differing place at (sym ((Decides-eqb x.place place).0 here) ∙ (Decides-eqb x.place at).0 there) unlike)
+    by true false here there = rw (here, there, here) refl
+    by false true here there = rw (here, there, here) refl
+    by false false here there = rw (here, there, here) refl
+
+all_told_twice : (at place : ℕ) (a b : Told) (sent : List Sent) → eqb place at ≡ false
+    → map (told_at at a) (map (told_at place b) sent) ≡ map (told_at place b) (map (told_at at a) sent)
+all_told_twice at place a b [] unlike = refl
+all_told_twice at place a b (x ∷ sent) unlike = ap₂ (λ (y : Sent) (ys : List Sent). y ∷ ys) (told_twice at place a b x unlike) (all_told_twice at place a b sent unlike)
+
+abbrev with_group : Client → List Sent → Counts → Client
+with_group s sent counts = record s { sent = sent; counts = counts }
+
+abbrev with_last : Counts → Option ℕ → Counts
+with_last counts last = record counts { last = last }
+
+pub recorded_twice : (at place : ℕ) (a b : Told) (s : Client) → eqb place at ≡ false → recorded at a (recorded place b s) ≡ recorded place b (recorded at a s)
+recorded_twice at place a b s unlike =
+    ap₂ (with_group s) (all_told_twice at place a b s.sent unlike)
+    (ap (with_last s.counts) (later_twice s.counts.last a.serve_place b.serve_place))
+
+-- ---- an answer and an Ask
+
+first_stays : (at : ℕ) (told : Told) (sent : List Sent) → is_first (map (told_at at told) sent) ≡ is_first sent
+first_stays at told [] = refl
+first_stays at told (x ∷ sent) = refl
+
+abbrev counted_as : ℕ → Client → Option ℕ → Bool → Counts
+counted_as place s last first = record (counted place s) { last = last; rounds = s.counts.rounds + one_if (is_round s.stage && first) }
+
+pub recorded_placed : (at place : ℕ) (told : Told) (s : Client) → eqb place at ≡ false → recorded at told (placed place s) ≡ placed place (recorded at told s)
+recorded_placed at place told s unlike =
+    let untold : told_at at told (waiting_at place) ≡ waiting_at place = rw unlike refl in
+    ap₂ (with_group s)
+    (map-append (told_at at told) s.sent (waiting_at place ∷ []) ∙ ap (λ (x : Sent). map (told_at at told) s.sent ++ x ∷ []) untold)
+    (ap (counted_as place s (later_place s.counts.last told.serve_place)) (sym (first_stays at told s.sent)))
+
+-- ---- an Ask that waits while another is made
+
+-- the client waits for this Ask, and has a message of its group to send
+pub record IsOpenIn (at : ℕ) (s : Client) : Type 0 where
+  pub index : ℕ
+  pub waits : slice_get s.sent index ≡ Some (waiting_at at)
+  pub room : length s.sent < length (group s.who s.stage)
+
+or_true : (b : Bool) → b || true ≡ true
+or_true true = refl
+or_true false = refl
+
+held : (at : ℕ) (sent : List Sent) (index : ℕ) → slice_get sent index ≡ Some (waiting_at at) → has_place at sent ≡ true
+held at [] index found = absurd cc
+held at (x ∷ sent) zero found =
+    let same : x ≡ waiting_at at = cc in
+    ap (λ (y : Sent). eqb y.place at || has_place at sent) same ∙ ap (λ b. b || has_place at sent) (itself at)
+held at (x ∷ sent) (suc index) found = ap (λ b. eqb x.place at || b) (held at sent index found) ∙ or_true (eqb x.place at)
+
+not_full : (s : Client) → length s.sent < length (group s.who s.stage) → is_complete s ≡ false
+not_full s room =
+    let apart : eqb (length s.sent) (length (group s.who s.stage)) ≡ false = grind (arith, nat_tests) in
+    ap (λ b. b && list_all is_told s.sent) apart
+
+-- an answer does not end a group that is not wholly asked
+pub open_recorded : (at : ℕ) (told : Told) (s : Client) → IsOpenIn at s → served at told s ≡ recorded at told s
+open_recorded at told s is =
+    served_within at told s (held at s.sent is.index is.waits)
+    (not_full (recorded at told s) (let room = is.room in let same = length-map s.sent (told_at at told) in omega arith))
+
+pub open_stays : (at place : ℕ) (told : Told) (s : Client) → eqb place at ≡ false → IsOpenIn place s → IsOpenIn place (recorded at told s)
+open_stays at place told s unlike is = record {
+  index = is.index;
+  waits = sent_recorded at place told s.sent is.index unlike is.waits;
+  room = let room = is.room in let same = length-map s.sent (told_at at told) in omega arith;
+}
+
+served_here : (at : ℕ) (told : Told) (s : Client) → has_place at s.sent ≡ true → served at told s ≡ after_record (recorded at told s)
+served_here at told s here = ap (λ b. cond b (after_record (recorded at told s)) s) here
+
+module _ (at place : ℕ) (told : Told) (ask : Ask) (s : Client) (apart : eqb place at ≡ false) (behind : eqb at place ≡ false) (is : IsOpenIn at s) where
+  -- both orders find the client within its group
+  asked_so : asked place ask s ≡ placed place s
+  asked_so = ap (placed place) (begun_stays ask s.sent s is.index (waiting_at at) is.waits)
+
+  told_there : slice_get (recorded at told s).sent is.index ≡ Some (told_at at told (waiting_at at))
+  told_there = slice_get-map (told_at at told) s.sent is.index ∙ ap (option_map (told_at at told)) is.waits
+
+  asked_after : asked place ask (served at told s) ≡ placed place (recorded at told s)
+  asked_after =
+      ap (asked place ask) (open_recorded at told s is)
+      ∙ ap (placed place) (begun_stays ask (recorded at told s).sent (recorded at told s) is.index (told_at at told (waiting_at at)) told_there)
+
+  still_held : has_place at (placed place s).sent ≡ true
+  still_held = held at (placed place s).sent is.index (sent_stays s.sent (waiting_at place) is.index (waiting_at at) is.waits)
+
+  newest_waits : (t : Client) → slice_get (placed place t).sent (length t.sent) ≡ Some (waiting_at place)
+  newest_waits t = last_sent t.sent (waiting_at place)
+
+  over_asked : served at told (asked place ask s) ≡ asked place ask (served at told s)
+  over_asked =
+      ap (served at told) asked_so
+      ∙ served_within at told (placed place s) still_held
+      (not_complete place (recorded at told (placed place s)) (length s.sent) (sent_recorded at place told (placed place s).sent (length s.sent) apart (newest_waits s)))
+      ∙ recorded_placed at place told s apart
+      ∙ sym asked_after
+
+  over_served : (answer : Told) → served at told (served place answer (asked place ask s)) ≡ served place answer (asked place ask (served at told s))
+  over_served answer =
+      let waits : slice_get (recorded place answer (placed place s)).sent is.index ≡ Some (waiting_at at) =
+      sent_recorded place at answer (placed place s).sent is.index behind (sent_stays s.sent (waiting_at place) is.index (waiting_at at) is.waits) in
+      ap (λ t. served at told (served place answer t)) asked_so
+      ∙ ap (served at told)
+      (served_within place answer (placed place s) (held place (placed place s).sent (length s.sent) (newest_waits s))
+      (not_complete at (recorded place answer (placed place s)) is.index waits))
+      ∙ served_here at told (recorded place answer (placed place s)) (held at (recorded place answer (placed place s)).sent is.index waits)
+      ∙ ap after_record (recorded_twice at place told answer (placed place s) apart ∙ ap (recorded place answer) (recorded_placed at place told s apart))
+      ∙ sym (served_here place answer (placed place (recorded at told s))
+      (held place (placed place (recorded at told s)).sent (length (recorded at told s).sent) (newest_waits (recorded at told s))))
+      ∙ ap (served place answer) (sym asked_after)
+
+  -- the answer may come before the other Ask, whether that is answered or not
+  pub over_one : (answer : Option Told) → served at told (after_answer place (told_pair answer) (asked place ask s))
+      ≡ after_answer place (told_pair answer) (asked place ask (served at told s))
+  over_one None = over_asked
+  over_one (Some answer) = over_served (hear answer)

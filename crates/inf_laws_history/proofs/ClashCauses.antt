@@ -1,0 +1,130 @@
+-- Why a directory is not made: another one is kept that has its identifier.
+use Rattle.std.proofs.Common.{◌≡◌, ◌≢◌, inl, inr, ℕ, Bool, true, false, cond, List, [], ◌∷◌, Option, Some, None, Result, Ok, Err, refl, sym, ap, ◌∙◌, subst}
+use Rattle.std.proofs.lemmas.Bool.Decides.{Decides-eqb}
+use Rattle.inf_base.specs.declared.id.Id.{Id}
+use Rattle.inf_base.specs.declared.triple.Triple.{Triple}
+use Rattle.inf_base.specs.declared.triple.Triple.TheVariants as triple
+use Rattle.inf_base.specs.Checks.{◌>>◌, check}
+use Rattle.inf_base.specs.Content.{Content}
+use Rattle.inf_base.specs.Identity.{identity}
+use Rattle.inf_base.specs.Same.{is_same_id, is_same_triple}
+use Rattle.inf_content.specs.Contents.{bearer, content_of_id, made_of}
+use Rattle.inf_content.specs.declared.made.Made.TheVariants as made
+use Rattle.inf_duty.specs.World.{World}
+use Rattle.inf_laws_history.specs.Causes.{IsClashBecause, before}
+use Rattle.inf_laws_history.specs.Legal.{Legal, MayServe, server_after}
+use Rattle.inf_laws_history.specs.Sites.{site_of}
+use Rattle.inf_message.specs.declared.ask.Ask.{Ask}
+use Rattle.inf_message.specs.declared.call_result.CallResult.{CallResult}
+use Rattle.inf_message.specs.declared.event.Event.{Event}
+use Rattle.inf_message.specs.declared.reply.Reply.TheVariants as reply
+use Rattle.inf_message.specs.declared.request.Request.TheVariants as request
+use Rattle.inf_message.specs.History.{Posted}
+use Rattle.inf_server.specs.Births.{make, unless_there}
+use Rattle.inf_server.specs.Response.{Response}
+use Rattle.inf_server.specs.State.{Site, State, is_here}
+use Rattle.inf_laws_directory.proofs.ContentFacts.{same_id_self}
+use Rattle.inf_laws_directory.proofs.Outcomes.{Comes, IsFine, Nothing, make_comes}
+use Rattle.inf_laws_directory.proofs.ServedReplies.{CameOf, came_of_this}
+use Rattle.inf_laws_directory.proofs.SlotFacts.{same_self}
+use Rattle.inf_renames.proofs.RenamesFacts.{same_id}
+use Rattle.inf_laws_history.proofs.ContentBirths.{IsBirth, births_after, so_found}
+use Rattle.inf_laws_history.proofs.ToldResults.{IsClashFor, serve_may}
+
+pub found_id : (id : Id) (contents : List Content) (content : Content) → content_of_id id contents ≡ Some content → id ≡ content.dir.id
+found_id id [] content is = cc
+found_id id (c ∷ cs) content is = by (is_same_id id c.dir.id) refl is (found_id id cs content)
+  where
+    by : (b : Bool) → is_same_id id c.dir.id ≡ b → cond b (Some c) (content_of_id id cs) ≡ Some content
+        → (content_of_id id cs ≡ Some content → id ≡ content.dir.id) → id ≡ content.dir.id
+    by true same here later = let one : c ≡ content = cc in same_id id c.dir.id same ∙ ap (λ (x : Content). x.dir.id) one
+    by false apart here later = later here
+
+pub same_triple_self : (t : Triple) → is_same_triple t t ≡ true
+same_triple_self triple.Root = refl
+same_triple_self (triple.Of parent name version) =
+    let one = same_id_self parent in
+    let two = same_self name in
+    let three = (Decides-eqb version version).1 refl in
+    rw (one, two, three) refl
+
+-- the content object of the other directory
+record IsOther (site : Site) (state : State) (own kept : Triple) : Type 0 where
+  content : Content
+  there : content_of_id (identity site.digest own) state.contents ≡ Some content
+  kept_is : content.triple ≡ kept
+  unlike : is_same_triple content.triple own ≡ false
+
+module _ (site : Site) (state : State) (place : ℕ) (ask : Ask) (own kept : Triple) where
+  by_triple : (content : Content) → content_of_id (identity site.digest own) state.contents ≡ Some content → (next : Response) (b : Bool)
+      → is_same_triple content.triple own ≡ b
+      → (unless_there (cond b (made.Bearer (bearer content)) (made.Clash content.triple)) >> Ok next) ≡ Err (reply.Clash kept) → IsOther site state own kept
+  by_triple content there next true same is = cc
+  by_triple content there next false unlike is =
+      let one : content.triple ≡ kept = cc in
+      record { content = content; there = there; kept_is = one; unlike = unlike }
+
+  by_content : (next : Response) (b : Bool) (found : Option Content) → content_of_id (identity site.digest own) state.contents ≡ found
+      → (check b reply.Other >> (unless_there (made_of own found) >> Ok next)) ≡ Err (reply.Clash kept) → IsOther site state own kept
+  by_content next false found there is = cc
+  by_content next true None there is = cc
+  by_content next true (Some content) there is = by_triple content there next (is_same_triple content.triple own) refl is
+
+  clash_of : make site state place ask own ≡ Err (reply.Clash kept) → IsOther site state own kept
+  clash_of is = by_content _ (is_here site (identity site.digest own)) (content_of_id (identity site.digest own) state.contents) refl is
+
+  came_to_clash : (new : State) → CameOf state (make site state place ask own) (reply.Clash kept) new → IsOther site state own kept
+  came_to_clash new (inl is) =
+      absurd (let fine : reply.Clash kept ≡ reply.Fine = subst (λ (r : Result Response _). Comes Nothing IsFine r) is (make_comes site state place ask own) in cc)
+  came_to_clash new (inr refused) = clash_of refused.0
+
+unlike_by : (own kept found : Triple) → own ≡ kept → found ≡ kept → is_same_triple found own ≡ false → ⊥
+unlike_by own kept found equal is unlike =
+    let self = same_triple_self own in
+    let one : is_same_triple own own ≡ false = subst (λ (t : Triple). is_same_triple t own ≡ false) (is ∙ sym equal) unlike in
+    cc
+
+-- where another directory of the identifier is kept, both births have it
+module _ (world : World) (h : List Event) (legal : Legal world h) (number ask_place : ℕ) (own kept : Triple)
+    (may : MayServe world h number ask_place (reply.Clash kept)) (makes : may.posted.ask.request ≡ request.Make own) where
+  other : IsOther (site_of world number) (server_after world number h) own kept
+  other =
+      came_to_clash (site_of world number) (server_after world number h) ask_place may.posted.ask own kept may.after
+      (came_of_this (site_of world number) (server_after world number h) ask_place may.posted.ask (request.Make own) (reply.Clash kept) may.after may.reply makes
+      (λ it. cc))
+
+  clash_unlike : own ≢ kept
+  clash_unlike equal = unlike_by own kept other.content.triple equal other.kept_is other.unlike
+
+  is_birth : IsBirth world.digest h other.content.dir other.content.triple other.content.maker
+  is_birth =
+      so_found (IsBirth world.digest h) (identity world.digest own) (server_after world number h).contents other.content (births_after world h legal number)
+      other.there
+
+  same_identity : identity world.digest own ≡ identity world.digest kept
+  same_identity =
+      let found : identity world.digest own ≡ other.content.dir.id =
+      found_id (identity world.digest own) (server_after world number h).contents other.content other.there in
+      let identifies : other.content.dir.id ≡ identity world.digest other.content.triple = is_birth.identifies in
+      found ∙ (identifies ∙ ap (identity world.digest) other.kept_is)
+
+-- a result that was told of a clash is of two births
+pub clash_is_of_two_births : (world : World) (h : List Event) → Legal world h → (result : CallResult) (own kept : Triple)
+    → IsClashFor h result.call own kept result.place → IsClashBecause world h result own kept
+clash_is_of_two_births world h legal result own kept is =
+    let legally = serve_may world h legal is.place is.number is.ask_place (reply.Clash kept) is.told in
+    let same : legally.1.posted ≡ is.posted = let one = legally.1.made in let two = is.asked in cc in
+    let makes : legally.1.posted.ask.request ≡ request.Make own = ap (λ (p : Posted). p.ask.request) same ∙ is.makes in
+    record {
+      place = is.place;
+      placed = is.placed;
+      number = is.number;
+      ask_place = is.ask_place;
+      told = is.told;
+      posted = is.posted;
+      asked = is.asked;
+      caller = is.caller;
+      makes = is.makes;
+      unlike = clash_unlike world (before is.place h) legally.0 is.number is.ask_place own kept legally.1 makes;
+      clash = same_identity world (before is.place h) legally.0 is.number is.ask_place own kept legally.1 makes;
+    }

@@ -1,0 +1,127 @@
+-- A client acts, in any history, only for a call that has a course: one of the kinds that go by flows, with a path that is
+-- in order.
+use Rattle.std.proofs.Common.{suc, ap, ◌≡◌, ℕ, ◌==◌, Bool, true, false, if◌then◌else◌, List, [], ◌∷◌, length, slice_get, Option, Some, None, is_some, refl}
+use Rattle.inf_base.specs.declared.answer.Answer.TheVariants as answer
+use Rattle.inf_base.specs.declared.call.Call.{Call}
+use Rattle.inf_base.specs.declared.setup.ClientLine.{ClientLine}
+use Rattle.inf_message.specs.declared.ask.Ask.{Ask}
+use Rattle.inf_message.specs.declared.event.Event.{Event}
+use Rattle.inf_message.specs.declared.event.Event.TheVariants as event
+use Rattle.inf_message.specs.declared.request.Request.{Request}
+use Rattle.inf_message.specs.declared.step.Message.{Message}
+use Rattle.inf_message.specs.History.{Told, told_reply}
+use Rattle.inf_flow_dir.specs.Client.{Client, Ending, Sent, Stage, act, answers, compose, has_place, retries, round, winds, wound}
+use Rattle.inf_flow_dir.specs.Flow.{Who, clean_up}
+use Rattle.inf_flow_dir.specs.Group.{Course, composed, composed_stage, keys_of, next_course}
+use Rattle.inf_flow_dir.specs.Heard.{heard}
+use Rattle.inf_flow_dir.specs.Turn.{Turn, after_record, after_round, goes_on, is_complete, recorded, served, settled, turn_at, turned, winds_up}
+use Rattle.inf_duty.specs.After.{client_after}
+use Rattle.inf_duty.specs.Duty.{at_call, begun, found_at, given_up, given_up_in, is_acting, lifts}
+use Rattle.inf_duty.specs.Start.{starting}
+use Rattle.inf_duty.specs.World.{World}
+
+-- where a flow is at work, the call has a course
+abbrev pub StageHasCourse : List Call → Stage → Type 0
+StageHasCourse calls compose = Unit {0}
+StageHasCourse calls (round keys) = Unit {0}
+StageHasCourse calls (act flow) = is_some (next_course calls) ≡ true
+StageHasCourse calls (winds ending m ms) = Unit {0}
+
+pub record HasCourse (s : Client) : Type 0 where
+  pub course : StageHasCourse s.left s.stage
+
+abbrev TurnHasCourse : List Call → Turn → Type 0
+TurnHasCourse calls (goes_on next) = StageHasCourse calls next
+TurnHasCourse calls (winds_up ending more) = Unit {0}
+
+course_if : (b : Bool) (s other : Client) → HasCourse s → HasCourse other → HasCourse (if b then s else other)
+course_if true s other one two = one
+course_if false s other one two = two
+
+wound_course : (ending : Ending) (more : List Message) (s : Client) → HasCourse (wound ending more s)
+wound_course (answers given place) [] s = record { course = tt }
+wound_course retries [] s = record { course = tt }
+wound_course (answers given place) (m ∷ ms) s = record { course = tt }
+wound_course retries (m ∷ ms) s = record { course = tt }
+
+any_stage : (calls : List Call) (stage : Stage) → is_some (next_course calls) ≡ true → StageHasCourse calls stage
+any_stage calls compose is = tt
+any_stage calls (round keys) is = tt
+any_stage calls (act flow) is = is
+any_stage calls (winds ending m ms) is = tt
+
+any_turn : (calls : List Call) (t : Turn) → is_some (next_course calls) ≡ true → TurnHasCourse calls t
+any_turn calls (goes_on next) is = any_stage calls next is
+any_turn calls (winds_up ending more) is = tt
+
+round_course : (calls : List Call) (sent : List Sent) (found : Option Course) → next_course calls ≡ found → TurnHasCourse calls (after_round found sent)
+round_course calls sent None is = tt
+round_course calls sent (Some course) is = any_turn calls (after_round (Some course) sent) (ap is_some is)
+
+turn_course : (s : Client) (stage : Stage) → StageHasCourse s.left stage → TurnHasCourse s.left (turn_at s stage)
+turn_course s compose has = tt
+turn_course s (round keys) has = round_course s.left s.sent (next_course s.left) refl
+turn_course s (act flow) has = any_turn s.left (turn_at s (act flow)) has
+turn_course s (winds ending m ms) has = tt
+
+turned_course : (t : Turn) (s : Client) → TurnHasCourse s.left t → HasCourse (turned t s)
+turned_course (goes_on next) s has = record { course = has }
+turned_course (winds_up ending more) s has = wound_course ending more s
+
+keys_course : (calls : List Call) (who : Who) (found : Option Course) → StageHasCourse calls (keys_of who found)
+keys_course calls who None = tt
+keys_course calls who (Some course) = tt
+
+composed_at : (s : Client) (stage : Stage) → StageHasCourse s.left stage → StageHasCourse s.left (composed_stage s stage)
+composed_at s compose has = keys_course s.left s.who (next_course s.left)
+composed_at s (round keys) has = has
+composed_at s (act flow) has = has
+composed_at s (winds ending m ms) has = has
+
+composed_course : (s : Client) → HasCourse s → HasCourse (composed s)
+composed_course s has = record { course = composed_at s s.stage has.course }
+
+given_up_at : (s : Client) (stage : Stage) → HasCourse s → HasCourse (given_up_in s stage)
+given_up_at s (act flow) has = wound_course (answers answer.NoMemory None) (clean_up s.who flow) s
+given_up_at s (winds ending m ms) has = has
+given_up_at s compose has = record { course = tt }
+given_up_at s (round keys) has = record { course = tt }
+
+given_up_course : (s : Client) → HasCourse s → HasCourse (given_up s)
+given_up_course s has = given_up_at s s.stage has
+
+found_course : (asked : Request) (s : Client) → HasCourse s → HasCourse (found_at asked s)
+found_course asked s has =
+    course_if (lifts asked) _ _ (course_if (is_acting s.stage) _ _ (given_up_course s has) has) (composed_course s has)
+
+at_call_course : (number : ℕ) (asked : Request) (calls : List Call) (s : Client) → HasCourse s → HasCourse (at_call number asked calls s)
+at_call_course number asked [] s has = has
+at_call_course number asked (call ∷ calls) s has =
+    course_if (number == s.number) _ _ (found_course asked s has)
+    (course_if _ (at_call number asked calls (given_up s)) s (at_call_course number asked calls (given_up s) (given_up_course s has)) has)
+
+begun_course : (ask : Ask) (sent : List Sent) (s : Client) → HasCourse s → HasCourse (begun ask sent s)
+begun_course ask [] s has = at_call_course ask.from.number ask.request s.left s has
+begun_course ask (x ∷ xs) s has = has
+
+settled_course : (b : Bool) (s : Client) → HasCourse s → HasCourse (settled b s)
+settled_course true s has = turned_course (turn_at s s.stage) s (turn_course s s.stage has.course)
+settled_course false s has = has
+
+served_course : (place : ℕ) (told : Told) (s : Client) → HasCourse s → HasCourse (served place told s)
+served_course place told s has =
+    let here : HasCourse (recorded place told s) = record { course = has.course } in
+    course_if (has_place place s.sent) (after_record (recorded place told s)) s
+    (settled_course (is_complete (recorded place told s)) (recorded place told s) here) has
+
+starting_course : (world : World) (client : ℕ) (line : Option ClientLine) → HasCourse (starting world client line)
+starting_course world client None = record { course = tt }
+starting_course world client (Some line) = record { course = tt }
+
+pub has_course : (world : World) (client : ℕ) (h : List Event) → HasCourse (client_after world client h)
+has_course world client [] = starting_course world client (slice_get world.setup.clients client)
+has_course world client (event.Ask number ask ∷ h) =
+    let before = has_course world client h in
+    course_if (ask.from.client == client) _ _ (record { course = (begun_course ask (client_after world client h).sent (client_after world client h) before).course }) before
+has_course world client (event.Serve number ask_place given ∷ h) =
+    served_course ask_place (told_reply (suc (length h)) (heard given)) (client_after world client h) (has_course world client h)

@@ -1,0 +1,306 @@
+-- Once a directory was linked, the call that made it is over.
+use Rattle.std.proofs.Common.{◌≡◌, ◌≢◌, ◌⊎◌, inl, inr, ℕ, suc, ◌<◌, ◌≤◌, ◌||◌, Bool, true, false, eqb, List, [], ◌∷◌, length, slice_get, Option, Some, None, refl, sym, ap, ap₂, ◌∙◌, subst, arith}
+use Rattle.inf_base.specs.declared.caller.CallRef.{CallRef}
+use Rattle.inf_base.specs.declared.directory.DirRef.{DirRef}
+use Rattle.inf_base.specs.declared.entry.Entry.{Entry}
+use Rattle.inf_base.specs.declared.triple.Triple.{Triple}
+use Rattle.inf_base.specs.declared.triple.Triple.TheVariants as triple
+use Rattle.inf_base.specs.Content.{Content}
+use Rattle.inf_base.specs.Identity.{identity, server_of}
+use Rattle.inf_base.specs.Same.{dir_of}
+use Rattle.inf_content.specs.Contents.{content_at, empty_content}
+use Rattle.inf_duty.specs.After.{client_after}
+use Rattle.inf_duty.specs.World.{World}
+use Rattle.inf_flow_dir.specs.Client.{Client, Sent, Stage, act, compose, round, winds}
+use Rattle.inf_flow_dir.specs.Flow.{Flow, Who, birth_of, dir_in, finishes, id_or_root, last_dir, last_entry, links, made_dir, makes, message_of, reserves, seals, unlinks}
+use Rattle.inf_flow_dir.specs.Group.{group}
+use Rattle.inf_flow_dir.specs.Heard.{heard}
+use Rattle.inf_flow_dir.specs.Turn.{served}
+use Rattle.inf_laws_client.specs.Asked.{AreAskedFor}
+use Rattle.inf_laws_history.specs.Flight.{links_by, was_linked}
+use Rattle.inf_laws_history.specs.Flight.{links as links_to}
+use Rattle.inf_laws_history.specs.Kept.{Kept}
+use Rattle.inf_laws_history.specs.Legal.{Legal, MayServe, server_after}
+use Rattle.inf_laws_history.specs.Objects.{WasAskedIn, root_in, service_of}
+use Rattle.inf_laws_history.specs.Pending.{Waits}
+use Rattle.inf_laws_history.specs.Phases.{FlowHas, FlowMay, HasPhase, IsLiftedBy, StageMay}
+use Rattle.inf_message.specs.declared.ask.Ask.{Ask}
+use Rattle.inf_message.specs.declared.event.Event.{Event}
+use Rattle.inf_message.specs.declared.event.Event.TheVariants as event
+use Rattle.inf_message.specs.declared.reply.Reply.{Reply}
+use Rattle.inf_message.specs.declared.reply.Reply.TheVariants as reply
+use Rattle.inf_message.specs.declared.request.Request.{Request}
+use Rattle.inf_message.specs.declared.request.Request.TheVariants as request
+use Rattle.inf_message.specs.declared.step.Message.{Message}
+use Rattle.inf_message.specs.History.{Posted, Told, asked_at, told_reply}
+use Rattle.inf_message.proofs.HistoryLaws.{asked_stays, asked_within}
+use Rattle.inf_server.specs.State.{State}
+use Rattle.inf_laws_directory.specs.Owned.{Has}
+use Rattle.inf_laws_directory.specs.Phases.{IsLoose, Phase, has_made, has_reserved, has_sealed, has_unlinked, idle}
+use Rattle.inf_laws_directory.proofs.ContentFacts.{same_dir}
+use Rattle.inf_laws_history.proofs.AgainCauses.{found_at, under_way, waits}
+use Rattle.inf_laws_history.proofs.ClientSteps.{Lasts, begun_lasts, if_both, served_lasts}
+use Rattle.inf_laws_history.proofs.ContentBirths.{IsBirth, WasMade, births_after, so_found}
+use Rattle.inf_laws_history.proofs.GroupMessages.{alone, look_in, only_one}
+use Rattle.inf_laws_history.proofs.PhaseFacts.{one_ask, served_one, staged}
+
+-- ---- the numbers of calls grow
+
+number_lasts : (n : ℕ) → Lasts (λ (s : Client). n ≤ s.number)
+number_lasts n = record {
+  composing = λ s less. less;
+  ending = λ given place s less. omega (arith, less);
+  again = λ s less. less;
+  going_on = λ next s less. less;
+}
+
+pub numbers_grow : (world : World) (e : Event) (h : List Event) (client : ℕ) → (client_after world client h).number ≤ (client_after world client (e ∷ h)).number
+numbers_grow world (event.Ask number ask) h client =
+    let s : Client = client_after world client h in
+    if_both (λ (t : Client). s.number ≤ t.number) (eqb ask.from.client client) _ s
+    (begun_lasts (λ (t : Client). s.number ≤ t.number) (number_lasts s.number) ask s.sent s (omega arith)) (omega arith)
+numbers_grow world (event.Serve number ask_place given) h client =
+    let s : Client = client_after world client h in
+    served_lasts (λ (t : Client). s.number ≤ t.number) (number_lasts s.number) (λ place told t less. less) ask_place (told_reply (suc (length h)) (heard given)) s (omega arith)
+
+-- ---- where a call stands that is to make or link a directory
+
+-- it keeps the name at which the birth is
+pub record MakesAt (phase : Phase) (birth : Triple) : Type 0 where
+  pub parent : DirRef
+  pub name : List ℕ
+  pub version : ℕ
+  pub phase_is : phase ≡ has_reserved parent name birth
+  pub birth_is : birth ≡ triple.Of parent.id name version
+
+pub record LinksAt (phase : Phase) (dir : DirRef) : Type 0 where
+  pub parent : DirRef
+  pub name : List ℕ
+  pub version : ℕ
+  pub phase_is : phase ≡ has_made parent name (triple.Of parent.id name version) dir
+
+id_of_last : (who : Who) (found : Option Entry) (last : Entry) → found ≡ Some last → id_or_root who found ≡ (dir_in found).id
+id_of_last who None last is = cc
+id_of_last who (Some entry) last is = refl
+
+lifts_none : (servers : ℕ) (phase : Phase) (m : Message) (P : Request → Type 0) → ((dir : DirRef) → P (request.Cancel dir)) → ((dir : DirRef) → P (request.Drop dir))
+    → ((dir : DirRef) → P (request.Unseal dir)) → ((id : _) (dir : DirRef) → P (request.Forget id dir)) → IsLiftedBy servers phase m → P m.request
+lifts_none servers idle m P cancels drops unseals forgets is = subst (λ (x : Message). P x.request) (sym is.is) (forgets is.parent is.dir)
+lifts_none servers (has_reserved parent name birth) m P cancels drops unseals forgets is = subst (λ (x : Message). P x.request) (sym is) (cancels parent)
+lifts_none servers (has_made parent name birth made) m P cancels drops unseals forgets is = subst (λ (x : Message). P x.request) (sym is) (drops made)
+lifts_none servers (has_sealed parent name target) m P cancels drops unseals forgets is = subst (λ (x : Message). P x.request) (sym is) (unseals target)
+lifts_none servers (has_unlinked target) m P cancels drops unseals forgets is = subst (λ (x : Message). P x.request) (sym is) (drops target)
+
+module _ (who : Who) (phase : Phase) where
+  flow_makes : (flow : Flow) (birth : Triple) → (message_of who flow).request ≡ request.Make birth → FlowHas who flow phase → FlowMay who.caller flow → MakesAt phase birth
+  flow_makes (makes chain name mode version) birth is has may =
+      let same : birth_of who chain name version ≡ birth = cc in
+      record {
+        parent = last_dir chain;
+        name = name;
+        version = version;
+        phase_is = has ∙ ap (has_reserved (last_dir chain) name) same;
+        birth_is = sym same ∙ ap (λ i. triple.Of i name version) (id_of_last who (last_entry chain) may.last may.ends);
+      }
+  flow_makes (finishes chain asked) birth is has may = absurd cc
+  flow_makes (reserves chain name mode) birth is has may = absurd cc
+  flow_makes (links chain name mode version born) birth is has may = absurd cc
+  flow_makes (seals chain) birth is has may = absurd cc
+  flow_makes (unlinks chain) birth is has may = absurd cc
+
+  flow_links : (flow : Flow) (way : List Entry) (under : List ℕ) (dir : DirRef) (bits : ℕ) → (message_of who flow).request ≡ request.Link way under dir bits
+      → FlowHas who flow phase → FlowMay who.caller flow → LinksAt phase dir
+  flow_links (links chain name mode version born) way under dir bits is has may =
+      let same : made_dir who chain name version born ≡ dir = cc in
+      record {
+        parent = last_dir chain;
+        name = name;
+        version = version;
+        phase_is = has ∙ ap₂ (λ i d. has_made (last_dir chain) name (triple.Of i name version) d) (id_of_last who (last_entry chain) may.last may.ends) same;
+      }
+  flow_links (finishes chain asked) way under dir bits is has may = absurd cc
+  flow_links (reserves chain name mode) way under dir bits is has may = absurd cc
+  flow_links (makes chain name mode version) way under dir bits is has may = absurd cc
+  flow_links (seals chain) way under dir bits is has may = absurd cc
+  flow_links (unlinks chain) way under dir bits is has may = absurd cc
+
+  stage_makes : (stage : Stage) (index number : ℕ) (asked : Request) (birth : Triple) → slice_get (group who stage) index ≡ Some (record { number = number; request = asked })
+      → asked ≡ request.Make birth → HasPhase who stage phase → StageMay who.caller stage → MakesAt phase birth
+  stage_makes compose index number asked birth is makes_it has may = absurd cc
+  stage_makes (round keys) index number asked birth is makes_it has may =
+      let look = look_in who keys index number asked is in
+      absurd (let unlike : request.Lookup look.k ≡ request.Make birth = sym look.is ∙ makes_it in cc)
+  stage_makes (act flow) index number asked birth is makes_it has may =
+      flow_makes flow birth (ap (λ (m : Message). m.request) (only_one (message_of who flow) index number asked is) ∙ makes_it) has may
+  stage_makes (winds ending m ms) index number asked birth is makes_it has may =
+      absurd (lifts_none who.servers phase m (λ (r : Request). r ≡ request.Make birth → ⊥) (λ dir it. cc) (λ dir it. cc) (λ dir it. cc) (λ id dir it. cc) has.0
+      (ap (λ (x : Message). x.request) (only_one m index number asked is) ∙ makes_it))
+
+  stage_links : (stage : Stage) (index number : ℕ) (asked : Request) (way : List Entry) (under : List ℕ) (dir : DirRef) (bits : ℕ)
+      → slice_get (group who stage) index ≡ Some (record { number = number; request = asked })
+      → asked ≡ request.Link way under dir bits → HasPhase who stage phase → StageMay who.caller stage → LinksAt phase dir
+  stage_links compose index number asked way under dir bits is links_it has may = absurd cc
+  stage_links (round keys) index number asked way under dir bits is links_it has may =
+      let look = look_in who keys index number asked is in
+      absurd (let unlike : request.Lookup look.k ≡ request.Link way under dir bits = sym look.is ∙ links_it in cc)
+  stage_links (act flow) index number asked way under dir bits is links_it has may =
+      flow_links flow way under dir bits (ap (λ (m : Message). m.request) (only_one (message_of who flow) index number asked is) ∙ links_it) has may
+  stage_links (winds ending m ms) index number asked way under dir bits is links_it has may =
+      absurd (lifts_none who.servers phase m (λ (r : Request). r ≡ request.Link way under dir bits → ⊥) (λ d it. cc) (λ d it. cc) (λ d it. cc) (λ id d it. cc) has.0
+      (ap (λ (x : Message). x.request) (only_one m index number asked is) ∙ links_it))
+
+-- ---- a link that is done ends its call
+
+module _ (A : ℕ → Request → Type 0) (s : Client) (place number serve_place : ℕ) (ask : Ask) (way : List Entry) (under : List ℕ) (dir : DirRef) (bits : ℕ)
+    (links_it : ask.request ≡ request.Link way under dir bits) where
+  abbrev told : Told
+  told = told_reply serve_place reply.Fine
+
+  flow_ends : (flow : Flow) → (message_of s.who flow).request ≡ request.Link way under dir bits
+      → s.number < (served place told (staged s (act flow) (one_ask place None))).number
+  flow_ends (links chain name mode version born) is =
+      served_one (λ (t : Client). s.number < t.number) s (act (links chain name mode version born)) place told refl (omega arith)
+  flow_ends (finishes chain asked) is = absurd cc
+  flow_ends (reserves chain name mode) is = absurd cc
+  flow_ends (makes chain name mode version) is = absurd cc
+  flow_ends (seals chain) is = absurd cc
+  flow_ends (unlinks chain) is = absurd cc
+
+  stage_ends : (stage : Stage) (sent : List Sent) (phase : Phase) → Waits (staged s stage sent) place number ask → AreAskedFor A (group s.who stage) sent
+      → HasPhase s.who stage phase → s.number < (served place told (staged s stage sent)).number
+  stage_ends compose sent phase waits_it asks has = let none = waits_it.message in absurd cc
+  stage_ends (round keys) sent phase waits_it asks has =
+      let look = look_in s.who keys waits_it.index number ask.request waits_it.message in
+      absurd (let unlike : request.Lookup look.k ≡ request.Link way under dir bits = sym look.is ∙ links_it in cc)
+  stage_ends (act flow) sent phase waits_it asks has =
+      let lone = alone A (message_of s.who flow) sent waits_it.index place number ask.request waits_it.sent waits_it.message asks in
+      subst (λ (xs : List Sent). s.number < (served place told (staged s (act flow) xs)).number) (sym lone.sent_alone)
+      (flow_ends flow (ap (λ (m : Message). m.request) lone.message ∙ links_it))
+  stage_ends (winds ending m ms) sent phase waits_it asks has =
+      absurd (lifts_none s.who.servers phase m (λ (r : Request). r ≡ request.Link way under dir bits → ⊥) (λ d it. cc) (λ d it. cc) (λ d it. cc) (λ id d it. cc) has.0
+      (ap (λ (x : Message). x.request) (only_one m waits_it.index number ask.request waits_it.message) ∙ links_it))
+
+-- ---- what was linked
+
+record IsLinkTo (dir : DirRef) (asked : Request) : Type 0 where
+  chain : List Entry
+  name : List ℕ
+  mode : ℕ
+  is : asked ≡ request.Link chain name dir mode
+
+link_to : (dir : DirRef) (asked : Request) → links_to dir asked ≡ true → IsLinkTo dir asked
+link_to dir (request.Link chain name linked mode) is =
+    record { chain = chain; name = name; mode = mode; is = ap (λ (d : DirRef). request.Link chain name d mode) (sym (same_dir dir linked is)) }
+link_to dir other_request is = absurd cc
+
+-- the directory was made by a call that is over
+pub record IsPast (world : World) (h : List Event) (dir : DirRef) : Type 0 where
+  pub posted : Posted
+  pub asked : asked_at dir.born h ≡ Some posted
+  pub past : posted.ask.from.number < (client_after world posted.ask.from.client h).number
+
+past_stays : (world : World) (e : Event) (h : List Event) (dir : DirRef) → IsPast world h dir → IsPast world (e ∷ h) dir
+past_stays world e h dir is =
+    let grows = numbers_grow world e h is.posted.ask.from.client in
+    record {
+      posted = is.posted;
+      asked = asked_stays dir.born e h (asked_within dir.born is.posted h is.asked).within ∙ is.asked;
+      past = omega (arith, is.past, grows);
+    }
+
+module _ (world : World) (h : List Event) (kept : Kept world h) (legal : Legal world h) where
+  -- a directory that a call has made and not linked is of the Ask of that call
+  pub made_by : (by : CallRef) (parent : DirRef) (name : List ℕ) (birth : Triple) (made : DirRef) → kept.phases by ≡ has_made parent name birth made
+      → WasMade h made.born birth by
+  made_by by parent name birth made is =
+      let has = subst (λ (p : Phase). Has (service_of world) kept.objects by p) is (kept.standing.owned.has by) in
+      let number : ℕ = server_of made.id world.setup.servers in
+      let content : Content = empty_content made.id made.born birth by in
+      let there : content_at made (server_after world number h).contents ≡ Some content =
+      ap (λ (s : State). content_at made s.contents) (sym (kept.states number)) ∙ has.1 in
+      let is_birth : IsBirth world.digest h made birth by =
+      so_found (IsBirth world.digest h) made.id (server_after world number h).contents content (births_after world h legal number)
+      (found_at made (server_after world number h).contents content there) in
+      by_origin is_birth.identifies is_birth.origin
+    where
+      by_origin : made.id ≡ identity world.digest birth → ((made.born ≡ 0) × (birth ≡ triple.Root)) ⊎ WasMade h made.born birth by → WasMade h made.born birth by
+      by_origin identifies (inl first) =
+          let root : made ≡ dir_of (root_in world) =
+          ap₂ (λ i b. record { id = i; born = b }) (identifies ∙ ap (identity world.digest) first.1) first.0 in
+          absurd (kept.standing.owned.root_apart by (subst (λ (p : Phase). IsLoose p (dir_of (root_in world))) (sym is) root))
+      by_origin identifies (inr was) = was
+
+  module _ (number place : ℕ) (given : Reply) (may : MayServe world h number place given) where
+    abbrev asker : Client
+    asker = client_after world may.posted.ask.from.client h
+
+    abbrev asker_waits : Waits asker place number may.posted.ask
+    asker_waits = waits world h kept number place given may
+
+    asker_phase : HasPhase asker.who asker.stage (kept.phases may.posted.ask.from)
+    asker_phase =
+        subst (λ (c : CallRef). HasPhase asker.who asker.stage (kept.phases c)) (sym asker_waits.from) (kept.clients may.posted.ask.from.client).phase
+
+    pub asker_makes : (birth : Triple) → may.posted.ask.request ≡ request.Make birth → MakesAt (kept.phases may.posted.ask.from) birth
+    asker_makes birth is =
+        stage_makes asker.who (kept.phases may.posted.ask.from) asker.stage asker_waits.index number may.posted.ask.request birth asker_waits.message is asker_phase
+        (kept.clients may.posted.ask.from.client).may
+
+    pub asker_links : (chain : List Entry) (name : List ℕ) (dir : DirRef) (mode : ℕ) → may.posted.ask.request ≡ request.Link chain name dir mode
+        → LinksAt (kept.phases may.posted.ask.from) dir
+    asker_links chain name dir mode is =
+        stage_links asker.who (kept.phases may.posted.ask.from) asker.stage asker_waits.index number may.posted.ask.request chain name dir mode asker_waits.message is
+        asker_phase (kept.clients may.posted.ask.from.client).may
+
+  link_passes : (number place : ℕ) (may : MayServe world h number place reply.Fine) (dir : DirRef) → links_to dir may.posted.ask.request ≡ true
+      → IsPast world (event.Serve number place reply.Fine ∷ h) dir
+  link_passes number place may dir is =
+      let link = link_to dir may.posted.ask.request is in
+      let s : Client = client_after world may.posted.ask.from.client h in
+      let waits_it = waits world h kept number place reply.Fine may in
+      let has = asker_links number place reply.Fine may link.chain link.name dir link.mode link.is in
+      let was = made_by may.posted.ask.from has.parent has.name (triple.Of has.parent.id has.name has.version) dir has.phase_is in
+      let less : s.number < (client_after world may.posted.ask.from.client (event.Serve number place reply.Fine ∷ h)).number =
+      stage_ends (WasAskedIn h) s place number (suc (length h)) may.posted.ask link.chain link.name dir link.mode link.is s.stage s.sent (kept.phases may.posted.ask.from)
+      waits_it (kept.clients may.posted.ask.from.client).asks.asked (asker_phase number place reply.Fine may) in
+      let number_is : may.posted.ask.from.number ≡ s.number = ap (λ (c : CallRef). c.number) waits_it.from in
+      record {
+        posted = was.posted;
+        asked = asked_stays dir.born (event.Serve number place reply.Fine) h (asked_within dir.born was.posted h was.asked).within ∙ was.asked;
+        past = subst (λ (c : CallRef). c.number < (client_after world c.client (event.Serve number place reply.Fine ∷ h)).number) (sym was.own)
+            (omega (arith, less, number_is));
+      }
+
+either : (a b : Bool) → (a || b) ≡ true → (a ≡ true) ⊎ (b ≡ true)
+either true b is = inl refl
+either false b is = inr is
+
+module _ (world : World) (keeps : (h : List Event) → Legal world h → Kept world h) where
+  serve_past : (h : List Event) (legal : Legal world h) (number place : ℕ) (given : Reply) (may : MayServe world h number place given) (dir : DirRef)
+      → (was_linked dir h ≡ true → IsPast world h dir)
+      → was_linked dir (event.Serve number place given ∷ h) ≡ true → IsPast world (event.Serve number place given ∷ h) dir
+  serve_past h legal number place reply.Fine may dir before is = by (either (links_by dir (asked_at place h)) (was_linked dir h) is)
+    where
+      by : (links_by dir (asked_at place h) ≡ true) ⊎ (was_linked dir h ≡ true) → IsPast world (event.Serve number place reply.Fine ∷ h) dir
+      by (inl now) = link_passes world h (keeps h legal) legal number place may dir (sym (ap (links_by dir) may.made) ∙ now)
+      by (inr earlier) = past_stays world (event.Serve number place reply.Fine) h dir (before earlier)
+  serve_past h legal number place other_reply may dir before is = past_stays world (event.Serve number place other_reply) h dir (before is)
+
+  linked_past : (h : List Event) → Legal world h → (dir : DirRef) → was_linked dir h ≡ true → IsPast world h dir
+  linked_past [] legal dir is = absurd cc
+  linked_past (event.Ask number ask ∷ h) legal dir is = past_stays world (event.Ask number ask) h dir (linked_past h legal.0 dir is)
+  linked_past (event.Serve number place given ∷ h) legal dir is = serve_past h legal.0 number place given legal.1 dir (linked_past h legal.0 dir) is
+
+  -- what a call that is under way made was never linked
+  pub never_linked : (h : List Event) (legal : Legal world h) (by : CallRef) (birth : Triple) (dir : DirRef) → (keeps h legal).phases by ≢ idle
+      → WasMade h dir.born birth by → was_linked dir h ≡ false
+  never_linked h legal by birth dir acts was = by_test (was_linked dir h) refl
+    where
+      by_test : (b : Bool) → was_linked dir h ≡ b → b ≡ false
+      by_test false is = refl
+      by_test true is =
+          let past = linked_past h legal dir is in
+          let same : past.posted ≡ was.posted = let one = past.asked in let two = was.asked in cc in
+          let less : by.number < (client_after world by.client h).number =
+          subst (λ (c : CallRef). c.number < (client_after world c.client h).number) (ap (λ (p : Posted). p.ask.from) same ∙ was.own) past.past in
+          absurd (omega (arith, less, under_way world h (keeps h legal) by acts))

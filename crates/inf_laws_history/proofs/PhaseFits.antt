@@ -1,0 +1,161 @@
+-- What a client's Ask fits, where clean-ups are sent, and what servers reply to it.
+use Rattle.std.proofs.Common.{◌≡◌, ℕ, List, slice_get, Option, Some, None, refl, sym, subst}
+use Rattle.inf_base.specs.declared.access.Access.{Access}
+use Rattle.inf_base.specs.declared.caller.CallRef.{CallRef}
+use Rattle.inf_base.specs.declared.entry.Entry.{Entry}
+use Rattle.inf_base.specs.declared.item.Item.{Item}
+use Rattle.inf_base.specs.declared.key.Key.{Key}
+use Rattle.inf_base.specs.Identity.{server_of}
+use Rattle.inf_content.specs.Contents.{dropped_at, lifted_at, unsealed_at}
+use Rattle.inf_flow_dir.specs.Client.{Client, Stage, act, call_ref, compose, round, winds}
+use Rattle.inf_flow_dir.specs.Flow.{Flow, Who, dir_in, finishes, links, makes, message_of, reserves, seals, unlinks}
+use Rattle.inf_flow_dir.specs.Group.{group}
+use Rattle.inf_flow_dir.specs.Heard.{heard}
+use Rattle.inf_laws_client.specs.Told.{KnowsOnly, LinksUp, StandsOn, chain_of}
+use Rattle.inf_laws_directory.specs.Fits.{EndsIn, Fits}
+use Rattle.inf_laws_directory.specs.Objects.{Service, site_in}
+use Rattle.inf_laws_directory.specs.Phases.{Phase, Phases, has_made, has_reserved, has_sealed, has_unlinked, idle}
+use Rattle.inf_laws_directory.proofs.ServedReplies.{fine_where, kept_here, no_listing, reserved_may_write, sealed_may_write}
+use Rattle.inf_laws_history.specs.Pending.{Waits}
+use Rattle.inf_laws_history.specs.Phases.{FlowHas, FlowMay, HasPhase, IsLiftedBy, StageMay}
+use Rattle.inf_laws_history.proofs.GroupMessages.{look_in, only_one}
+use Rattle.inf_laws_history.proofs.PhaseFacts.{Answering, InHand, IsCleanUp}
+use Rattle.inf_laws_history.proofs.PhaseTurns.{ends_under}
+use Rattle.inf_message.specs.declared.ask.Ask.{Ask}
+use Rattle.inf_message.specs.declared.reply.Reply.{Reply}
+use Rattle.inf_message.specs.declared.reply.Reply.TheVariants as reply
+use Rattle.inf_message.specs.declared.request.Request.{Request}
+use Rattle.inf_message.specs.declared.request.Request.TheVariants as request
+use Rattle.inf_message.specs.declared.step.Message.{Message}
+use Rattle.inf_renames.specs.Renames.{forgotten}
+use Rattle.inf_server.specs.Chains.{before_last, last_of}
+use Rattle.inf_server.specs.Machine.{Serves}
+use Rattle.inf_server.specs.State.{State, is_here, with_contents}
+
+-- ---- what is asked fits what is in hand
+
+ends_in : (found : Option Entry) (last : Entry) → found ≡ Some last → EndsIn found (dir_in found)
+ends_in None last is = absurd cc
+ends_in (Some entry) last is = refl
+
+flow_fits : (who : Who) (flow : Flow) (phase : Phase) → FlowHas who flow phase → FlowMay who.caller flow → LinksUp (chain_of flow)
+    → Fits phase (message_of who flow).request
+flow_fits who (finishes chain asked) phase has may up = subst (λ (p : Phase). Fits p (request.Finish chain asked)) (sym has) tt
+flow_fits who (reserves chain name mode) phase has may up = subst (λ (p : Phase). Fits p (request.Reserve chain name)) (sym has) tt
+flow_fits who (makes chain name mode version) phase has may up =
+    subst (λ (p : Phase). Fits p (message_of who (makes chain name mode version)).request) (sym has) refl
+flow_fits who (links chain name mode version born) phase has may up =
+    subst (λ (p : Phase). Fits p (message_of who (links chain name mode version born)).request) (sym has) (ends_in (last_of chain) may.last may.ends, refl, refl)
+flow_fits who (seals chain) phase has may up = subst (λ (p : Phase). Fits p (request.Seal chain)) (sym has) tt
+flow_fits who (unlinks chain) phase has may up =
+    let under = ends_under chain may.last up may.ends in
+    subst (λ (p : Phase). Fits p (request.Unlink chain)) (sym has.is)
+    (ends_in (last_of (before_last chain)) may.last may.ends, ends_in (last_of chain) under.target under.is)
+
+lifted_fits : (servers : ℕ) (phase : Phase) (m : Message) → IsLiftedBy servers phase m → Fits phase m.request
+lifted_fits servers idle m is = subst (λ (x : Message). Fits idle x.request) (sym is.is) tt
+lifted_fits servers (has_reserved parent name birth) m is = subst (λ (x : Message). Fits (has_reserved parent name birth) x.request) (sym is) refl
+lifted_fits servers (has_made parent name birth made) m is = subst (λ (x : Message). Fits (has_made parent name birth made) x.request) (sym is) refl
+lifted_fits servers (has_sealed parent name target) m is = subst (λ (x : Message). Fits (has_sealed parent name target) x.request) (sym is) refl
+lifted_fits servers (has_unlinked target) m is = subst (λ (x : Message). Fits (has_unlinked target) x.request) (sym is) refl
+
+stage_fits : (T : Key → Access → Type 0) (who : Who) (stage : Stage) (index number : ℕ) (asked : Request) (phase : Phase) → HasPhase who stage phase
+    → StageMay who.caller stage → StandsOn T stage → slice_get (group who stage) index ≡ Some (record { number = number; request = asked })
+    → Fits phase asked
+stage_fits T who compose index number asked phase has may stands is = absurd cc
+stage_fits T who (round keys) index number asked phase has may stands is =
+    let look = look_in who keys index number asked is in
+    subst (λ (r : Request). Fits phase r) (sym look.is) (subst (λ (p : Phase). Fits p (request.Lookup look.k)) (sym has) tt)
+stage_fits T who (act flow) index number asked phase has may stands is =
+    subst (λ (x : Message). Fits phase x.request) (only_one (message_of who flow) index number asked is) (flow_fits who flow phase has may stands.links_up)
+stage_fits T who (winds ending m ms) index number asked phase has may stands is =
+    subst (λ (x : Message). Fits phase x.request) (only_one m index number asked is) (lifted_fits who.servers phase m has.0)
+
+pub fits_phase : (T : Key → Access → Type 0) (s : Client) (place number : ℕ) (ask : Ask) (phases : Phases)
+    → HasPhase s.who s.stage (phases (call_ref s)) → StageMay s.who.caller s.stage → KnowsOnly T s → Waits s place number ask
+    → Fits (phases ask.from) ask.request
+fits_phase T s place number ask phases phase may knows waits =
+    subst (λ (by : CallRef). Fits (phases by) ask.request) (sym waits.from)
+    (stage_fits T s.who s.stage waits.index number ask.request (phases (call_ref s)) phase may knows.stands waits.message)
+
+-- what a client asks fits what its call has in hand
+pub fits : (T : Key → Access → Type 0) (s : Client) (place number : ℕ) (ask : Ask) (phases : Phases)
+    → InHand phases s → KnowsOnly T s → Waits s place number ask → Fits (phases ask.from) ask.request
+fits T s place number ask phases hand knows waits = fits_phase T s place number ask phases hand.phase hand.may knows waits
+
+-- ---- clean-ups are done
+
+-- a clean-up is sent to the server that does it
+abbrev pub IsSentHome : ℕ → ℕ → Request → Type 0
+IsSentHome servers number (request.Cancel dir) = number ≡ server_of dir.id servers
+IsSentHome servers number (request.Drop dir) = number ≡ server_of dir.id servers
+IsSentHome servers number (request.Unseal dir) = number ≡ server_of dir.id servers
+IsSentHome servers number (request.Forget parent dir) = number ≡ server_of parent servers
+IsSentHome servers number other_request = ⊥
+
+lifted_home : (servers : ℕ) (phase : Phase) (m : Message) → IsLiftedBy servers phase m → IsSentHome servers m.number m.request
+lifted_home servers idle m is = subst (λ (x : Message). IsSentHome servers x.number x.request) (sym is.is) refl
+lifted_home servers (has_reserved parent name birth) m is = subst (λ (x : Message). IsSentHome servers x.number x.request) (sym is) refl
+lifted_home servers (has_made parent name birth made) m is = subst (λ (x : Message). IsSentHome servers x.number x.request) (sym is) refl
+lifted_home servers (has_sealed parent name target) m is = subst (λ (x : Message). IsSentHome servers x.number x.request) (sym is) refl
+lifted_home servers (has_unlinked target) m is = subst (λ (x : Message). IsSentHome servers x.number x.request) (sym is) refl
+
+stage_home : (who : Who) (stage : Stage) (index number : ℕ) (asked : Request) (phase : Phase) → HasPhase who stage phase → IsCleanUp stage
+    → slice_get (group who stage) index ≡ Some (record { number = number; request = asked }) → IsSentHome who.servers number asked
+stage_home who compose index number asked phase has cleans is = absurd cleans
+stage_home who (round keys) index number asked phase has cleans is = absurd cleans
+stage_home who (act flow) index number asked phase has cleans is = absurd cleans
+stage_home who (winds ending m ms) index number asked phase has cleans is =
+    subst (λ (x : Message). IsSentHome who.servers x.number x.request) (only_one m index number asked is) (lifted_home who.servers phase m has.0)
+
+pub sent_home : (s : Client) (place number : ℕ) (ask : Ask) (phases : Phases)
+    → HasPhase s.who s.stage (phases (call_ref s)) → Waits s place number ask → IsCleanUp s.stage → IsSentHome s.who.servers number ask.request
+sent_home s place number ask phases phase waits cleans =
+    stage_home s.who s.stage waits.index number ask.request (phases (call_ref s)) phase cleans waits.message
+
+pub right_server : (s : Client) (place number : ℕ) (ask : Ask) (phases : Phases)
+    → InHand phases s → Waits s place number ask → IsCleanUp s.stage → IsSentHome s.who.servers number ask.request
+right_server s place number ask phases hand waits cleans = sent_home s place number ask phases hand.phase waits cleans
+
+module _ (service : Service) (number place : ℕ) (ask : Ask) (given : Reply) (old new : State) where
+  done_home : (asked : Request) → Serves (site_in service number) old place ask given new → ask.request ≡ asked → IsSentHome service.servers number asked
+      → given ≡ reply.Fine
+  done_home (request.Cancel dir) serves is here =
+      fine_where service number old place ask new (request.Cancel dir) (is_here (site_in service number) dir.id)
+      (with_contents (lifted_at dir ask.from old.contents) old) given serves is refl refl (kept_here service number old place ask new dir.id here)
+  done_home (request.Drop dir) serves is here =
+      fine_where service number old place ask new (request.Drop dir) (is_here (site_in service number) dir.id)
+      (with_contents (dropped_at dir ask.from old.contents) old) given serves is refl refl (kept_here service number old place ask new dir.id here)
+  done_home (request.Unseal dir) serves is here =
+      fine_where service number old place ask new (request.Unseal dir) (is_here (site_in service number) dir.id)
+      (with_contents (unsealed_at dir ask.from old.contents) old) given serves is refl refl (kept_here service number old place ask new dir.id here)
+  done_home (request.Forget parent dir) serves is here =
+      fine_where service number old place ask new (request.Forget parent dir) (is_here (site_in service number) parent)
+      (record old { renames = forgotten parent dir old.renames }) given serves is refl refl (kept_here service number old place ask new parent here)
+  done_home other_request serves is here = absurd here
+
+pub clean_up_done : (service : Service) (s : Client) (place number : ℕ) (ask : Ask) (given : Reply) (phases : Phases) (old new : State)
+    → s.who.servers ≡ service.servers → HasPhase s.who s.stage (phases (call_ref s)) → Waits s place number ask
+    → Serves (site_in service number) old place ask given new → IsCleanUp s.stage → given ≡ reply.Fine
+clean_up_done service s place number ask given phases old new servers phase waits serves cleans =
+    done_home service number place ask given old new ask.request serves refl
+    (subst (λ (n : ℕ). IsSentHome n number ask.request) servers (sent_home s place number ask phases phase waits cleans))
+
+-- ---- what servers reply
+
+heard_same : (given : Reply) → ((items : List Item) → given ≡ reply.Listing items → ⊥) → heard given ≡ given
+heard_same (reply.Listing items) no_listing_here = absurd (no_listing_here items refl)
+heard_same given no_listing_here = refl
+
+-- the replies of servers are such
+pub is_answering : (service : Service) (s : Client) (place number : ℕ) (ask : Ask) (given : Reply) (phases : Phases) (old new : State)
+    → s.who.servers ≡ service.servers → InHand phases s → Waits s place number ask
+    → Serves (site_in service number) old place ask given new → Answering s ask given
+is_answering service s place number ask given phases old new servers hand waits serves =
+    let site = site_in service number in
+    record {
+      same = heard_same given (λ items is. no_listing site old place ask given new serves items is);
+      cleans = λ cleans. clean_up_done service s place number ask given phases old new servers hand.phase waits serves cleans;
+      reserves = λ chain name version asked is. reserved_may_write site old place ask given new serves chain name version asked is;
+      seals = λ chain asked is. sealed_may_write site old place ask given new serves chain asked is;
+    }

@@ -1,0 +1,570 @@
+-- What results that were given up rest on: the Serve that said so, and the Ask that it served.
+use Rattle.std.proofs.Common.{◌≡◌, ℕ, zero, suc, ◌+◌, ◌≤◌, ◌<◌, ◌==◌, Bool, true, false, cond, eqb, if◌then◌else◌, nat_lt, List, [], ◌∷◌, ◌++◌, length, map, slice_get, Option, None, Some, refl, sym, ap, subst, ◌∙◌, ⊎_elim, arith}
+use Rattle.std.specs.Prelude.{All}
+use Rattle.std.proofs.lemmas.Bool.Decides.{Decides-eqb, nat_tests}
+use Rattle.inf_base.specs.declared.answer.Answer.{Answer}
+use Rattle.inf_base.specs.declared.answer.Answer.TheVariants as answer
+use Rattle.inf_base.specs.declared.call.Call.{Call}
+use Rattle.inf_base.specs.declared.caller.CallRef.{CallRef}
+use Rattle.inf_base.specs.declared.entry.Entry.{Entry}
+use Rattle.inf_base.specs.declared.setup.ClientLine.{ClientLine}
+use Rattle.inf_base.specs.declared.triple.Triple.{Triple}
+use Rattle.inf_base.specs.Same.{dir_of}
+use Rattle.inf_duty.specs.After.{client_after}
+use Rattle.inf_duty.specs.Duty.{asked, begun, given_up_in}
+use Rattle.inf_duty.specs.Outcome.{Agrees, Outcome, OutcomeFrom, all_given_up, results_of, so_far, unanswered}
+use Rattle.inf_duty.specs.Start.{starting}
+use Rattle.inf_duty.specs.World.{World}
+use Rattle.inf_flow_dir.specs.Client.{Client, Ending, Sent, Stage, act, answers, call_ref, compose, ended, has_place, result_of, retries, round, told_at, winds, wound}
+use Rattle.inf_flow_dir.specs.Flow.{Flow, Who, birth_of, clean_up, finishes, links, makes, message_of, reserves, seals, unlinks}
+use Rattle.inf_flow_dir.specs.Group.{Course, composed_stage, group, keys_of, next_course}
+use Rattle.inf_flow_dir.specs.Heard.{heard}
+use Rattle.inf_flow_dir.specs.Turn.{Next, Turn, act_turn, after_act, after_make, after_round, by_next, fails, follow, from_root, goes_on, is_busy, links_to, next_entry, recorded, served, steps, stops, told_entry, turn_at, turned, winds_up}
+use Rattle.inf_laws_client.specs.Asked.{AreAskedFor}
+use Rattle.inf_laws_history.specs.Causes.{before}
+use Rattle.inf_laws_history.specs.Legal.{Legal, MayServe}
+use Rattle.inf_laws_history.specs.Objects.{WasAskedIn}
+use Rattle.inf_message.specs.declared.ask.Ask.{Ask}
+use Rattle.inf_message.specs.declared.call_result.CallResult.{CallResult}
+use Rattle.inf_message.specs.declared.event.Event.{Event}
+use Rattle.inf_message.specs.declared.event.Event.TheVariants as event
+use Rattle.inf_message.specs.declared.op.Op.TheVariants as op
+use Rattle.inf_message.specs.declared.reply.Reply.{Reply}
+use Rattle.inf_message.specs.declared.reply.Reply.TheVariants as reply
+use Rattle.inf_message.specs.declared.reply.Spot.{Spot}
+use Rattle.inf_message.specs.declared.request.Request.{Request}
+use Rattle.inf_message.specs.declared.request.Request.TheVariants as request
+use Rattle.inf_message.specs.declared.step.Message.{Message}
+use Rattle.inf_message.specs.History.{Posted, Told, asked_at, event_at, or_told, told_reply}
+use Rattle.inf_message.proofs.HistoryLaws.{asked_stays, asked_within, by_test, event_stays, event_within, itself}
+use Rattle.inf_laws_history.proofs.AskedGroups.{asks_group, group_stays}
+use Rattle.inf_laws_history.proofs.ClientSteps.{by_answer, if_both, waits_for_own}
+use Rattle.inf_laws_history.proofs.PendingFacts.{pending_after}
+use Rattle.inf_laws_history.proofs.ResultSteps.{IsKept, all_given_up_keeps, begun_keeps}
+
+-- ---- earlier events
+
+not_less : (a b : ℕ) → b ≤ a → nat_lt a b ≡ false
+not_less a b within = grind (arith, nat_tests)
+
+is_less : (a b : ℕ) → a < b → nat_lt a b ≡ true
+is_less a b less = grind (arith, nat_tests)
+
+pub before_stays : (place : ℕ) (e : Event) (h : List Event) → place ≤ suc (length h) → before place (e ∷ h) ≡ before place h
+before_stays place e h within = ap (λ (b : Bool). cond b (e ∷ h) (before place h)) (not_less (suc (length h)) place within)
+
+pub before_all : (place : ℕ) (h : List Event) → length h < place → before place h ≡ h
+before_all place [] past = refl
+before_all place (e ∷ h) past = ap (λ (b : Bool). cond b (e ∷ h) (before place h)) (is_less (suc (length h)) place past)
+
+-- an Ask of earlier stands there still
+pub asked_before : (place at : ℕ) (posted : Posted) (h : List Event) → asked_at at (before place h) ≡ Some posted → asked_at at h ≡ Some posted
+asked_before place at posted [] found = found
+asked_before place at posted (e ∷ h) found = by (nat_lt (suc (length h)) place) found (asked_before place at posted h)
+  where
+    by : (b : Bool) → asked_at at (cond b (e ∷ h) (before place h)) ≡ Some posted → (asked_at at (before place h) ≡ Some posted → asked_at at h ≡ Some posted)
+        → asked_at at (e ∷ h) ≡ Some posted
+    by true here later = here
+    by false here later = let there = later here in asked_stays at e h (asked_within at posted h there).within ∙ there
+
+-- ---- what a result rests on
+
+-- the call's Ask at a place was served so
+pub record IsServedFor (h : List Event) (call : CallRef) (place : ℕ) (told : Told) : Type 0 where
+  pub number : ℕ
+  pub given : Reply
+  pub stands : event_at told.serve_place h ≡ Some (event.Serve number place given)
+  pub hears : heard given ≡ told.reply
+  pub posted : Posted
+  pub asked : asked_at place (before told.serve_place h) ≡ Some posted
+  pub own : posted.ask.from ≡ call
+
+-- a Serve told the call that another one is in the way
+pub record IsBusyFor (h : List Event) (call by : CallRef) (at : Option ℕ) : Type 0 where
+  pub place : ℕ
+  pub placed : at ≡ Some place
+  pub number : ℕ
+  pub ask_place : ℕ
+  pub spot : Spot
+  pub born : ℕ
+  pub told : event_at place h ≡ Some (event.Serve number ask_place (reply.Busy by spot born))
+  pub posted : Posted
+  pub asked : asked_at ask_place (before place h) ≡ Some posted
+  pub own : posted.ask.from ≡ call
+
+-- a Serve told the call that a directory of another birth has the identifier
+pub record IsClashFor (h : List Event) (call : CallRef) (own kept : Triple) (at : Option ℕ) : Type 0 where
+  pub place : ℕ
+  pub placed : at ≡ Some place
+  pub number : ℕ
+  pub ask_place : ℕ
+  pub told : event_at place h ≡ Some (event.Serve number ask_place (reply.Clash kept))
+  pub posted : Posted
+  pub asked : asked_at ask_place (before place h) ≡ Some posted
+  pub caller : posted.ask.from ≡ call
+  pub makes : posted.ask.request ≡ request.Make own
+
+abbrev pub IsCausedFor : List Event → CallRef → Answer → Option ℕ → Type 0
+IsCausedFor h call (answer.Again by) at = IsBusyFor h call by at
+IsCausedFor h call (answer.IdClash own kept) at = IsClashFor h call own kept at
+IsCausedFor h call other_answer at = Unit {0}
+
+abbrev pub AllCaused : List Event → List CallResult → Type 0
+AllCaused h [] = Unit {0}
+AllCaused h (r ∷ rs) = IsCausedFor h r.call r.answer r.place × AllCaused h rs
+
+abbrev EndsCaused : List Event → CallRef → Ending → Type 0
+EndsCaused h call (answers given at) = IsCausedFor h call given at
+EndsCaused h call retries = Unit {0}
+
+abbrev StageCaused : List Event → CallRef → Stage → Type 0
+StageCaused h call (winds ending m ms) = EndsCaused h call ending
+StageCaused h call other_stage = Unit {0}
+
+abbrev IsServedIf : List Event → CallRef → ℕ → Option Told → Type 0
+IsServedIf h call place None = Unit {0}
+IsServedIf h call place (Some told) = IsServedFor h call place told
+
+abbrev AreServed : List Event → CallRef → List Sent → Type 0
+AreServed h call [] = Unit {0}
+AreServed h call (x ∷ xs) = IsServedIf h call x.place x.told × AreServed h call xs
+
+-- a client's results, and the answer that its call comes to, rest on Serves; so does what its group was told
+pub record IsCaused (h : List Event) (s : Client) : Type 0 where
+  pub results : AllCaused h s.results
+  pub stage : StageCaused h (call_ref s) s.stage
+  pub sent : AreServed h (call_ref s) s.sent
+
+-- ---- one event more
+
+module _ (e : Event) (h : List Event) (call : CallRef) where
+  served_stays : (place : ℕ) (told : Told) → IsServedFor h call place told → IsServedFor (e ∷ h) call place told
+  served_stays place told is =
+      let within = (event_within told.serve_place (event.Serve is.number place is.given) h is.stands).within in
+      record {
+        number = is.number;
+        given = is.given;
+        stands = event_stays told.serve_place e h within ∙ is.stands;
+        hears = is.hears;
+        posted = is.posted;
+        asked = ap (asked_at place) (before_stays told.serve_place e h (omega (arith, within))) ∙ is.asked;
+        own = is.own;
+      }
+
+  busy_stays : (by : CallRef) (at : Option ℕ) → IsBusyFor h call by at → IsBusyFor (e ∷ h) call by at
+  busy_stays by at is =
+      let within = (event_within is.place (event.Serve is.number is.ask_place (reply.Busy by is.spot is.born)) h is.told).within in
+      record {
+        place = is.place;
+        placed = is.placed;
+        number = is.number;
+        ask_place = is.ask_place;
+        spot = is.spot;
+        born = is.born;
+        told = event_stays is.place e h within ∙ is.told;
+        posted = is.posted;
+        asked = ap (asked_at is.ask_place) (before_stays is.place e h (omega (arith, within))) ∙ is.asked;
+        own = is.own;
+      }
+
+  clash_stays : (own kept : Triple) (at : Option ℕ) → IsClashFor h call own kept at → IsClashFor (e ∷ h) call own kept at
+  clash_stays own kept at is =
+      let within = (event_within is.place (event.Serve is.number is.ask_place (reply.Clash kept)) h is.told).within in
+      record {
+        place = is.place;
+        placed = is.placed;
+        number = is.number;
+        ask_place = is.ask_place;
+        told = event_stays is.place e h within ∙ is.told;
+        posted = is.posted;
+        asked = ap (asked_at is.ask_place) (before_stays is.place e h (omega (arith, within))) ∙ is.asked;
+        caller = is.caller;
+        makes = is.makes;
+      }
+
+  cause_stays : (given : Answer) (at : Option ℕ) → IsCausedFor h call given at → IsCausedFor (e ∷ h) call given at
+  cause_stays (answer.Again by) at is = busy_stays by at is
+  cause_stays (answer.IdClash own kept) at is = clash_stays own kept at is
+  cause_stays other_answer at is = tt
+
+  ending_stays : (ending : Ending) → EndsCaused h call ending → EndsCaused (e ∷ h) call ending
+  ending_stays (answers given at) is = cause_stays given at is
+  ending_stays retries is = tt
+
+  stage_stays : (stage : Stage) → StageCaused h call stage → StageCaused (e ∷ h) call stage
+  stage_stays (winds ending m ms) is = ending_stays ending is
+  stage_stays other_stage is = tt
+
+  if_stays : (place : ℕ) (told : Option Told) → IsServedIf h call place told → IsServedIf (e ∷ h) call place told
+  if_stays place None is = tt
+  if_stays place (Some told) is = served_stays place told is
+
+  sent_stays : (sent : List Sent) → AreServed h call sent → AreServed (e ∷ h) call sent
+  sent_stays [] is = tt
+  sent_stays (x ∷ xs) is = (if_stays x.place x.told is.0, sent_stays xs is.1)
+
+results_stay : (e : Event) (h : List Event) (results : List CallResult) → AllCaused h results → AllCaused (e ∷ h) results
+results_stay e h [] all = tt
+results_stay e h (r ∷ rs) all = (cause_stays e h r.call r.answer r.place all.0, results_stay e h rs all.1)
+
+caused_stays : (e : Event) (h : List Event) (s : Client) → IsCaused h s → IsCaused (e ∷ h) s
+caused_stays e h s is = record {
+  results = results_stay e h s.results is.results;
+  stage = stage_stays e h (call_ref s) s.stage is.stage;
+  sent = sent_stays e h (call_ref s) s.sent is.sent;
+}
+
+-- ---- what a client does
+
+both_caused : (h : List Event) (first second : List CallResult) → AllCaused h first → AllCaused h second → AllCaused h (first ++ second)
+both_caused h [] second one two = two
+both_caused h (r ∷ first) second one two = (one.0, both_caused h first second one.1 two)
+
+module _ (h : List Event) where
+  ended_caused : (given : Answer) (at : Option ℕ) (s : Client) → AllCaused h s.results → IsCausedFor h (call_ref s) given at → IsCaused h (ended given at s)
+  ended_caused given at s all new = record {
+    results = both_caused h s.results (result_of given at s.counts.last s ∷ []) all (new, tt);
+    stage = tt;
+    sent = tt;
+  }
+
+  wound_caused : (ending : Ending) (more : List Message) (s : Client) → AllCaused h s.results → EndsCaused h (call_ref s) ending → IsCaused h (wound ending more s)
+  wound_caused (answers given at) [] s all new = ended_caused given at s all new
+  wound_caused retries [] s all new = record { results = all; stage = tt; sent = tt }
+  wound_caused ending (m ∷ ms) s all new = record { results = all; stage = new; sent = tt }
+
+  given_up_caused : (stage : Stage) (s : Client) → IsCaused h s → IsCaused h (given_up_in s stage)
+  given_up_caused (act flow) s is = wound_caused (answers answer.NoMemory None) (clean_up s.who flow) s is.results tt
+  given_up_caused (winds ending m ms) s is = is
+  given_up_caused compose s is = ended_caused answer.NoMemory None s is.results tt
+  given_up_caused (round keys) s is = ended_caused answer.NoMemory None s is.results tt
+
+  keys_caused : (call : CallRef) (who : Who) (course : Option Course) → StageCaused h call (keys_of who course)
+  keys_caused call who None = tt
+  keys_caused call who (Some course) = tt
+
+  composed_caused : (stage : Stage) (s : Client) → StageCaused h (call_ref s) stage → StageCaused h (call_ref s) (composed_stage s stage)
+  composed_caused compose s is = keys_caused (call_ref s) s.who (next_course s.left)
+  composed_caused (round keys) s is = tt
+  composed_caused (act flow) s is = tt
+  composed_caused (winds ending m ms) s is = is
+
+  keeps_causes : IsKept (IsCaused h)
+  keeps_causes = record {
+    composing = λ s is. record { results = is.results; stage = composed_caused s.stage s is.stage; sent = is.sent };
+    giving_up = λ s is. given_up_caused s.stage s is;
+  }
+
+  newly_sent : (call : CallRef) (place : ℕ) (sent : List Sent) → AreServed h call sent → AreServed h call (sent ++ record { place = place; told = None } ∷ [])
+  newly_sent call place [] are = (tt, tt)
+  newly_sent call place (x ∷ xs) are = (are.0, newly_sent call place xs are.1)
+
+  asked_caused : (place : ℕ) (ask : Ask) (s : Client) → IsCaused h s → IsCaused h (asked place ask s)
+  asked_caused place ask s is =
+      let now = begun_keeps (IsCaused h) keeps_causes ask s.sent s is in
+      let t : Client = begun ask s.sent s in
+      record { results = now.results; stage = now.stage; sent = newly_sent (call_ref t) place t.sent now.sent }
+
+  -- ---- what comes of a group
+
+  module _ (call : CallRef) where
+    abbrev TurnCaused : Turn → Type 0
+    TurnCaused (goes_on next) = StageCaused h call next
+    TurnCaused (winds_up ending more) = EndsCaused h call ending
+
+    heard_busy : (given : Reply) (by : CallRef) (at : Spot) (born : ℕ) → heard given ≡ reply.Busy by at born → given ≡ reply.Busy by at born
+    heard_busy (reply.Listing items) by at born is = absurd cc
+    heard_busy other_reply by at born is = is
+
+    heard_clash : (given : Reply) (kept : Triple) → heard given ≡ reply.Clash kept → given ≡ reply.Clash kept
+    heard_clash (reply.Listing items) kept is = absurd cc
+    heard_clash other_reply kept is = is
+
+    busy_for : (place : ℕ) (told : Told) (by : CallRef) (at : Spot) (born : ℕ) → IsServedFor h call place told → told.reply ≡ reply.Busy by at born
+        → IsBusyFor h call by (Some told.serve_place)
+    busy_for place told by at born is reads = record {
+      place = told.serve_place;
+      placed = refl;
+      number = is.number;
+      ask_place = place;
+      spot = at;
+      born = born;
+      told = is.stands ∙ ap (λ (r : Reply). Some (event.Serve is.number place r)) (heard_busy is.given by at born (is.hears ∙ reads));
+      posted = is.posted;
+      asked = is.asked;
+      own = is.own;
+    }
+
+    clash_for : (place : ℕ) (told : Told) (own kept : Triple) → IsServedFor h call place told → WasAskedIn h place (request.Make own)
+        → told.reply ≡ reply.Clash kept → IsClashFor h call own kept (Some told.serve_place)
+    clash_for place told own kept is was reads =
+        let found = asked_before told.serve_place place is.posted h is.asked in
+        let same : is.posted ≡ was.posted = let there = was.found in cc in
+        record {
+          place = told.serve_place;
+          placed = refl;
+          number = is.number;
+          ask_place = place;
+          told = is.stands ∙ ap (λ (r : Reply). Some (event.Serve is.number place r)) (heard_clash is.given kept (is.hears ∙ reads));
+          posted = is.posted;
+          asked = is.asked;
+          caller = is.own;
+          makes = ap (λ (p : Posted). p.ask.request) same ∙ was.is;
+        }
+
+    fails_caused : (who : Who) (flow : Flow) (place : ℕ) (told : Told) (given : Reply) → IsServedFor h call place told → told.reply ≡ given
+        → TurnCaused (fails who flow told.serve_place given)
+    fails_caused who flow place told (reply.Busy by at born) is reads = busy_for place told by at born is reads
+    fails_caused who flow place told (reply.Refused error) is reads = tt
+    fails_caused who flow place told reply.NoMem is reads = tt
+    fails_caused who flow place told any_reply is reads = tt
+
+    make_caused : (who : Who) (flow : Flow) (own : Triple) (place : ℕ) (told : Told) (given : Reply) → IsServedFor h call place told
+        → WasAskedIn h place (request.Make own) → told.reply ≡ given → TurnCaused (after_make who flow own told.serve_place given)
+    make_caused who flow own place told (reply.Clash kept) is was reads = clash_for place told own kept is was reads
+    make_caused who flow own place told any_reply is was reads = fails_caused who flow place told any_reply is reads
+
+    after_act_caused : (who : Who) (flow : Flow) (place : ℕ) (told : Told) (given : Reply) → IsServedFor h call place told
+        → WasAskedIn h place (message_of who flow).request → told.reply ≡ given → TurnCaused (after_act who flow place told.serve_place given)
+    after_act_caused who (finishes chain (op.Create name mode)) place told reply.Fine is was reads = tt
+    after_act_caused who (finishes chain (op.Stat name)) place told (reply.Stat kind meta) is was reads = tt
+    after_act_caused who (reserves chain name mode) place told (reply.Reserved version) is was reads = tt
+    after_act_caused who (makes chain name mode version) place told reply.Fine is was reads = tt
+    after_act_caused who (makes chain name mode version) place told given is was reads =
+        make_caused who (makes chain name mode version) (birth_of who chain name version) place told given is was reads
+    after_act_caused who (links chain name mode version born) place told reply.Fine is was reads = tt
+    after_act_caused who (seals chain) place told reply.Fine is was reads = tt
+    after_act_caused who (unlinks chain) place told reply.Fine is was reads = tt
+    after_act_caused who flow place told given is was reads = fails_caused who flow place told given is reads
+
+    told_act_caused : (who : Who) (flow : Flow) (place : ℕ) (told : Option Told) (xs : List Sent) → IsServedIf h call place told
+        → WasAskedIn h place (message_of who flow).request → TurnCaused (act_turn who flow (record { place = place; told = told } ∷ xs))
+    told_act_caused who flow place None xs is was = tt
+    told_act_caused who flow place (Some told) xs is was = after_act_caused who flow place told told.reply is was refl
+
+    act_caused : (who : Who) (flow : Flow) (sent : List Sent) → AreServed h call sent → AreAskedFor (WasAskedIn h) (message_of who flow ∷ []) sent
+        → TurnCaused (act_turn who flow sent)
+    act_caused who flow [] are asks = tt
+    act_caused who flow (x ∷ xs) are asks = told_act_caused who flow x.place x.told xs are.0 asks.0
+
+    -- ---- a round
+
+    abbrev NextCaused : Next → Type 0
+    NextCaused (is_busy given place) = IsCausedFor h call given (Some place)
+    NextCaused other_next = Unit {0}
+
+    next_if : (b : Bool) (x y : Next) → NextCaused x → NextCaused y → NextCaused (if b then x else y)
+    next_if true x y one two = one
+    next_if false x y one two = two
+
+    next_by : (ahead : Entry) (place serve_place : ℕ) (given : Reply) → IsServedFor h call place (record { serve_place = serve_place; reply = given })
+        → NextCaused (next_entry ahead (Some (record { serve_place = serve_place; reply = given })))
+    next_by ahead place serve_place (reply.Found k access) is =
+        next_if (links_to (dir_of ahead.access) k) (steps (told_entry k access serve_place)) stops tt tt
+    next_by ahead place serve_place (reply.Busy by at born) is =
+        next_if (born == ahead.access.born) (is_busy (answer.Again by) serve_place) stops
+        (busy_for place (record { serve_place = serve_place; reply = reply.Busy by at born }) by at born is refl) tt
+    next_by ahead place serve_place any_reply is = tt
+
+    next_caused : (ahead : Entry) (place : ℕ) (told : Option Told) → IsServedIf h call place told → NextCaused (next_entry ahead told)
+    next_caused ahead place None is = tt
+    next_caused ahead place (Some told) is = next_by ahead place told.serve_place told.reply is
+
+    by_next_caused : (course : Course) (chain : List Entry) (name : List ℕ) (names : List (List ℕ)) (go : Entry → Turn) (next : Next) → NextCaused next
+        → ((e : Entry) → TurnCaused (go e)) → TurnCaused (by_next course chain name names go next)
+    by_next_caused course chain name names go (steps e) is rest = rest e
+    by_next_caused course chain name names go stops is rest = tt
+    by_next_caused course chain name names go (is_busy given place) is rest = is
+
+    follow_caused : (course : Course) (chain : List Entry) (ahead : Entry) (names : List (List ℕ)) (sent : List Sent) → AreServed h call sent
+        → TurnCaused (follow course chain ahead names sent)
+    follow_caused course chain ahead [] sent are = tt
+    follow_caused course chain ahead (name ∷ names) [] are = tt
+    follow_caused course chain ahead (name ∷ names) (x ∷ xs) are =
+        by_next_caused course chain name names (λ e. follow course (chain ++ e ∷ []) e names xs) (next_entry ahead x.told)
+        (next_caused ahead x.place x.told are.0)
+        (λ e. follow_caused course (chain ++ e ∷ []) e names xs are.1)
+
+    root_caused : (course : Course) (place : ℕ) (told : Told) (given : Reply) (xs : List Sent) → IsServedFor h call place told → told.reply ≡ given
+        → AreServed h call xs → TurnCaused (from_root course xs told given)
+    root_caused course place told (reply.Found k access) xs is reads are =
+        follow_caused course (told_entry k access told.serve_place ∷ []) (told_entry k access told.serve_place) course.looked xs are
+    root_caused course place told (reply.Busy by at born) xs is reads are = busy_for place told by at born is reads
+    root_caused course place told any_reply xs is reads are = tt
+
+    turn_if : (b : Bool) (x y : Turn) → TurnCaused x → TurnCaused y → TurnCaused (if b then x else y)
+    turn_if true x y one two = one
+    turn_if false x y one two = two
+
+    first_caused : (course : Course) (place : ℕ) (told : Option Told) (xs : List Sent) → IsServedIf h call place told → AreServed h call xs
+        → TurnCaused (after_round (Some course) (record { place = place; told = told } ∷ xs))
+    first_caused course place None xs is are = turn_if _ (winds_up (answers answer.NoMemory None) []) (winds_up retries []) tt tt
+    first_caused course place (Some told) xs is are =
+        turn_if _ (winds_up (answers answer.NoMemory None) []) (from_root course xs told told.reply) tt (root_caused course place told told.reply xs is refl are)
+
+    round_caused : (found : Option Course) (sent : List Sent) → AreServed h call sent → TurnCaused (after_round found sent)
+    round_caused None sent are = tt
+    round_caused (Some course) [] are = tt
+    round_caused (Some course) (x ∷ xs) are = first_caused course x.place x.told xs are.0 are.1
+
+  turned_caused : (turn : Turn) (s : Client) → AllCaused h s.results → TurnCaused (call_ref s) turn → IsCaused h (turned turn s)
+  turned_caused (goes_on next) s all is = record { results = all; stage = is; sent = tt }
+  turned_caused (winds_up ending more) s all is = wound_caused ending more s all is
+
+  stage_caused : (stage : Stage) (s : Client) → StageCaused h (call_ref s) stage → AreServed h (call_ref s) s.sent
+      → AreAskedFor (WasAskedIn h) (group s.who stage) s.sent → TurnCaused (call_ref s) (turn_at s stage)
+  stage_caused compose s is are asks = tt
+  stage_caused (round keys) s is are asks = round_caused (call_ref s) (next_course s.left) s.sent are
+  stage_caused (act flow) s is are asks = act_caused (call_ref s) s.who flow s.sent are asks
+  stage_caused (winds ending m ms) s is are asks = is
+
+-- ---- an answer more
+
+asked_told : (A : ℕ → Request → Type 0) (place : ℕ) (told : Told) (ms : List Message) (sent : List Sent) → AreAskedFor A ms sent
+    → AreAskedFor A ms (map (told_at place told) sent)
+asked_told A place told ms [] asks = tt
+asked_told A place told [] (x ∷ xs) asks = absurd asks
+asked_told A place told (m ∷ ms) (x ∷ xs) asks =
+    (if_both (λ (y : Sent). A y.place m.request) (eqb x.place place) _ x asks.0 asks.0, asked_told A place told ms xs asks.1)
+
+module _ (h : List Event) (call : CallRef) (ask_place : ℕ) (told : Told) (now : IsServedFor h call ask_place told) where
+  first_answer : (place : ℕ) (old : Option Told) → place ≡ ask_place → IsServedIf h call place old → IsServedIf h call place (Some (or_told old told))
+  first_answer place None same is = subst (λ p. IsServedFor h call p told) (sym same) now
+  first_answer place (Some earlier) same is = is
+
+  one_recorded : (place : ℕ) (old : Option Told) (b : Bool) → eqb place ask_place ≡ b → IsServedIf h call place old
+      → (λ (x : Sent). IsServedIf h call x.place x.told) (if b then record { place = place; told = Some (or_told old told) } else record { place = place; told = old })
+  one_recorded place old true same is = first_answer place old ((Decides-eqb place ask_place).0 same) is
+  one_recorded place old false apart is = is
+
+  all_recorded : (sent : List Sent) → AreServed h call sent → AreServed h call (map (told_at ask_place told) sent)
+  all_recorded [] are = tt
+  all_recorded (x ∷ xs) are = (one_recorded x.place x.told (eqb x.place ask_place) refl are.0, all_recorded xs are.1)
+
+served_caused : (h : List Event) (ask_place : ℕ) (told : Told) (s : Client) → IsCaused h s → AreAskedFor (WasAskedIn h) (group s.who s.stage) s.sent
+    → (has_place ask_place s.sent ≡ true → IsServedFor h (call_ref s) ask_place told) → IsCaused h (served ask_place told s)
+served_caused h ask_place told s is asks now =
+    by_answer (IsCaused h) ask_place told s
+    (λ apart. is)
+    (λ here going. record { results = is.results; stage = is.stage; sent = all_recorded h (call_ref s) ask_place told (now here) s.sent is.sent })
+    (λ here over.
+    turned_caused h (turn_at (recorded ask_place told s) s.stage) (recorded ask_place told s) is.results
+    (stage_caused h s.stage (recorded ask_place told s) is.stage (all_recorded h (call_ref s) ask_place told (now here) s.sent is.sent)
+    (asked_told (WasAskedIn h) ask_place told (group s.who s.stage) s.sent asks)))
+
+starting_caused : (world : World) (client : ℕ) (line : Option ClientLine) → IsCaused [] (starting world client line)
+starting_caused world client None = record { results = tt; stage = tt; sent = tt }
+starting_caused world client (Some line) = record { results = tt; stage = tt; sent = tt }
+
+module _ (world : World) (h : List Event) (legal : Legal world h) (number ask_place : ℕ) (given : Reply) (may : MayServe world h number ask_place given)
+    (client : ℕ) where
+  abbrev now : List Event
+  now = event.Serve number ask_place given ∷ h
+
+  newly_served : has_place ask_place (client_after world client h).sent ≡ true
+      → IsServedFor now (call_ref (client_after world client h)) ask_place (told_reply (suc (length h)) (heard given))
+  newly_served here =
+      let own = waits_for_own world client ask_place h here in
+      let waits = pending_after world h legal ask_place may.posted may.made may.waits in
+      let same : own.posted ≡ may.posted = let one = own.asked in let two = may.made in cc in
+      let by_client : may.posted.ask.from.client ≡ client = ap (λ (p : Posted). p.ask.from.client) (sym same) ∙ own.by_client in
+      record {
+        number = number;
+        given = given;
+        stands = let newest = itself (suc (length h)) in rw newest refl;
+        hears = refl;
+        posted = may.posted;
+        asked = ap (asked_at ask_place) (before_stays (suc (length h)) (event.Serve number ask_place given) h (omega arith) ∙ before_all (suc (length h)) h (omega arith)) ∙ may.made;
+        own = waits.from ∙ ap (λ c. call_ref (client_after world c h)) by_client;
+      }
+
+pub caused_after : (world : World) (h : List Event) → Legal world h → (client : ℕ) → IsCaused h (client_after world client h)
+caused_after world [] legal client = starting_caused world client (slice_get world.setup.clients client)
+caused_after world (event.Ask number ask ∷ h) legal client =
+    let is = caused_stays (event.Ask number ask) h (client_after world client h) (caused_after world h legal.0 client) in
+    if_both (IsCaused (event.Ask number ask ∷ h)) (eqb ask.from.client client) _ _
+    (asked_caused (event.Ask number ask ∷ h) (suc (length h)) ask (client_after world client h) is) is
+caused_after world (event.Serve number ask_place given ∷ h) legal client =
+    let e : Event = event.Serve number ask_place given in
+    let s : Client = client_after world client h in
+    served_caused (e ∷ h) ask_place (told_reply (suc (length h)) (heard given)) s
+    (caused_stays e h s (caused_after world h legal.0 client))
+    (group_stays h e s (asks_group world h legal.0 client)).asked
+    (newly_served world h legal.0 number ask_place given legal.1 client)
+
+-- ---- all results
+
+so_far_caused : (h : List Event) (stage : Stage) (s : Client) → StageCaused h (call_ref s) stage
+    → IsCausedFor h (so_far stage s).call (so_far stage s).answer (so_far stage s).place
+so_far_caused h (winds (answers given at) m ms) s is = is
+so_far_caused h (winds retries m ms) s is = tt
+so_far_caused h compose s is = tt
+so_far_caused h (round keys) s is = tt
+so_far_caused h (act flow) s is = tt
+
+unanswered_caused : (h : List Event) (calls : List Call) (s : Client) → StageCaused h (call_ref s) s.stage → AllCaused h (unanswered calls s)
+unanswered_caused h [] s is = tt
+unanswered_caused h (call ∷ calls) s is =
+    (so_far_caused h s.stage s is, unanswered_caused h calls (ended answer.Unanswered None s) tt)
+
+shown_caused : (h : List Event) (s : Client) → IsCaused h s → AllCaused h (results_of s)
+shown_caused h s is = both_caused h s.results (unanswered s.left s) is.results (unanswered_caused h s.left s is.stage)
+
+agrees_caused : (h : List Event) (s : Client) (mine : List CallResult) → IsCaused h s → Agrees s mine → AllCaused h mine
+agrees_caused h s mine is agrees =
+    ⊎_elim
+    (λ same. subst (AllCaused h) (sym same) (shown_caused h s is))
+    (λ (gave : (s.sent ≡ []) × (mine ≡ results_of (all_given_up s.left s))).
+    subst (AllCaused h) (sym gave.1) (shown_caused h (all_given_up s.left s) (all_given_up_keeps (IsCaused h) (keeps_causes h) s.left s is)))
+    agrees
+
+outcome_caused : (world : World) (h : List Event) → Legal world h → (client : ℕ) (lines : List ClientLine) (results : List CallResult)
+    → OutcomeFrom world h client lines results → AllCaused h results
+outcome_caused world h legal client [] results out = subst (AllCaused h) (sym out) tt
+outcome_caused world h legal client (line ∷ lines) results out =
+    subst (AllCaused h) (sym out.all)
+    (both_caused h out.mine out.others
+    (agrees_caused h (client_after world client h) out.mine (caused_after world h legal client) out.agrees)
+    (outcome_caused world h legal (client + 1) lines out.others out.later))
+
+each_caused : (h : List Event) (P : CallResult → Type 0) → ((r : CallResult) → IsCausedFor h r.call r.answer r.place → P r)
+    → (results : List CallResult) → AllCaused h results → All P results
+each_caused h P of [] all k d inside = absurd (omega arith)
+each_caused h P of (r ∷ rs) all zero d inside = of r all.0
+each_caused h P of (r ∷ rs) all (suc k) d inside = each_caused h P of rs all.1 k d (omega arith)
+
+-- what holds of each result that rests on a Serve holds of all results that agree with the history
+pub results_rest : (world : World) (h : List Event) (results : List CallResult) → Legal world h → Outcome world h results → (P : CallResult → Type 0)
+    → ((r : CallResult) → IsCausedFor h r.call r.answer r.place → P r) → All P results
+results_rest world h results legal out P of = each_caused h P of results (outcome_caused world h legal 0 world.setup.clients results out)
+
+-- a Serve of a legal history was one that its server might make after the events before it
+pub serve_may : (world : World) (h : List Event) → Legal world h → (place number ask_place : ℕ) (given : Reply)
+    → event_at place h ≡ Some (event.Serve number ask_place given)
+    → Legal world (before place h) × MayServe world (before place h) number ask_place given
+serve_may world [] legal place number ask_place given stands = absurd cc
+serve_may world (event.Ask n ask ∷ h) legal place number ask_place given stands =
+    by_test (eqb place (suc (length h))) stands (λ same here. absurd cc) (λ unlike behind.
+    let within = (event_within place (event.Serve number ask_place given) h behind).within in
+    subst (λ (earlier : List Event). Legal world earlier × MayServe world earlier number ask_place given)
+    (sym (before_stays place (event.Ask n ask) h (omega (arith, within))))
+    (serve_may world h legal.0 place number ask_place given behind))
+serve_may world (event.Serve n p r ∷ h) legal place number ask_place given stands =
+    by_test (eqb place (suc (length h))) stands
+    (λ same here.
+    let at : place ≡ suc (length h) = (Decides-eqb place (suc (length h))).0 same in
+    let all : before place (event.Serve n p r ∷ h) ≡ h =
+    before_stays place (event.Serve n p r) h (omega (arith, at)) ∙ before_all place h (omega (arith, at)) in
+    let one : n ≡ number = cc in
+    let two : p ≡ ask_place = cc in
+    let three : r ≡ given = cc in
+    subst (λ (earlier : List Event). Legal world earlier × MayServe world earlier number ask_place given) (sym all) (
+      legal.0,
+      subst (λ (x : Reply). MayServe world h number ask_place x) three
+          (subst (λ x. MayServe world h number x r) two (subst (λ x. MayServe world h x p r) one legal.1)),
+    ))
+    (λ unlike behind.
+    let within = (event_within place (event.Serve number ask_place given) h behind).within in
+    subst (λ (earlier : List Event). Legal world earlier × MayServe world earlier number ask_place given)
+    (sym (before_stays place (event.Serve n p r) h (omega (arith, within))))
+    (serve_may world h legal.0 place number ask_place given behind))

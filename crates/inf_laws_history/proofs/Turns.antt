@@ -1,0 +1,191 @@
+-- The place of the answer that a group comes to, if it comes to one.
+use Rattle.std.proofs.Common.{◌≡◌, ℕ, ◌==◌, ◌||◌, Bool, true, false, if◌then◌else◌, eqb, List, [], ◌∷◌, ◌++◌, Option, None, Some, refl, sym, subst}
+use Rattle.std.specs.List.{list_any}
+use Rattle.inf_base.specs.declared.answer.Answer.{Answer}
+use Rattle.inf_base.specs.declared.answer.Answer.TheVariants as answer
+use Rattle.inf_base.specs.declared.entry.Entry.{Entry}
+use Rattle.inf_base.specs.declared.triple.Triple.{Triple}
+use Rattle.inf_base.specs.Same.{dir_of}
+use Rattle.inf_flow_dir.specs.Client.{Sent, act, answers, retries}
+use Rattle.inf_flow_dir.specs.Flow.{Flow, Who, birth_of, finishes, links, makes, reserves, seals, unlinks}
+use Rattle.inf_flow_dir.specs.Group.{Course}
+use Rattle.inf_flow_dir.specs.Turn.{Next, Turn, act_turn, after_act, after_make, after_round, by_next, fails, follow, from_root, goes_on, is_busy, links_to, next_entry, steps, stops, told_entry, winds_up}
+use Rattle.inf_laws_history.specs.Decisions.{is_of_tree}
+use Rattle.inf_message.specs.declared.op.Op.TheVariants as op
+use Rattle.inf_message.specs.declared.reply.Reply.{Reply}
+use Rattle.inf_message.specs.declared.reply.Reply.TheVariants as reply
+use Rattle.inf_message.specs.History.{Told}
+use Rattle.inf_message.proofs.HistoryLaws.{itself}
+
+-- it goes on with a flow's message; and where it ends with an answer and a place, this holds of them
+abbrev pub TurnOf : (Answer → ℕ → Type 0) → Turn → Type 0
+TurnOf A (goes_on (act flow)) = Unit {0}
+TurnOf A (goes_on other_stage) = ⊥
+TurnOf A (winds_up (answers given (Some place)) more) = A given place
+TurnOf A (winds_up other_ending more) = Unit {0}
+
+pub weaker_turn : (A B : Answer → ℕ → Type 0) → ((given : Answer) (place : ℕ) → A given place → B given place) → (turn : Turn) → TurnOf A turn → TurnOf B turn
+weaker_turn A B weaker (goes_on (act flow)) is = tt
+weaker_turn A B weaker (goes_on other_stage) is = absurd is
+weaker_turn A B weaker (winds_up (answers given (Some place)) more) is = weaker given place is
+weaker_turn A B weaker (winds_up other_ending more) is = tt
+
+-- ---- after a message of a flow
+
+abbrev pub IsAt : ℕ → Answer → ℕ → Type 0
+IsAt place given other = other ≡ place
+
+fails_at : (who : Who) (flow : Flow) (place : ℕ) (given : Reply) → TurnOf (IsAt place) (fails who flow place given)
+fails_at who flow place (reply.Busy by at born) = refl
+fails_at who flow place (reply.Refused error) = refl
+fails_at who flow place reply.NoMem = tt
+fails_at who flow place any_reply = tt
+
+make_at : (who : Who) (flow : Flow) (own : Triple) (place : ℕ) (given : Reply) → TurnOf (IsAt place) (after_make who flow own place given)
+make_at who flow own place (reply.Clash kept) = refl
+make_at who flow own place any_reply = fails_at who flow place any_reply
+
+after_act_at : (who : Who) (flow : Flow) (asked place : ℕ) (given : Reply) → TurnOf (IsAt place) (after_act who flow asked place given)
+after_act_at who (finishes chain (op.Create name mode)) asked place reply.Fine = refl
+after_act_at who (finishes chain (op.Stat name)) asked place (reply.Stat kind meta) = refl
+after_act_at who (reserves chain name mode) asked place (reply.Reserved version) = tt
+after_act_at who (makes chain name mode version) asked place reply.Fine = tt
+after_act_at who (makes chain name mode version) asked place given =
+    make_at who (makes chain name mode version) (birth_of who chain name version) place given
+after_act_at who (links chain name mode version born) asked place reply.Fine = refl
+after_act_at who (seals chain) asked place reply.Fine = tt
+after_act_at who (unlinks chain) asked place reply.Fine = refl
+after_act_at who flow asked place given = fails_at who flow place given
+
+abbrev pub first_told : List Sent → Option Told
+first_told [] = None
+first_told (x ∷ xs) = x.told
+
+abbrev IsAtTold : Option Told → Turn → Type 0
+IsAtTold None turn = turn ≡ winds_up retries []
+IsAtTold (Some told) turn = TurnOf (IsAt told.serve_place) turn
+
+told_turn : (who : Who) (flow : Flow) (place : ℕ) (told : Option Told) (xs : List Sent)
+    → IsAtTold told (act_turn who flow (record { place = place; told = told } ∷ xs))
+told_turn who flow place None xs = refl
+told_turn who flow place (Some told) xs = after_act_at who flow place told.serve_place told.reply
+
+act_turn_is : (who : Who) (flow : Flow) (sent : List Sent) → IsAtTold (first_told sent) (act_turn who flow sent)
+act_turn_is who flow [] = refl
+act_turn_is who flow (x ∷ xs) = told_turn who flow x.place x.told xs
+
+-- what comes of a flow's message has the place of its Serve
+pub act_turn_at : (who : Who) (flow : Flow) (sent : List Sent) (told : Told) → first_told sent ≡ Some told → TurnOf (IsAt told.serve_place) (act_turn who flow sent)
+act_turn_at who flow sent told is = subst (λ known. IsAtTold known (act_turn who flow sent)) is (act_turn_is who flow sent)
+
+-- ---- the places that a group was told
+
+abbrev pub serve_is : ℕ → Option Told → Bool
+serve_is place None = false
+serve_is place (Some told) = place == told.serve_place
+
+-- an Ask of the group was served at this place
+abbrev pub told_there : ℕ → List Sent → Bool
+told_there place sent = list_any (λ (x : Sent). serve_is place x.told) sent
+
+abbrev pub IsThere : List Sent → Answer → ℕ → Type 0
+IsThere sent given place = told_there place sent ≡ true
+
+or_true : (b c : Bool) → c ≡ true → (b || c) ≡ true
+or_true true c is = refl
+or_true false c is = is
+
+true_or : (b c : Bool) → b ≡ true → (b || c) ≡ true
+true_or true c is = refl
+true_or false c is = absurd cc
+
+at_first : (place at : ℕ) (told : Told) (xs : List Sent) → at ≡ told.serve_place → told_there at (record { place = place; told = Some told } ∷ xs) ≡ true
+at_first place at told xs same =
+    true_or (eqb at told.serve_place) (told_there at xs) (subst (λ p. eqb p told.serve_place ≡ true) (sym same) (itself told.serve_place))
+
+told_turn_there : (who : Who) (flow : Flow) (place : ℕ) (told : Option Told) (xs : List Sent)
+    → TurnOf (IsThere (record { place = place; told = told } ∷ xs)) (act_turn who flow (record { place = place; told = told } ∷ xs))
+told_turn_there who flow place None xs = tt
+told_turn_there who flow place (Some told) xs =
+    weaker_turn (IsAt told.serve_place) (IsThere (record { place = place; told = Some told } ∷ xs)) (λ given at same. at_first place at told xs same)
+    (after_act who flow place told.serve_place told.reply)
+    (after_act_at who flow place told.serve_place told.reply)
+
+pub act_turn_there : (who : Who) (flow : Flow) (sent : List Sent) → TurnOf (IsThere sent) (act_turn who flow sent)
+act_turn_there who flow [] = tt
+act_turn_there who flow (x ∷ xs) = told_turn_there who flow x.place x.told xs
+
+-- ---- after a round
+
+-- a round comes to no answer of the tree, and its answer has the place of one of its Serves
+pub record IsOfRound (sent : List Sent) (given : Answer) (place : ℕ) : Type 0 where
+  pub other : is_of_tree given ≡ false
+  pub there : told_there place sent ≡ true
+
+behind_first : (x : Sent) (xs : List Sent) (given : Answer) (place : ℕ) → IsOfRound xs given place → IsOfRound (x ∷ xs) given place
+behind_first x xs given place is = record { other = is.other; there = or_true (serve_is place x.told) (told_there place xs) is.there }
+
+abbrev NextIs : List Sent → Next → Type 0
+NextIs sent (is_busy given place) = IsOfRound sent given place
+NextIs sent other_next = Unit {0}
+
+next_if : (sent : List Sent) (b : Bool) (first second : Next) → NextIs sent first → NextIs sent second → NextIs sent (if b then first else second)
+next_if sent true first second one other = one
+next_if sent false first second one other = other
+
+reply_is : (before : Entry) (place serve_place : ℕ) (given : Reply) (xs : List Sent)
+    → NextIs (record { place = place; told = Some (record { serve_place = serve_place; reply = given }) } ∷ xs) (next_entry before (Some (record { serve_place = serve_place; reply = given })))
+reply_is before place serve_place (reply.Found k access) xs =
+    next_if _ (links_to (dir_of before.access) k) (steps (told_entry k access serve_place)) stops tt tt
+reply_is before place serve_place (reply.Busy by at born) xs =
+    next_if _ (born == before.access.born) (is_busy (answer.Again by) serve_place) stops
+    (record { other = refl; there = at_first place serve_place (record { serve_place = serve_place; reply = reply.Busy by at born }) xs refl })
+    tt
+reply_is before place serve_place any_reply xs = tt
+
+next_is : (before : Entry) (place : ℕ) (told : Option Told) (xs : List Sent) → NextIs (record { place = place; told = told } ∷ xs) (next_entry before told)
+next_is before place None xs = tt
+next_is before place (Some told) xs = reply_is before place told.serve_place told.reply xs
+
+by_next_is : (course : Course) (chain : List Entry) (name : List ℕ) (names : List (List ℕ)) (go : Entry → Turn) (sent : List Sent) (next : Next)
+    → NextIs sent next → ((e : Entry) → TurnOf (IsOfRound sent) (go e)) → TurnOf (IsOfRound sent) (by_next course chain name names go next)
+by_next_is course chain name names go sent (steps e) is goes = goes e
+by_next_is course chain name names go sent stops is goes = tt
+by_next_is course chain name names go sent (is_busy given place) is goes = is
+
+follow_is : (course : Course) (chain : List Entry) (before : Entry) (names : List (List ℕ)) (sent : List Sent)
+    → TurnOf (IsOfRound sent) (follow course chain before names sent)
+follow_is course chain before [] sent = tt
+follow_is course chain before (name ∷ names) [] = tt
+follow_is course chain before (name ∷ names) (x ∷ xs) =
+    by_next_is course chain name names (λ e. follow course (chain ++ e ∷ []) e names xs) (x ∷ xs) (next_entry before x.told)
+    (next_is before x.place x.told xs)
+    (λ e. weaker_turn (IsOfRound xs) (IsOfRound (x ∷ xs)) (behind_first x xs) (follow course (chain ++ e ∷ []) e names xs)
+    (follow_is course (chain ++ e ∷ []) e names xs))
+
+root_is : (course : Course) (place serve_place : ℕ) (given : Reply) (xs : List Sent)
+    → TurnOf (IsOfRound (record { place = place; told = Some (record { serve_place = serve_place; reply = given }) } ∷ xs))
+    (from_root course xs (record { serve_place = serve_place; reply = given }) given)
+root_is course place serve_place (reply.Found k access) xs =
+    let first : Entry = told_entry k access serve_place in
+    let x : Sent = record { place = place; told = Some (record { serve_place = serve_place; reply = reply.Found k access }) } in
+    weaker_turn (IsOfRound xs) (IsOfRound (x ∷ xs)) (behind_first x xs) (follow course (first ∷ []) first course.looked xs)
+    (follow_is course (first ∷ []) first course.looked xs)
+root_is course place serve_place (reply.Busy by at born) xs =
+    record { other = refl; there = at_first place serve_place (record { serve_place = serve_place; reply = reply.Busy by at born }) xs refl }
+root_is course place serve_place any_reply xs = tt
+
+turn_if : (A : Answer → ℕ → Type 0) (b : Bool) (first second : Turn) → TurnOf A first → TurnOf A second → TurnOf A (if b then first else second)
+turn_if A true first second one other = one
+turn_if A false first second one other = other
+
+first_is : (course : Course) (place : ℕ) (told : Option Told) (xs : List Sent)
+    → TurnOf (IsOfRound (record { place = place; told = told } ∷ xs)) (after_round (Some course) (record { place = place; told = told } ∷ xs))
+first_is course place None xs = turn_if _ _ (winds_up (answers answer.NoMemory None) []) (winds_up retries []) tt tt
+first_is course place (Some told) xs =
+    turn_if _ _ (winds_up (answers answer.NoMemory None) []) (from_root course xs told told.reply) tt (root_is course place told.serve_place told.reply xs)
+
+pub round_turn_is : (found : Option Course) (sent : List Sent) → TurnOf (IsOfRound sent) (after_round found sent)
+round_turn_is None sent = tt
+round_turn_is (Some course) [] = tt
+round_turn_is (Some course) (x ∷ xs) = first_is course x.place x.told xs

@@ -1,0 +1,60 @@
+-- Why a call is answered Again: the change in flight that touched it; and why IdClash: two births with one identifier.
+use Rattle.std.specs.Prelude.{◌≡◌, ◌≢◌, ℕ, suc, nat_lt, true, if◌then◌else◌, List, [], ◌∷◌, length, Some}
+use Rattle.inf_base.specs.declared.caller.CallRef.{CallRef}
+use Rattle.inf_base.specs.declared.triple.Triple.{Triple}
+use Rattle.inf_base.specs.Identity.{identity}
+use Rattle.inf_laws_history.specs.Flight.{InFlight, touches}
+use Rattle.inf_laws_history.specs.Legal.{server_after}
+use Rattle.inf_duty.specs.World.{World}
+use Rattle.inf_message.specs.declared.call_result.CallResult.{CallResult}
+use Rattle.inf_message.specs.declared.event.Event.{Event}
+use Rattle.inf_message.specs.declared.event.Event.TheVariants as event
+use Rattle.inf_message.specs.declared.reply.Reply.TheVariants as reply
+use Rattle.inf_message.specs.declared.reply.Spot.{Spot}
+use Rattle.inf_message.specs.declared.request.Request.TheVariants as request
+use Rattle.inf_message.specs.History.{Posted, asked_at, event_at}
+
+-- the events of smaller places
+abbrev pub before : ℕ → List Event → List Event
+before place [] = []
+before place (e ∷ h) = if nat_lt (suc (length h)) place then e ∷ h else before place h
+
+-- the call of this result was answered Again, for it met a change of this other call
+pub record IsAgainBecause (world : World) (h : List Event) (result : CallResult) (by : CallRef) : Type 0 where
+  -- the result has a place
+  pub place : ℕ
+  pub placed : result.place ≡ Some place
+  -- there a server replied that a change of the other call is in the way, at this spot
+  pub number : ℕ
+  pub ask_place : ℕ
+  pub spot : Spot
+  pub born : ℕ
+  pub told : event_at place h ≡ Some (event.Serve number ask_place (reply.Busy by spot born))
+  -- it replied to an earlier Ask of the call
+  pub posted : Posted
+  pub asked : asked_at ask_place (before place h) ≡ Some posted
+  pub own : posted.ask.from ≡ result.call
+  -- the other call is another client's
+  pub other : by.client ≢ result.call.client
+  -- just before, a change of it was in flight
+  pub in_flight : InFlight world (before place h) by
+  -- and at the server that replied it touched what was asked for, at the spot told
+  pub touched : touches by spot posted.ask.request (server_after world number (before place h)) ≡ true
+
+-- the call of this result was answered IdClash, for the directory that it was to make has the identifier of another
+pub record IsClashBecause (world : World) (h : List Event) (result : CallResult) (own kept : Triple) : Type 0 where
+  -- the result has a place
+  pub place : ℕ
+  pub placed : result.place ≡ Some place
+  -- there a server replied that it keeps a directory of the other birth
+  pub number : ℕ
+  pub ask_place : ℕ
+  pub told : event_at place h ≡ Some (event.Serve number ask_place (reply.Clash kept))
+  -- to an earlier Ask of the call, which was to make the directory of its birth
+  pub posted : Posted
+  pub asked : asked_at ask_place (before place h) ≡ Some posted
+  pub caller : posted.ask.from ≡ result.call
+  pub makes : posted.ask.request ≡ request.Make own
+  -- the births differ, and their identifiers are equal
+  pub unlike : own ≢ kept
+  pub clash : identity world.digest own ≡ identity world.digest kept

@@ -1,0 +1,10 @@
+pub mod Causes
+pub mod Decisions
+pub mod Flight
+pub mod Kept
+pub mod Legal
+pub mod Objects
+pub mod Pending
+pub mod Phases
+pub mod Replayed
+pub mod Sites
