@@ -1,42 +1,29 @@
 -- What the core keeps, as events join.
-use Rattle.std.proofs.Common.{Bor, ◌≡◌, ◌≢◌, ℕ, zero, suc, ◌+◌, ◌-◌, ◌<◌, ◌≤◌, ◌||◌, Bool, true, false, eqb, List, [], ◌∷◌, ◌++◌, length, reverse, slice_get, slice_set, get_or, Option, None, Some, IsSome, Result, Ok, Err, refl, sym, ap, ap₂, subst, ◌∙◌, arith, length-append}
+use Rattle.std.proofs.Common.{Bor, ◌≡◌, ◌≢◌, ℕ, zero, suc, ◌+◌, ◌-◌, ◌<◌, ◌≤◌, ◌||◌, Bool, true, false, eqb, List, [], ◌∷◌, ◌++◌, length, reverse, slice_get, slice_set, get_or, Option, None, Some, IsSome, refl, sym, ap, ap₂, subst, ◌∙◌, arith, length-append}
 use Rattle.std.proofs.lemmas.Bool.Decides.{Decides-eqb, nat_tests}
 use Rattle.std.proofs.lemmas.List.{length-set, reverse-append, reverse-reverse}
 use Rattle.std.proofs.lemmas.Option.{get_or_from_slice_get, slice_get_within}
-use Rattle.inf_base.specs.declared.entry.Entry.{Entry}
 use Rattle.inf_base.specs.declared.id.Id.{Id}
-use Rattle.inf_base.specs.declared.key.LookKey.TheVariants as look
-use Rattle.inf_base.specs.Checks.{◌>>=◌, ◌>>◌, check}
-use Rattle.inf_base.specs.Same.{dir_of}
-use Rattle.inf_content.specs.Slot.{holder}
 use Rattle.inf_base.specs.declared.setup.Setup.{Setup}
-use Rattle.inf_core.specs.Core.{AreFlags, AreStanding, IsKept, IsServedBy, standing}
+use Rattle.inf_core.specs.Core.{AreFlags, AreStanding, IsKept, IsServedBy, TellsOfNoChange, standing}
 use Rattle.inf_duty.specs.World.{world_by, World}
-use Rattle.inf_core.specs.Legal.{Legal, MayAsk, MayServe, server_after}
-use Rattle.inf_core.specs.Sites.{site_of}
+use Rattle.inf_laws_history.specs.Legal.{Legal, MayAsk, MayServe, server_after}
+use Rattle.inf_laws_history.specs.Sites.{site_of}
 use Rattle.inf_message.specs.declared.ask.Ask.{Ask}
 use Rattle.inf_message.specs.declared.event.Event.{Event}
 use Rattle.inf_message.specs.declared.event.Event.TheVariants as event
-use Rattle.inf_message.specs.declared.op.Op.{Op}
-use Rattle.inf_message.specs.declared.op.Op.TheVariants as op
 use Rattle.inf_message.specs.declared.reply.Reply.{Reply}
 use Rattle.inf_message.specs.declared.reply.Reply.TheVariants as reply
-use Rattle.inf_message.specs.declared.request.Request.{Request}
-use Rattle.inf_message.specs.declared.request.Request.TheVariants as request
 use Rattle.inf_message.specs.History.{Posted, Served, asked_at, event_at, is_served, served_ask, serves_of}
 use Rattle.inf_message.proofs.HistoryLaws.{IsPlaceOf, asked_is_event, asked_within, other, serves_apart, serves_own}
 use Rattle.inf_message.proofs.OldestFirst.{event_is_indexed}
-use Rattle.inf_core.proofs.Posted.{IsKnown, is_sent, is_sent_op, posted_known}
-use Rattle.inf_server.specs.Machine.{Serves, machine, on_op, on_request, state_after}
-use Rattle.inf_server.specs.Response.{Response, response}
+use Rattle.inf_core.proofs.LeavingReplies.{serves_leaves}
+use Rattle.inf_core.proofs.Posted.{posted_known}
+use Rattle.inf_server.specs.Machine.{Serves, state_after}
+use Rattle.inf_server.specs.Response.{Response}
 use Rattle.inf_server.specs.Server.{IsSameServer, Standing, site}
 use Rattle.inf_server.specs.Server.{site_of as digest_site}
-use Rattle.inf_server.specs.Checks.{asked_of, searched, writable}
-use Rattle.inf_server.specs.Files.{create, stat, stat_of}
-use Rattle.inf_server.specs.Lookups.{lookup_top, unheld}
-use Rattle.inf_server.specs.Names.{found_by, is_missing}
-use Rattle.inf_server.specs.State.{Site, State, is_here, opening, root_id}
-use Rattle.std.specs.Option.{ok_or}
+use Rattle.inf_server.specs.State.{Site, State, opening}
 use Rattle.std.specs.Slice.{IsItemAt}
 
 -- ---- lists by index
@@ -169,60 +156,6 @@ served_at {R} digest_of servers number ask_place ask given got server after read
       same = subst (λ (s : Standing R). IsSameServer s after) is kept;
     }
 
--- ---- replies that change nothing
-
-abbrev Leaves : State → Result Response Reply → Type 0
-Leaves old done = (response old done).reply ≢ reply.Fine → (response old done).state ≡ old
-
-next_leaves : {A : Type 0} (old : State) (first : Result A Reply) (next : A → Result Response Reply) → ((x : A) → Leaves old (next x)) → Leaves old (first >>= next)
-next_leaves old (Ok x) next leaves = leaves x
-next_leaves old (Err refusal) next leaves = λ apart. refl
-
-then_leaves : {A : Type 0} (old : State) (first : Result A Reply) (next : Result Response Reply) → Leaves old next → Leaves old (first >> next)
-then_leaves old (Ok x) next leaves = leaves
-then_leaves old (Err refusal) next leaves = λ apart. refl
-
-create_leaves : (site : Site) (old : State) (ask : Ask) (chain : List Entry) (name : List ℕ) (mode : ℕ) → Leaves old (create site old ask chain name mode)
-create_leaves site old ask chain name mode =
-    next_leaves old (asked_of site old ask.from chain) _ (λ entry.
-    then_leaves old (searched ask.caller chain) _
-    (then_leaves old (writable ask.caller entry) _
-    (next_leaves old (found_by ask.from (dir_of entry.access) name old.contents) _ (λ found.
-    then_leaves old (check (is_missing found) _) _ (λ apart. absurd (apart refl))))))
-
-stat_leaves : (site : Site) (old : State) (ask : Ask) (chain : List Entry) (name : List ℕ) → Leaves old (stat site old ask chain name)
-stat_leaves site old ask chain name =
-    next_leaves old (asked_of site old ask.from chain) _ (λ entry.
-    then_leaves old (searched ask.caller chain) _
-    (next_leaves old (found_by ask.from (dir_of entry.access) name old.contents) _ (λ found.
-    next_leaves old (stat_of found) _ (λ told apart. refl))))
-
-lookup_leaves : (site : Site) (old : State) → Leaves old (lookup_top site old)
-lookup_leaves site old =
-    then_leaves old (check (is_here site (root_id site)) _) _
-    (next_leaves old (ok_or old.top _) _ (λ top.
-    then_leaves old (unheld 0 (holder top.held)) _ (λ apart. refl)))
-
-op_leaves : (site : Site) (old : State) (ask : Ask) (chain : List Entry) (asked : Op) → is_sent_op asked ≡ true → Leaves old (on_op site old ask chain asked)
-op_leaves site old ask chain (op.Create name mode) sent = create_leaves site old ask chain name mode
-op_leaves site old ask chain (op.Stat name) sent = stat_leaves site old ask chain name
-op_leaves site old ask chain other_op sent = absurd (cc)
-
-request_leaves : (site : Site) (old : State) (place : ℕ) (ask : Ask) (asked : Request) → is_sent asked ≡ true → Leaves old (on_request site old place ask asked)
-request_leaves site old place ask (request.Lookup look.Top) sent = lookup_leaves site old
-request_leaves site old place ask (request.Finish chain asked) sent = op_leaves site old ask chain asked sent
-request_leaves site old place ask other_request sent = absurd (cc)
-
-machine_leaves : (site : Site) (old new : State) (place : ℕ) (ask : Ask) (given : Reply) → is_sent ask.request ≡ true → record { reply = given; state = new } ≡ machine site old place ask → given ≢ reply.Fine → new ≡ old
-machine_leaves site old new place ask given sent same apart =
-    ap (λ (r : Response). r.state) same
-    ∙ request_leaves site old place ask ask.request sent (λ fine. apart (ap (λ (r : Response). r.reply) same ∙ fine))
-
--- of what clients send, only a reply that says that all went well may change a server
-pub serves_leaves : (site : Site) (old new : State) (place : ℕ) (ask : Ask) (given : Reply) → is_sent ask.request ≡ true → Serves site old place ask given new → given ≢ reply.Fine → new ≡ old
-serves_leaves site old new place ask reply.NoMem sent serves apart = serves.1
-serves_leaves site old new place ask given sent serves apart = machine_leaves site old new place ask given sent serves apart
-
 -- ---- the states that follow
 
 pub serve_follows : (site : Site) (earlier : List Served) (place : ℕ) (ask : Ask) (given : Reply) (new : State) → Serves site (state_after site earlier) place ask given new → state_after site (served_ask ask place given ∷ earlier) ≡ new
@@ -333,11 +266,10 @@ module _ {R : Type 0} (digest_of : R → List ℕ → Id) (setup : Setup) (rule 
       }
 
   -- where the reply cannot be told, nothing has changed
-  untold_kept : (h : List Event) (ask_place : ℕ) (posted : Posted) (given : Reply) (servers after : List (Standing R)) (served : List Bool) → asked_at ask_place h ≡ Some posted → given ≢ reply.Fine → Joined h ask_place posted given servers after → IsKept here rule servers h served → IsKept here rule after h served
-  untold_kept h ask_place posted given servers after served made unlike by is =
-      let known : IsKnown setup.servers posted.number posted.ask.request = posted_known here ask_place posted h is.legal made in
-      let there : posted.number < setup.servers = known.there is.some_servers in
-      let state : by.after.state ≡ server_after here posted.number h = serves_leaves (site_of here posted.number) (server_after here posted.number h) by.after.state ask_place posted.ask given known.sent by.serves unlike in
+  untold_kept : (h : List Event) (ask_place : ℕ) (posted : Posted) (given : Reply) (servers after : List (Standing R)) (served : List Bool) → asked_at ask_place h ≡ Some posted → TellsOfNoChange given → Joined h ask_place posted given servers after → IsKept here rule servers h served → IsKept here rule after h served
+  untold_kept h ask_place posted given servers after served made tells by is =
+      let there : posted.number < setup.servers = (posted_known here ask_place posted h is.legal made).there is.some_servers in
+      let state : by.after.state ≡ server_after here posted.number h = serves_leaves (site_of here posted.number) (server_after here posted.number h) by.after.state ask_place posted.ask given tells by.serves in
       let same : by.after ≡ standing here rule h posted.number = same_standing by.after (standing here rule h posted.number) by.same.rule by.same.number by.same.servers state in
       let put : AreStanding here rule h (setup.servers + 1) (slice_set servers posted.number by.after) =
       standing_put h h (setup.servers + 1) posted.number servers by.after (omega arith) same (λ other apart. refl) is.standing in
@@ -356,7 +288,7 @@ module _ {R : Type 0} (digest_of : R → List ℕ → Id) (setup : Setup) (rule 
 
   -- what is known once the server of an Ask has replied
   pub record Serving (events : List Event) (ask_place : ℕ) (posted : Posted) (given : Reply) (servers after : List (Standing R)) (served : List Bool) : Type 0 where
-    pub untold : given ≢ reply.Fine → IsKept here rule after (reverse events) served
+    pub untold : TellsOfNoChange given → IsKept here rule after (reverse events) served
     pub may : is_served ask_place (reverse events) ≡ false → MayServe here (reverse events) posted.number ask_place given
     pub kept : is_served ask_place (reverse events) ≡ false → IsKept here rule after (event.Serve posted.number ask_place given ∷ reverse events) (slice_set (served ++ false ∷ []) (ask_place - 1) true)
 
@@ -366,7 +298,7 @@ module _ {R : Type 0} (digest_of : R → List ℕ → Id) (setup : Setup) (rule 
       let made : asked_at ask_place h ≡ Some posted = made_at ask_place events room lent posted same grown found in
       let by : Joined h ask_place posted given servers after = served_by h ask_place posted given servers after served made is serves in
       record {
-        untold = λ unlike. untold_kept h ask_place posted given servers after served made unlike by is;
+        untold = λ tells. untold_kept h ask_place posted given servers after served made tells by is;
         may = λ waits. may_serve h ask_place posted given servers after made waits by;
         kept = λ waits. serve_kept h ask_place posted given servers after served made waits by is;
       }

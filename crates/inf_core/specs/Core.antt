@@ -3,11 +3,12 @@ use Rattle.std.specs.Prelude.{◌≡◌, ℕ, suc, ◌+◌, ◌<◌, ◌≤◌, 
 use Rattle.inf_base.specs.declared.id.Id.{Id}
 use Rattle.inf_base.specs.declared.setup.Setup.{Setup}
 use Rattle.inf_duty.specs.World.{World, world_by}
-use Rattle.inf_core.specs.Legal.{Legal, MayServe, server_after}
+use Rattle.inf_laws_history.specs.Legal.{Legal, MayServe, server_after}
 use Rattle.inf_message.specs.declared.ask.Ask.{Ask}
 use Rattle.inf_message.specs.declared.event.Event.{Event}
 use Rattle.inf_message.specs.declared.event.Event.TheVariants as event
 use Rattle.inf_message.specs.declared.reply.Reply.{Reply}
+use Rattle.inf_message.specs.declared.reply.Reply.TheVariants as reply
 use Rattle.inf_message.specs.History.{is_served}
 use Rattle.inf_server.specs.Machine.{Serves}
 use Rattle.inf_server.specs.Server.{IsSameServer, Standing, site_of}
@@ -32,6 +33,12 @@ pub record IsServedNext (world : World) (old new : List Event) (ask_place : ℕ)
   pub number : ℕ
   pub may : MayServe world old number ask_place given
   pub joins : new ≡ event.Serve number ask_place given ∷ old
+
+-- it tells of no change of the server: any other reply may go with one
+abbrev pub TellsOfNoChange : Reply → Type 0
+TellsOfNoChange reply.Fine = ⊥
+TellsOfNoChange (reply.Reserved version) = ⊥
+TellsOfNoChange other_reply = Unit {0}
 
 -- ---- what the core keeps
 

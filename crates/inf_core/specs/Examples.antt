@@ -1,12 +1,18 @@
 -- A small run by hand: two servers, and two clients that look up the root, create a file and ask for it.
-use Rattle.std.specs.Prelude.{ℕ, List, [], ◌∷◌, ◌-◌, codes, Some, None, drop}
+use Rattle.std.specs.Prelude.{ℕ, List, [], ◌∷◌, ◌-◌, codes, Some, None, drop, replicate}
 use Rattle.inf_base.specs.declared.answer.Answer.{Answer}
 use Rattle.inf_base.specs.declared.answer.Answer.TheVariants as answer
 use Rattle.inf_base.specs.declared.call.Call.{Call}
 use Rattle.inf_base.specs.declared.call.Call.TheVariants as call
+use Rattle.inf_base.specs.declared.caller.Caller.{Caller}
 use Rattle.inf_base.specs.declared.entry.Entry.{Entry}
 use Rattle.inf_base.specs.declared.errno.Errno.TheVariants as errno
+use Rattle.inf_base.specs.declared.id.Id.{Id}
 use Rattle.inf_base.specs.declared.key.Key.TheVariants as key
+use Rattle.inf_base.specs.declared.key.LookKey.TheVariants as look
+use Rattle.inf_base.specs.declared.setup.ClientLine.{ClientLine}
+use Rattle.inf_duty.specs.World.{World}
+use Rattle.inf_message.specs.declared.ask.Ask.{Ask}
 use Rattle.inf_message.specs.declared.call_result.CallResult.{CallResult}
 use Rattle.inf_message.specs.declared.event.Event.{Event}
 use Rattle.inf_message.specs.declared.event.Event.TheVariants as event
@@ -17,8 +23,34 @@ use Rattle.inf_message.specs.declared.request.Request.{Request}
 use Rattle.inf_message.specs.declared.request.Request.TheVariants as request
 use Rattle.inf_server.specs.State.{root_access}
 use Rattle.inf_tree.specs.Replay.{Decided}
-use Rattle.inf_core.specs.Sites.{site_of}
-use Rattle.inf_duty.specs.Examples.{ask, look_up_top, root_caller, world}
+use Rattle.inf_laws_history.specs.Sites.{site_of}
+
+-- an identifier that names server 0, whatever it is the digest of
+abbrev pub zero_id : Id
+zero_id = record { bytes = replicate 32 0 }
+
+abbrev pub root_caller : Caller
+root_caller = record { uid = 0; gid = 0 }
+
+abbrev pub line : List ℕ → List Call → ClientLine
+line name calls = record { name = name; caller = root_caller; calls = calls }
+
+abbrev pub world : World
+world = record {
+  setup = record {
+    servers = 2;
+    digest_bytes = 32;
+    cache = 256;
+    clients = line (codes "a") (call.Create (codes "/f") 0o644 ∷ []) ∷ line (codes "b") (call.Stat (codes "/f") ∷ []) ∷ [];
+  };
+  digest = λ message. zero_id;
+}
+
+abbrev pub ask : ℕ → Request → Ask
+ask client request = record { from = record { client = client; number = 1 }; caller = root_caller; request = request }
+
+abbrev pub look_up_top : Request
+look_up_top = request.Lookup look.Top
 
 abbrev pub asks : ℕ → Request → Event
 asks client request = event.Ask 0 (ask client request)

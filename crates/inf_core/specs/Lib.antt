@@ -1,9 +1,3 @@
-pub mod Sites
-pub mod Legal
 pub mod Core
-pub mod Replayed
-pub mod Flight
-pub mod Causes
-pub mod Decisions
 pub mod Examples
 pub mod Steps

@@ -1,8 +1,7 @@
 -- The small run by hand, step by step.
 use Rattle.std.specs.Prelude.{◌≡◌, ℕ}
 use Rattle.inf_core.specs.Core.{Running}
-use Rattle.inf_core.specs.Examples.{first_events}
-use Rattle.inf_duty.specs.Examples.{world}
+use Rattle.inf_core.specs.Examples.{first_events, world}
 
 -- a core that has seen so many events of the run
 pub record IsAfter {R : Type 0} (count : ℕ) (core : Running R) : Type 0 where

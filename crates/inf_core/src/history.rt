@@ -1,12 +1,11 @@
 //! The history as it grows, with the servers as it leaves them.
 
-ghost use Rattle.std.specs.Prelude.{◌≡◌, ◌≢◌, suc, ◌+◌, ◌<◌, ◌≤◌, true, false, [], ◌∷◌, ◌++◌, length, reverse, slice_get, Some, IsSome, IfOk, OnOk, OnErr, vec_len, vec_capacity};
-ghost use Rattle.inf_core.specs.Core.{AreStanding, IsSameRun, IsServedBy, IsServedNext, world_in};
+ghost use Rattle.std.specs.Prelude.{◌≡◌, suc, ◌+◌, ◌<◌, ◌≤◌, true, false, [], ◌∷◌, ◌++◌, length, reverse, slice_get, Some, IsSome, IfOk, OnOk, OnErr, vec_len, vec_capacity};
+ghost use Rattle.inf_core.specs.Core.{AreStanding, IsSameRun, IsServedBy, IsServedNext, TellsOfNoChange, world_in};
 ghost use Rattle.inf_duty.specs.World.{world_by};
-ghost use Rattle.inf_core.specs.Legal.{Legal, MayAsk};
-ghost use Rattle.inf_core.specs.Replayed.{AllReplay};
+ghost use Rattle.inf_laws_history.specs.Legal.{Legal, MayAsk};
+ghost use Rattle.inf_laws_history.specs.Replayed.{AllReplay};
 ghost use Rattle.inf_message.specs.declared.event.Event.TheVariants as event;
-ghost use Rattle.inf_message.specs.declared.reply.Reply.TheVariants as reply;
 ghost use Rattle.inf_message.specs.History.{asked_at, is_served, posted_ask};
 ghost use Rattle.inf_server.specs.Chains.{HasShortChains};
 ghost use Rattle.inf_server.specs.Machine.{is_built};
@@ -14,6 +13,7 @@ ghost use Rattle.inf_server.specs.Server.{Standing};
 
 use inf_base::{NoMemory, Place, Setup, TryClone};
 use inf_birth::IdRule;
+use inf_laws_history::every_legal_history_replays;
 use inf_message::{Ask, Event, Events, Reply};
 use inf_server::Server;
 use std::alloc::Global;
@@ -75,6 +75,7 @@ impl<R: IdRule> Core<R> {
         ensures legal { Legal (world_in R.digest_of self.now) self.now.history }
         ensures replays { AllReplay (world_in R.digest_of self.now) self.now.history }
     {
+        every_legal_history_replays();
         self.events.as_slice()
     }
 
@@ -105,6 +106,7 @@ impl<R: IdRule> Core<R> {
         ensures same { IsSameRun self.old self.new }
         ensures no_memory { OnErr result (self.new ≡ self.old) }
     {
+        every_legal_history_replays();
         self.events.reserve(1)?;
         self.served.reserve(1)?;
         let event = Event::Ask { number, ask };
@@ -123,6 +125,7 @@ impl<R: IdRule> Core<R> {
         ensures same { IsSameRun self.old self.new }
         ensures no_memory { OnErr result (self.new ≡ self.old) }
     {
+        every_legal_history_replays();
         self.events.reserve(1)?;
         self.served.reserve(1)?;
         let (number, ask) = ask_at(self.events.as_slice(), ask_place);
@@ -188,13 +191,14 @@ fn serve_at<R: IdRule>(
     servers[number as usize].serve(ask_place, ask)
 }
 
-/// A copy of a reply; it is only replies that change no server that may want memory for it.
+/// A copy of a reply; only one that tells of no change may want memory for it.
 fn copy_reply(alloc: Global, given: &Reply) -> Result<Reply, NoMemory>
     ensures ok { IfOk result (λ copy. copy ≡ given.now) }
-    ensures err { OnErr result (given.now ≢ reply.Fine) }
+    ensures err { OnErr result (TellsOfNoChange given.now) }
 {
     match given {
         Reply::Fine => Ok(Reply::Fine),
+        Reply::Reserved(version) => Ok(Reply::Reserved(*version)),
         told => told.try_clone(alloc),
     }
 }

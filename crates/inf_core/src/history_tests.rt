@@ -2,9 +2,8 @@
 
 ghost use Rattle.std.specs.Prelude.{◌≡◌, ◌≢◌, ◌<◌, [], ◌∷◌, length, IfOk, OnOk};
 ghost use Rattle.inf_core.specs.Examples as example;
-ghost use Rattle.inf_duty.specs.Examples as duty_example;
 ghost use Rattle.inf_core.specs.Steps.{IsAfter};
-ghost use Rattle.inf_core.specs.Sites.{site_of};
+ghost use Rattle.inf_laws_history.specs.Sites.{site_of};
 ghost use Rattle.inf_message.specs.declared.reply.Reply.TheVariants as reply;
 ghost use Rattle.inf_server.specs.State.{root_access};
 
@@ -25,7 +24,7 @@ const ROOT: Caller = Caller { uid: 0, gid: 0 };
 struct ZeroRule;
 
 impl IdRule for ZeroRule {
-    ghost use Rattle.inf_duty.specs.Examples.{zero_id};
+    ghost use Rattle.inf_core.specs.Examples.{zero_id};
 
     ghost digest_of = { λ rule message. zero_id };
 
@@ -38,7 +37,7 @@ impl IdRule for ZeroRule {
 fn line(alloc: Global, name: &[u8], call: Call) -> Result<ClientLine, NoMemory>
     requires some { 0 < length name.now }
     requires short { length name.now < 16 }
-    ensures { IfOk result (λ line. line ≡ duty_example.line name.now (call ∷ [])) }
+    ensures { IfOk result (λ line. line ≡ example.line name.now (call ∷ [])) }
 {
     let name = Name::from_slice(alloc, name)?;
     let mut calls = Vec::new(alloc);
@@ -51,7 +50,7 @@ fn line(alloc: Global, name: &[u8], call: Call) -> Result<ClientLine, NoMemory>
 }
 
 fn setup(alloc: Global) -> Result<Setup, NoMemory>
-    ensures { IfOk result (λ setup. setup ≡ duty_example.world.setup) }
+    ensures { IfOk result (λ setup. setup ≡ example.world.setup) }
 {
     let path = Text::from_slice(alloc, b"/f")?;
     let a = line(alloc, b"a", Call::Create { path, mode: 0o644 })?;
@@ -69,7 +68,7 @@ fn setup(alloc: Global) -> Result<Setup, NoMemory>
 }
 
 fn ask(client: u32, request: Request) -> Ask
-    ensures { result ≡ duty_example.ask client request }
+    ensures { result ≡ example.ask client request }
 {
     Ask {
         from: CallRef { client, number: 1 },
@@ -79,7 +78,7 @@ fn ask(client: u32, request: Request) -> Ask
 }
 
 fn root() -> Access
-    ensures { result ≡ root_access (site_of duty_example.world 0) }
+    ensures { result ≡ root_access (site_of example.world 0) }
 {
     Access {
         id: Id { bytes: [0; 32] },

@@ -1,8 +1,7 @@
 use Rattle.std.proofs.Common.{◌≡◌, List, [], ◌∷◌, ◌++◌, ap, subst, sym, ⊎_elim}
 use Rattle.inf_core.specs.Examples as example
-use Rattle.inf_duty.specs.Examples as duty_example
-use Rattle.inf_core.specs.Legal.{server_after}
-use Rattle.inf_core.specs.Sites.{site_of}
+use Rattle.inf_laws_history.specs.Legal.{server_after}
+use Rattle.inf_laws_history.specs.Sites.{site_of}
 use Rattle.inf_message.specs.declared.call_result.CallResult.{CallResult}
 use Rattle.inf_message.specs.declared.reply.Reply.TheVariants as reply
 use Rattle.inf_message.specs.History.{Posted, posted_ask}
@@ -16,8 +15,8 @@ returns-clause-early_ask c = λ legal. let duty = legal.1.duty in absurd (cc)
 pub returns-clause-other_reply : goal.returns-clause-other_reply
 returns-clause-other_reply c = λ legal.
     let Served : Posted → Type 0 =
-    λ (p : Posted). Serves (site_of duty_example.world 0) (server_after duty_example.world 0 (example.first_events 2)) 1 p.ask reply.Fine legal.1.after in
-    let same : posted_ask 0 (duty_example.ask 0 duty_example.look_up_top) ≡ legal.1.posted = cc in
+    λ (p : Posted). Serves (site_of example.world 0) (server_after example.world 0 (example.first_events 2)) 1 p.ask reply.Fine legal.1.after in
+    let same : posted_ask 0 (example.ask 0 example.look_up_top) ≡ legal.1.posted = cc in
     let told = ap (λ (r : Response). r.reply) (subst Served (sym same) legal.1.reply) in
     absurd (cc)
 

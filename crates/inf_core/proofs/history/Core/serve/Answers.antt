@@ -2,10 +2,10 @@ use Rattle.std.proofs.Common.{◌≡◌, ◌-◌, true, false, [], ◌∷◌, �
 use Rattle.std.proofs.lemmas.List.{length-reverse}
 use Rattle.inf_core.specs.Core.{IsServedNext, Running, world_in}
 use Rattle.inf_duty.specs.World.{world_by}
-use Rattle.inf_core.specs.Legal.{Legal}
+use Rattle.inf_laws_history.specs.Legal.{Legal}
 use Rattle.inf_core.proofs.CoreFacts.{ask_indexed, kept_so, made_at, reversed_push, serving}
-use Rattle.inf_core.proofs.Posted.{posted_known, sent_is_built}
-use Rattle.inf_core.proofs.Replayed.{all_replay, all_replay_in}
+use Rattle.inf_core.proofs.Posted.{posted_known}
+use Rattle.inf_core.proofs.Replayed.{all_replay_in}
 use Rattle.inf_message.specs.declared.reply.Reply.{Reply}
 use Rattle.inf_message.specs.History.{is_served}
 use Rattle.inf_core.proofs.history.Core.serve.Goals as goal
@@ -19,7 +19,7 @@ serve_at-reply-requires-clause-there g c =
 pub serve_at-reply-requires-clause-built : goal.serve_at-reply-requires-clause-built
 serve_at-reply-requires-clause-built g c =
     let made = made_at c.args.ask_place c.self.inside.events.items _ _ _ c.as_slice.ensures.value c.reserve.ensures.items c.ask_at-number.ensures in
-    sent_is_built _ (posted_known _ c.args.ask_place _ _ c.self.invariant.legal made).sent
+    (posted_known _ c.args.ask_place _ _ c.self.invariant.legal made).built
 
 pub serve_at-reply-requires-clause-short_chains : goal.serve_at-reply-requires-clause-short_chains
 serve_at-reply-requires-clause-short_chains g c =
@@ -73,13 +73,13 @@ returns-clause-legal g c =
     subst (Legal (world_by (g.R.IdRule.digest_of old.rule) old.setup)) (sym joins) (s.kept waits).legal
 
 pub returns-in_err-reserve-clause-replays : goal.returns-in_err-reserve-clause-replays
-returns-in_err-reserve-clause-replays g c = all_replay_in _ _ _ c.reserve.ensures.items c.self.invariant.legal
+returns-in_err-reserve-clause-replays g c = all_replay_in c.every_legal_history_replays.ensures _ _ _ c.reserve.ensures.items c.self.invariant.legal
 
 pub returns-in_err-reserve-2-clause-replays : goal.returns-in_err-reserve-2-clause-replays
-returns-in_err-reserve-2-clause-replays g c = all_replay_in _ _ _ c.reserve.ensures.items c.self.invariant.legal
+returns-in_err-reserve-2-clause-replays g c = all_replay_in c.every_legal_history_replays.ensures _ _ _ c.reserve.ensures.items c.self.invariant.legal
 
 pub returns-in_err-told-clause-replays : goal.returns-in_err-told-clause-replays
-returns-in_err-told-clause-replays g c = all_replay_in _ _ _ c.reserve.ensures.items c.self.invariant.legal
+returns-in_err-told-clause-replays g c = all_replay_in c.every_legal_history_replays.ensures _ _ _ c.reserve.ensures.items c.self.invariant.legal
 
 pub returns-clause-replays : goal.returns-clause-replays
-returns-clause-replays g c = all_replay _ _ (returns-clause-legal g c)
+returns-clause-replays g c = c.every_legal_history_replays.ensures _ _ (returns-clause-legal g c)

@@ -1,5 +1,0 @@
-use Rattle.inf_core.proofs.Ordered.{outcome_is_decided}
-use Rattle.inf_core.proofs.laws.outcomes_are_decided.Goals as goal
-
-pub returns : goal.returns
-returns c world h results out = outcome_is_decided world h results out
