@@ -1,0 +1,6 @@
+pub mod ActorFacts
+pub mod GroupFacts
+pub mod TestFacts
+pub mod ToldFacts
+pub mod TurnRoom
+pub mod WayFacts

@@ -1,0 +1,168 @@
+-- What an answer changes of a client.
+use Rattle.std.proofs.Common.{◌≡◌, ◌≢◌, ℕ, ◌<◌, ◌≤◌, Bool, true, false, cond, eqb, ◌&&◌, ◌||◌, List, [], ◌∷◌, length, map, drop, Option, Some, None, refl, sym, ap, ap₂, subst, ◌∙◌, arith}
+use Rattle.std.proofs.lemmas.Bool.{eqb-true}
+use Rattle.std.proofs.lemmas.List.{drop_all, length-map}
+use Rattle.std.specs.List.{cons_option, list_all, list_any}
+use Rattle.inf_client.specs.Actor.{IsAtRest, asks_left, group_asks, ready_in}
+use Rattle.inf_client.specs.Group.{IsKept, not_handed}
+use Rattle.inf_client.specs.Room.{room_in, room_needed, room_within}
+use Rattle.inf_client.proofs.ActorFacts.{asks_length, between_in, inside_room, ready_inside}
+use Rattle.inf_client.proofs.TurnRoom.{next_fits, turned_between}
+use Rattle.inf_flow_dir.specs.Client.{Client, Sent, has_place, is_told, told_at}
+use Rattle.inf_flow_dir.specs.Group.{group}
+use Rattle.inf_flow_dir.specs.Turn.{after_record, is_complete, recorded, served, settled, turn_at, turned}
+use Rattle.inf_message.specs.declared.ask.Ask.{Ask}
+use Rattle.inf_message.specs.History.{Made, Own, Posted, Told, own_ask, served_at, unless_told}
+use Rattle.inf_trips.specs.AskLog.{AskLog, told_log, waiting_asks, waits_at}
+
+-- ---- the log
+
+false_first : (a b : Bool) → (a || b) ≡ false → a ≡ false
+false_first true b e = e
+false_first false b e = refl
+
+false_second : (a b : Bool) → (a || b) ≡ false → b ≡ false
+false_second true b e = absurd (cc)
+false_second false b e = e
+
+same_own : (b : Bool) (own : Own) → cond b own own ≡ own
+same_own true own = refl
+same_own false own = refl
+
+told_apart : (place : ℕ) (told : Told) (owns : List Own) → waits_at place owns ≡ false → map (served_at place told) owns ≡ owns
+told_apart place told [] apart = refl
+told_apart place told (own ∷ owns) apart = by own.told (λ e. told_apart place told owns e) apart
+  where
+    by : (answer : Option Told) → (waits_at place owns ≡ false → map (served_at place told) owns ≡ owns)
+        → list_any (λ (made : Made). eqb made.ask_place place) (cons_option (unless_told own.made answer) (waiting_asks owns)) ≡ false
+        → map (served_at place told) (own_ask own.made answer ∷ owns) ≡ own_ask own.made answer ∷ owns
+    by None later e =
+        ap₂ (λ (first : Own) more. first ∷ more)
+        (ap (λ b. cond b (own_ask own.made (Some told)) (own_ask own.made None)) (false_first (eqb own.made.ask_place place) (waits_at place owns) e))
+        (later (false_second (eqb own.made.ask_place place) (waits_at place owns) e))
+    by (Some before) later e =
+        ap₂ (λ (first : Own) more. first ∷ more) (same_own (eqb own.made.ask_place place) (own_ask own.made (Some before))) (later e)
+
+-- where no Ask waits at the place, nothing changes
+pub told_nothing : (place : ℕ) (told : Told) (log : AskLog) → waits_at place log.asks ≡ false → log ≡ told_log place told log
+told_nothing place told log apart = ap (λ asks. record log { asks = asks }) (sym (told_apart place told log.asks apart))
+
+-- ---- the client
+
+kept_log : (s : Client) (gone : Bool) (log new : AskLog) (handed : Bool) (outbox : List (ℕ × Ask)) → IsKept s gone log handed outbox
+    → new.ready ≡ log.ready → new.room ≡ log.room → IsKept s gone new handed outbox
+kept_log s gone log new handed outbox kept ready room = record {
+  at_rest = kept.at_rest;
+  in_step = record { ready = ready ∙ kept.in_step.ready; first = kept.in_step.first };
+  here = kept.here;
+  calls = λ some. kept.calls (subst (λ (r : List Posted). 0 < length r) ready some);
+  posts = kept.posts ∙ sym (ap (not_handed handed) ready);
+  room = subst (λ (n : ℕ). room_needed handed s ≤ n) (sym room) kept.room;
+}
+
+has_inside : (place : ℕ) (sent : List Sent) → has_place place sent ≡ true → sent ≢ []
+has_inside place [] has = absurd (cc)
+has_inside place (x ∷ sent) has = λ none. absurd (cc)
+
+told_inside : (place : ℕ) (told : Told) (sent : List Sent) → sent ≢ [] → map (told_at place told) sent ≢ []
+told_inside place told [] inside = absurd (inside refl)
+told_inside place told (x ∷ sent) inside = λ none. absurd (cc)
+
+still_here : (s : Client) (gone : Bool) → IsAtRest s gone → s.sent ≢ [] → gone ≡ false
+still_here s true rest inside = absurd (inside rest.0)
+still_here s false rest inside = refl
+
+-- within a group
+ready_within : (handed : Bool) (sent : List Sent) (s : Client) → sent ≢ [] → ready_in handed sent s ≡ asks_left s
+ready_within true sent s inside = refl
+ready_within false sent s inside = ready_inside sent s inside
+
+room_inside : (handed : Bool) (sent : List Sent) (s : Client) → sent ≢ [] → room_in handed sent s ≡ room_within s.stage
+room_inside true sent s inside = refl
+room_inside false sent s inside = inside_room sent s inside
+
+both_first : (a b : Bool) → (a && b) ≡ true → a ≡ true
+both_first true b e = refl
+both_first false b e = absurd (cc)
+
+module _ (s : Client) (gone : Bool) (log : AskLog) (handed : Bool) (outbox : List (ℕ × Ask)) (place : ℕ) (told : Told) (kept : IsKept s gone log handed outbox)
+    (inside : s.sent ≢ []) where
+  sent_same : length (recorded place told s).sent ≡ length s.sent
+  sent_same = length-map s.sent (told_at place told)
+
+  left_same : log.ready ≡ asks_left (recorded place told s)
+  left_same =
+      kept.in_step.ready ∙ ready_within handed s.sent s inside ∙ ap (λ (n : ℕ). drop n (group_asks s)) (sym sent_same)
+
+  after_inside : (recorded place told s).sent ≢ []
+  after_inside = told_inside place told s.sent inside
+
+  -- the group is not over
+  kept_recorded : IsKept (recorded place told s) gone log handed outbox
+  kept_recorded = record {
+    at_rest = subst (IsAtRest (recorded place told s)) (sym (still_here s gone kept.at_rest inside)) tt;
+    in_step = record {
+      ready = left_same ∙ sym (ready_within handed (recorded place told s).sent (recorded place told s) after_inside);
+      first = λ is. (let before : length s.sent < length (group s.who s.stage) = kept.in_step.first is in
+          let same = sent_same in
+          omega arith);
+    };
+    here = kept.here;
+    calls = kept.calls;
+    posts = kept.posts;
+    room = subst (λ (n : ℕ). n ≤ log.room)
+        (room_inside handed s.sent s inside ∙ sym (room_inside handed (recorded place told s).sent (recorded place told s) after_inside)) kept.room;
+  }
+
+  not_to_ask : (is : Bool) → handed ≡ is → length (recorded place told s).sent ≡ length (group s.who s.stage) → handed ≡ false
+  not_to_ask true is all =
+      let before : length s.sent < length (group s.who s.stage) = kept.in_step.first is in
+      let same = sent_same in
+      absurd (omega arith)
+  not_to_ask false is all = is
+
+  -- the group is over
+  kept_turned : is_complete (recorded place told s) ≡ true
+      → IsKept (turned (turn_at (recorded place told s) s.stage) (recorded place told s)) gone log handed outbox
+  kept_turned complete =
+      let r = recorded place told s in
+      let next = turned (turn_at r s.stage) r in
+      let all : length r.sent ≡ length (group s.who s.stage) =
+      eqb-true (length r.sent) (length (group s.who s.stage)) (both_first (eqb (length r.sent) (length (group s.who s.stage))) (list_all is_told r.sent) complete) in
+      let quiet : handed ≡ false = not_to_ask handed refl all in
+      let many = asks_length s in
+      let none : log.ready ≡ [] = left_same ∙ drop_all (length r.sent) (group_asks s) (omega arith) in
+      let between : next.sent ≡ [] = turned_between (turn_at r s.stage) r in
+      record {
+        at_rest = subst (IsAtRest next) (sym (still_here s gone kept.at_rest inside)) tt;
+        in_step = record {
+          ready = none ∙ sym (between_in next.sent next between) ∙ sym (ap (λ h. ready_in h next.sent next) quiet);
+          first = λ is. (let clash = sym is ∙ quiet in absurd (cc));
+        };
+        here = kept.here;
+        calls = λ some. (let count : length log.ready ≡ 0 = ap length none in absurd (omega arith));
+        posts = kept.posts;
+        room =
+            let within : room_within s.stage ≤ log.room = subst (λ (n : ℕ). n ≤ log.room) (room_inside handed s.sent s inside) kept.room in
+            subst (λ (n : ℕ). n ≤ log.room)
+            (sym (ap (λ h. room_in h next.sent next) quiet ∙ ap (λ (sent : List Sent). room_in false sent next) between))
+            (next_fits r log.room within);
+      }
+
+  kept_settled : (b : Bool) → is_complete (recorded place told s) ≡ b → IsKept (settled b (recorded place told s)) gone log handed outbox
+  kept_settled true is = kept_turned is
+  kept_settled false is = kept_recorded
+
+  kept_after : IsKept (after_record (recorded place told s)) gone log handed outbox
+  kept_after = kept_settled (is_complete (recorded place told s)) refl
+
+kept_served : (s : Client) (gone : Bool) (log : AskLog) (handed : Bool) (outbox : List (ℕ × Ask)) (place : ℕ) (told : Told) → IsKept s gone log handed outbox
+    → (b : Bool) → has_place place s.sent ≡ b → IsKept (cond b (after_record (recorded place told s)) s) gone log handed outbox
+kept_served s gone log handed outbox place told kept true has = kept_after s gone log handed outbox place told kept (has_inside place s.sent has)
+kept_served s gone log handed outbox place told kept false has = kept
+
+pub kept_told : (s : Client) (gone : Bool) (log : AskLog) (handed : Bool) (outbox : List (ℕ × Ask)) (place : ℕ) (told told_log_with : Told)
+    → IsKept s gone log handed outbox → IsKept (served place told s) gone (told_log place told_log_with log) handed outbox
+kept_told s gone log handed outbox place told answer kept =
+    kept_log (served place told s) gone log (told_log place answer log) handed outbox
+    (kept_served s gone log handed outbox place told kept (has_place place s.sent) refl) refl refl

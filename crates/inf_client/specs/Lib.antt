@@ -1,0 +1,5 @@
+pub mod Actor
+pub mod ActorBy
+pub mod Group
+pub mod Planned
+pub mod Room

@@ -1,0 +1,25 @@
+-- For how many asks a client has to have room that it may come to make where memory is wanting: those that wind its call up.
+use Rattle.std.specs.Prelude.{ℕ, ◌+◌, Bool, false, List, [], length}
+use Rattle.inf_flow_dir.specs.Client.{Client, Sent, Stage, act, compose, round, winds}
+use Rattle.inf_flow_dir.specs.Flow.{Who, clean_up}
+
+-- between two groups: for the clean-up of the next step, or for what the call is wound up by
+abbrev pub room_between : Who → Stage → ℕ
+room_between who compose = 0
+room_between who (round keys) = 0
+room_between who (act flow) = length (clean_up who flow)
+room_between who (winds ending m ms) = 1 + length ms
+
+-- once it was told to ask: what follows a group has two messages at most
+abbrev pub room_within : Stage → ℕ
+room_within compose = 0
+room_within (round keys) = 2
+room_within (act flow) = 2
+room_within (winds ending m ms) = length ms
+
+abbrev pub room_in : Bool → List Sent → Client → ℕ
+room_in false [] s = room_between s.who s.stage
+room_in handed sent s = room_within s.stage
+
+abbrev pub room_needed : Bool → Client → ℕ
+room_needed handed s = room_in handed s.sent s
