@@ -1,109 +1,113 @@
--- A client asks only for calls that are built, so one that gives up what is left gives up a call.
-use Rattle.std.proofs.Common.{◌≡◌, ℕ, suc, Bool, true, false, cond, eqb, ◌||◌, List, [], ◌∷◌, ◌++◌, length, slice_get, Option, Some, None, is_some, refl, sym, ap, subst, ◌∙◌}
+-- A client's stage is of a call that is built, and one that gives up what is left gives up a call.
+use Rattle.std.proofs.Common.{◌≡◌, ℕ, suc, Bool, true, false, cond, eqb, ◌||◌, ◌&&◌, List, [], ◌∷◌, ◌++◌, length, slice_get, Option, Some, None, is_some, refl, sym, ap, subst, ◌∙◌}
 use Rattle.std.specs.List.{list_any}
 use Rattle.std.proofs.lemmas.List.Folds.{list_any-append}
+use Rattle.inf_base.specs.declared.answer.Answer.TheVariants as answer
 use Rattle.inf_base.specs.declared.call.Call.{Call}
-use Rattle.inf_base.specs.declared.entry.Entry.{Entry}
 use Rattle.inf_base.specs.declared.setup.ClientLine.{ClientLine}
-use Rattle.inf_duty.specs.Client.{Client, Sent, Who, starting}
-use Rattle.inf_duty.specs.Duty.{asked, given_up, next_in, next_of, next_step}
-use Rattle.inf_duty.specs.Group.{composed, composed_stage, first_round, first_stage, group, op_of}
 use Rattle.inf_duty.specs.After.{client_after}
-use Rattle.inf_duty.specs.Outcome.{all_given_up, results_of}
-use Rattle.inf_duty.specs.Turn.{Turn, act_with, after_lookup, begins_again, ends, first_told, goes_on, next_op, recorded, success_of, turn_at, turned, unless_success}
+use Rattle.inf_duty.specs.Duty.{asked, at_call, begun, found_at, given_up, given_up_in, is_acting, lifts}
+use Rattle.inf_duty.specs.Outcome.{all_given_up, are_none, is_free, may_give_up, results_of}
+use Rattle.inf_duty.specs.Start.{starting}
 use Rattle.inf_duty.specs.World.{World}
-use Rattle.inf_duty.specs.declared.stage.Stage.{Stage}
-use Rattle.inf_duty.specs.declared.stage.Stage.TheVariants as stage
-use Rattle.inf_duty.proofs.ResultFacts.{IsKept, all_given_up_keeps, begun_keeps, if_both}
-use Rattle.inf_core.proofs.ResultFacts.{by_serve}
-use Rattle.inf_base.specs.declared.answer.Answer.{Answer}
+use Rattle.inf_flow_dir.specs.Client.{Client, Ending, Sent, Stage, act, answers, compose, ended, retries, round, winds, wound}
+use Rattle.inf_flow_dir.specs.Flow.{Who, clean_up}
+use Rattle.inf_flow_dir.specs.Group.{Course, composed, composed_stage, course_of, keys_of, next_course}
+use Rattle.inf_flow_dir.specs.Heard.{heard}
+use Rattle.inf_flow_dir.specs.Turn.{Turn, goes_on, recorded, turn_at, turned, winds_up}
+use Rattle.inf_message.specs.declared.ask.Ask.{Ask}
 use Rattle.inf_message.specs.declared.call_result.CallResult.{CallResult}
 use Rattle.inf_message.specs.declared.event.Event.{Event}
 use Rattle.inf_message.specs.declared.event.Event.TheVariants as event
-use Rattle.inf_message.specs.declared.op.Op.{Op}
-use Rattle.inf_message.specs.declared.reply.Reply.{Reply}
-use Rattle.inf_message.specs.declared.reply.Reply.TheVariants as reply
+use Rattle.inf_message.specs.declared.request.Request.{Request}
+use Rattle.inf_message.specs.declared.step.Message.{Message}
 use Rattle.inf_message.specs.History.{Told, told_reply}
+use Rattle.inf_laws_history.proofs.ClientSteps.{Lasts, by_answer, given_up_lasts, if_both}
 use Rattle.inf_sched.specs.Laws.{gave_up}
-use Rattle.inf_sched.specs.Scene.{is_ask, planned_from}
 use Rattle.inf_sched.proofs.OrderLaws.{IsLeft}
+
+-- ---- what a client keeps while it settles what to ask for, and gives calls up on the way
+
+module _ (P : Client → Type 0) (composing : (s : Client) → P s → P (composed s)) (giving_up : (s : Client) → P s → P (given_up s)) where
+  found_keeps : (asked : Request) (s : Client) → P s → P (found_at asked s)
+  found_keeps asked s now =
+      if_both P (lifts asked) _ _ (if_both P (is_acting s.stage) _ _ (giving_up s now) now) (composing s now)
+
+  at_call_keeps : (number : ℕ) (asked : Request) (calls : List Call) (s : Client) → P s → P (at_call number asked calls s)
+  at_call_keeps number asked [] s now = now
+  at_call_keeps number asked (call ∷ calls) s now =
+      if_both P (eqb number s.number) _ _ (found_keeps asked s now)
+      (if_both P (is_some (course_of call)) (at_call number asked calls (given_up s)) s
+      (at_call_keeps number asked calls (given_up s) (giving_up s now)) now)
+
+  pub begun_keeps : (ask : Ask) (sent : List Sent) (s : Client) → P s → P (begun ask sent s)
+  begun_keeps ask [] s now = at_call_keeps ask.from.number ask.request s.left s now
+  begun_keeps ask (x ∷ sent) s now = now
 
 -- ---- what is asked for is built
 
 abbrev pub IsBuilt : List Call → Stage → Type 0
-IsBuilt left stage.Compose = Unit {0}
-IsBuilt left (stage.Round keys) = is_some (next_op left) ≡ true
-IsBuilt left (stage.Act chain asked) = is_some (next_op left) ≡ true
-
-first_round_built : (left : List Call) (op : Option Op) → next_op left ≡ op → IsBuilt left (first_round op)
-first_round_built left None is = tt
-first_round_built left (Some op) is = ap is_some is
-
-first_stage_built : (left : List Call) → IsBuilt left (first_stage left)
-first_stage_built [] = tt
-first_stage_built (next ∷ calls) = first_round_built (next ∷ calls) (op_of next) refl
-
-composed_built : (left : List Call) (next : Stage) → IsBuilt left next → IsBuilt left (composed_stage left next)
-composed_built left stage.Compose built = first_stage_built left
-composed_built left (stage.Round keys) built = built
-composed_built left (stage.Act chain asked) built = built
-
-built_kept : IsKept (λ s. IsBuilt s.left s.stage)
-built_kept = record { composing = λ s built. composed_built s.left s.stage built; giving_up = λ s built. tt }
-
-abbrev IsBuiltTurn : List Call → Turn → Type 0
-IsBuiltTurn left (goes_on next) = IsBuilt left next
-IsBuiltTurn left (ends given place) = Unit {0}
-IsBuiltTurn left begins_again = Unit {0}
-
-act_built : (left : List Call) (op : Option Op) (chain : List Entry) → next_op left ≡ op → IsBuiltTurn left (act_with op chain)
-act_built left None chain is = tt
-act_built left (Some op) chain is = ap is_some is
-
-lookup_built : (left : List Call) (place : ℕ) (given : Reply) → IsBuiltTurn left (after_lookup (next_op left) place given)
-lookup_built left place (reply.Found key access) = act_built left (next_op left) _ refl
-lookup_built left place (reply.Busy by at born) = tt
-lookup_built left place reply.NoMem = tt
-lookup_built left place any_reply = tt
-
-unless_built : (left : List Call) (given : Option Answer) (place : ℕ) (told : Reply) → IsBuiltTurn left (unless_success given place told)
-unless_built left (Some given) place told = tt
-unless_built left None place (reply.Refused error) = tt
-unless_built left None place (reply.Busy by at born) = tt
-unless_built left None place reply.NoMem = tt
-unless_built left None place any_reply = tt
-
-turn_built : (left : List Call) (next : Stage) (told : Option Told) → IsBuiltTurn left (turn_at left next told)
-turn_built left (stage.Round keys) (Some told) = lookup_built left told.serve_place told.reply
-turn_built left (stage.Round keys) None = tt
-turn_built left (stage.Act chain asked) (Some told) = unless_built left (success_of asked told.reply) told.serve_place told.reply
-turn_built left (stage.Act chain asked) None = tt
-turn_built left stage.Compose told = tt
-
-turned_built : (turn : Turn) (s : Client) → IsBuiltTurn s.left turn → IsBuilt (turned turn s).left (turned turn s).stage
-turned_built (goes_on next) s built = built
-turned_built (ends given place) s built = tt
-turned_built begins_again s built = tt
-
-starting_built : (world : World) (client : ℕ) (line : Option ClientLine) → IsBuilt (starting world client line).left (starting world client line).stage
-starting_built world client None = tt
-starting_built world client (Some line) = tt
+IsBuilt left compose = Unit {0}
+IsBuilt left other_stage = is_some (next_course left) ≡ true
 
 abbrev pub IsBuiltFor : Client → Type 0
 IsBuiltFor s = IsBuilt s.left s.stage
+
+any_built : (left : List Call) (next : Stage) → is_some (next_course left) ≡ true → IsBuilt left next
+any_built left compose some = tt
+any_built left (round keys) some = some
+any_built left (act flow) some = some
+any_built left (winds ending m ms) some = some
+
+keys_built : (left : List Call) (who : Who) (course : Option Course) → next_course left ≡ course → IsBuilt left (keys_of who course)
+keys_built left who None is = tt
+keys_built left who (Some course) is = ap is_some is
+
+composed_built : (s : Client) (stage : Stage) → IsBuilt s.left stage → IsBuilt s.left (composed_stage s stage)
+composed_built s compose built = keys_built s.left s.who (next_course s.left) refl
+composed_built s (round keys) built = built
+composed_built s (act flow) built = built
+composed_built s (winds ending m ms) built = built
+
+wound_built : (ending : Ending) (more : List Message) (s : Client) → is_some (next_course s.left) ≡ true → IsBuiltFor (wound ending more s)
+wound_built (answers given place) [] s some = tt
+wound_built retries [] s some = tt
+wound_built ending (m ∷ ms) s some = some
+
+turned_built : (turn : Turn) (s : Client) → is_some (next_course s.left) ≡ true → IsBuiltFor (turned turn s)
+turned_built (goes_on next) s some = any_built s.left next some
+turned_built (winds_up ending more) s some = wound_built ending more s some
+
+over_built : (s t : Client) (stage : Stage) → IsBuilt t.left stage → IsBuiltFor (turned (turn_at s stage) t)
+over_built s t compose built = tt
+over_built s t (round keys) built = turned_built (turn_at s (round keys)) t built
+over_built s t (act flow) built = turned_built (turn_at s (act flow)) t built
+over_built s t (winds ending m ms) built = turned_built (turn_at s (winds ending m ms)) t built
+
+given_up_built : (s : Client) (stage : Stage) → IsBuilt s.left stage → IsBuiltFor s → IsBuiltFor (given_up_in s stage)
+given_up_built s (act flow) built now = wound_built (answers answer.NoMemory None) (clean_up s.who flow) s built
+given_up_built s (winds ending m ms) built now = now
+given_up_built s compose built now = tt
+given_up_built s (round keys) built now = tt
+
+starting_built : (world : World) (client : ℕ) (line : Option ClientLine) → IsBuiltFor (starting world client line)
+starting_built world client None = tt
+starting_built world client (Some line) = tt
 
 pub built : (world : World) (client : ℕ) (h : List Event) → IsBuiltFor (client_after world client h)
 built world client [] = starting_built world client (slice_get world.setup.clients client)
 built world client (event.Ask number ask ∷ h) =
     let s : Client = client_after world client h in
-    if_both IsBuiltFor (eqb ask.from.client client) _ _ (begun_keeps IsBuiltFor built_kept ask s.sent s (built world client h)) (built world client h)
+    if_both IsBuiltFor (eqb ask.from.client client) (asked (suc (length h)) ask s) s
+    (begun_keeps IsBuiltFor (λ t now. composed_built t t.stage now) (λ t now. given_up_built t t.stage now now) ask s.sent s (built world client h))
+    (built world client h)
 built world client (event.Serve number ask_place given ∷ h) =
     let s : Client = client_after world client h in
-    let told : Told = told_reply (suc (length h)) given in
-    by_serve (λ t made. IsBuiltFor t) ask_place told s
+    let told : Told = told_reply (suc (length h)) (heard given) in
+    by_answer IsBuiltFor ask_place told s
     (λ apart. built world client h)
     (λ here going. built world client h)
-    (λ here complete. turned_built _ (recorded ask_place told s) (turn_built s.left s.stage (first_told (recorded ask_place told s).sent)))
+    (λ here over. over_built (recorded ask_place told s) (recorded ask_place told s) s.stage (built world client h))
 
 -- ---- lists of results
 
@@ -129,7 +133,7 @@ HasGivenUp results = list_any gave_up results ≡ true
 abbrev pub HasNotGivenUp : List CallResult → Type 0
 HasNotGivenUp results = list_any gave_up results ≡ false
 
-pub gave_up_before : (xs ys : List CallResult) → HasGivenUp xs → HasGivenUp (xs ++ ys)
+gave_up_before : (xs ys : List CallResult) → HasGivenUp xs → HasGivenUp (xs ++ ys)
 gave_up_before xs ys gave = list_any-append gave_up xs ys ∙ true_before _ _ gave
 
 gave_up_behind : (xs ys : List CallResult) → HasGivenUp ys → HasGivenUp (xs ++ ys)
@@ -148,35 +152,48 @@ neither false b e f = f
 pub none_joined : (xs ys : List CallResult) → HasNotGivenUp xs → HasNotGivenUp ys → HasNotGivenUp (xs ++ ys)
 none_joined xs ys none none_more = list_any-append gave_up xs ys ∙ neither _ _ none none_more
 
-pub gives_up : (s : Client) → HasGivenUp (given_up s).results
-gives_up s = gave_up_behind s.results _ refl
-
-pub gave_up_kept : IsKept (λ s. HasGivenUp s.results)
-gave_up_kept = record { composing = λ s gave. gave; giving_up = λ s gave. gave_up_before s.results _ gave }
-
 -- ---- a client that is gone has given up a call
 
-built_left : (t : Client) (who : Who) (call : Call) (calls : List Call) (next : Stage) (op : Option Op) → op_of call ≡ op → IsBuilt (call ∷ calls) next → is_ask (next_of t (slice_get (group who (composed_stage (call ∷ calls) next)) 0)) ≡ true → is_some op ≡ true
-built_left t who call calls next (Some op) is built asking = refl
-built_left t who call calls stage.Compose None is built asking =
-    let silent : is_ask (next_of t (slice_get (group who (first_round None)) 0)) ≡ true = subst (λ op. is_ask (next_of t (slice_get (group who (first_round op)) 0)) ≡ true) is asking in
-    absurd (cc)
-built_left t who call calls (stage.Round keys) None is built asking = sym (ap is_some is) ∙ built
-built_left t who call calls (stage.Act chain asked) None is built asking = sym (ap is_some is) ∙ built
+none_wound : (more : List Message) (s : Client) → are_none more ≡ true → wound (answers answer.NoMemory None) more s ≡ ended answer.NoMemory None s
+none_wound [] s none = refl
+none_wound (m ∷ ms) s none = absurd (cc)
 
-gives_up_left : (s : Client) (call : Call) (calls : List Call) (b : Bool) → b ≡ true → HasGivenUp (cond b (all_given_up calls (given_up s)) s).results
-gives_up_left s call calls true is = all_given_up_keeps (λ t. HasGivenUp t.results) gave_up_kept calls (given_up s) (gives_up s)
-gives_up_left s call calls false is = absurd (cc)
+free_ends : (s : Client) (stage : Stage) → is_free s.who stage ≡ true → given_up_in s stage ≡ ended answer.NoMemory None s
+free_ends s (act flow) free = none_wound (clean_up s.who flow) s free
+free_ends s (winds ending m ms) free = absurd (cc)
+free_ends s compose free = refl
+free_ends s (round keys) free = refl
 
--- `t` is the client that has settled what it asks for
-has_given_up : (s t : Client) (left : List Call) → IsBuilt left s.stage → t.sent ≡ [] → t.stage ≡ composed_stage left s.stage → is_ask (next_in t left) ≡ true → HasGivenUp (all_given_up left s).results
-has_given_up s t [] built none at asking = absurd (cc)
-has_given_up s t (call ∷ calls) built none at asking =
-    let first : is_ask (next_of t (slice_get (group t.who t.stage) 0)) ≡ true = subst (λ (sent : List Sent). is_ask (next_of t (slice_get (group t.who t.stage) (length sent))) ≡ true) none asking in
-    let there : is_ask (next_of t (slice_get (group t.who (composed_stage (call ∷ calls) s.stage)) 0)) ≡ true = subst (λ next. is_ask (next_of t (slice_get (group t.who next) 0)) ≡ true) at first in
-    gives_up_left s call calls (is_some (op_of call)) (built_left t t.who call calls s.stage (op_of call) refl built there)
+both : (a b : Bool) → (a && b) ≡ true → (a ≡ true) × (b ≡ true)
+both true b e = (refl, e)
+both false b e = absurd (cc)
 
-pub gone_gave_up : (s : Client) → IsBuiltFor s → IsLeft s → HasGivenUp (results_of (all_given_up s.left s))
-gone_gave_up s built left =
-    let asking : is_ask (next_step (composed s)) ≡ true = subst (λ (sent : List Sent). is_ask (next_step (planned_from sent s)) ≡ true) left.between left.was_to_ask in
-    gave_up_before (all_given_up s.left s).results _ (has_given_up s (composed s) s.left built left.between refl asking)
+-- where nothing has to be cleaned up, giving up ends the call
+pub may_end : (s : Client) → may_give_up s ≡ true → given_up s ≡ ended answer.NoMemory None s
+may_end s may = free_ends s s.stage (both (is_some (next_course s.left)) _ may).1
+
+gave_up_lasts : Lasts (λ s. HasGivenUp s.results)
+gave_up_lasts = record {
+  composing = λ s gave. gave;
+  ending = λ given place s gave. gave_up_before s.results _ gave;
+  again = λ s gave. gave;
+  going_on = λ next s gave. gave;
+}
+
+all_gave_up : (calls : List Call) (s : Client) → HasGivenUp s.results → HasGivenUp (all_given_up calls s).results
+all_gave_up [] s gave = gave
+all_gave_up (call ∷ calls) s gave =
+    if_both (λ (t : Client). HasGivenUp t.results) (may_give_up s) (all_given_up calls (given_up s)) s
+    (all_gave_up calls (given_up s) (given_up_lasts (λ t. HasGivenUp t.results) gave_up_lasts s gave)) gave
+
+gave_up_left : (s : Client) (left : List Call) → s.left ≡ left → may_give_up s ≡ true → HasGivenUp (all_given_up left s).results
+gave_up_left s [] is may =
+    let none : is_some (next_course s.left) ≡ false = ap (λ calls. is_some (next_course calls)) is in
+    absurd (let some = (both (is_some (next_course s.left)) _ may).0 in cc)
+gave_up_left s (call ∷ calls) is may =
+    let gave : HasGivenUp (given_up s).results =
+    subst (λ (t : Client). HasGivenUp t.results) (sym (may_end s may)) (gave_up_behind s.results _ refl) in
+    subst (λ b. HasGivenUp (cond b (all_given_up calls (given_up s)) s).results) (sym may) (all_gave_up calls (given_up s) gave)
+
+pub gone_gave_up : (s : Client) → IsLeft s → HasGivenUp (results_of (all_given_up s.left s))
+gone_gave_up s left = gave_up_before (all_given_up s.left s).results _ (gave_up_left s s.left refl left.free)

@@ -1,12 +1,14 @@
 -- How the moves of an order go on, step by step.
-use Rattle.std.proofs.Common.{◌≡◌, ℕ, zero, suc, ◌+◌, ◌-◌, ◌≤◌, ◌<◌, Bool, true, false, nat_lt, not, ◌&&◌, ◌||◌, List, [], ◌∷◌, ◌++◌, length, take, get_or, Option, None, Some, refl, sym, ap, subst, ◌∙◌, arith, inl, inr}
-use Rattle.std.proofs.lemmas.Bool.{lt-ltb}
+use Rattle.std.proofs.Common.{◌≡◌, ℕ, zero, suc, ◌+◌, ◌-◌, ◌≤◌, ◌<◌, Bool, true, false, nat_le, nat_lt, not, ◌&&◌, ◌||◌, List, [], ◌∷◌, ◌++◌, length, take, get_or, Option, None, Some, refl, sym, ap, subst, ◌∙◌, arith, inl, inr}
+use Rattle.std.proofs.lemmas.Bool.{leb-true, lt-ltb}
 use Rattle.std.proofs.lemmas.List.{take_more}
 use Rattle.std.specs.List.{list_all}
 use Rattle.inf_base.specs.declared.id.Id.{Id}
 use Rattle.inf_core.specs.Core.{IsSameRun, world_in}
 use Rattle.inf_duty.specs.World.{World}
+use Rattle.inf_order.specs.Order.{is_client_of, is_move_of}
 use Rattle.inf_order.specs.declared.moves.Move.{Move}
+use Rattle.inf_order.specs.declared.moves.Move.TheVariants as move
 use Rattle.inf_sched.specs.Moves.{ByAlone, ByCalls, ByMove, ByRest, ByStep, IfElse, ServesOn}
 use Rattle.inf_sched.specs.Order.{ByMoves}
 use Rattle.inf_sched.specs.Run.{HasAdvanced, HasCalled, HasCalledOnce, HasNothingLeft, HasStepped, IsAlong, IsMoved, Playing, scene_of}
@@ -280,3 +282,20 @@ pub got_again : (order : List Move) (index : ℕ) (other : Move) → index < len
 got_again [] index other within = absurd (omega arith)
 got_again (first ∷ order) zero other within = refl
 got_again (first ∷ order) (suc index) other within = got_again order index other (omega arith)
+
+-- the client that a move names is there
+pub named_client : (servers clients number : ℕ) (client : Option ℕ) (next : Move) → move.Serve number client ≡ next → is_move_of servers clients next ≡ true → is_client_of clients client ≡ true
+named_client servers clients number client next is named = later (nat_le number servers) (is_client_of clients client) (ap (is_move_of servers clients) is ∙ named)
+  where
+    later : (a b : Bool) → (a && b) ≡ true → b ≡ true
+    later true b both = both
+    later false b both = absurd (cc)
+
+-- and so is the server
+pub named_server : (servers clients number : ℕ) (client : Option ℕ) (next : Move) → move.Serve number client ≡ next → is_move_of servers clients next ≡ true → number ≤ servers
+named_server servers clients number client next is named =
+    leb-true number servers (first (nat_le number servers) (is_client_of clients client) (ap (is_move_of servers clients) is ∙ named))
+  where
+    first : (a b : Bool) → (a && b) ≡ true → a ≡ true
+    first true b both = refl
+    first false b both = absurd (cc)

@@ -1,23 +1,19 @@
 -- How a run begins, and what its calls come to in the end.
-use Rattle.std.proofs.Common.{◌≡◌, ℕ, zero, suc, ◌+◌, ◌<◌, Bool, true, false, nat_lt, ◌||◌, List, [], ◌∷◌, ◌++◌, length, map, reverse, slice_get, Option, Some, None, refl, sym, ap, ap₂, subst, ◌∙◌, arith, rules, length-append}
-use Rattle.std.specs.List.{flat_map, filter_map, cons_option}
-use Rattle.std.proofs.lemmas.List.{append-nil, map-append}
-use Rattle.std.proofs.lemmas.List.Elements.{All-nil, filter_map-append}
-use mathlib.Core.List.{reverse-cons}
+use Rattle.std.proofs.Common.{◌≡◌, ℕ, zero, suc, ◌+◌, ◌<◌, Bool, true, false, nat_lt, ◌||◌, List, [], ◌∷◌, ◌++◌, length, map, slice_get, Some, refl, sym, ap, ap₂, subst, ◌∙◌, arith, rules, length-append}
+use Rattle.std.specs.List.{flat_map}
+use Rattle.std.proofs.lemmas.List.{map-append}
+use Rattle.std.proofs.lemmas.List.Elements.{All-nil}
 use Rattle.std.proofs.lemmas.Option.{slice_get_within}
 use Rattle.inf_base.specs.declared.setup.ClientLine.{ClientLine}
-use Rattle.inf_duty.specs.Client.{Client, start}
+use Rattle.inf_flow_dir.specs.Client.{Client}
+use Rattle.inf_duty.specs.Start.{start}
 use Rattle.inf_duty.specs.After.{client_after}
 use Rattle.inf_duty.specs.Outcome.{results_of}
-use Rattle.inf_duty.specs.Own.{client_of, own_of}
-use Rattle.inf_core.specs.Legal.{Legal}
-use Rattle.inf_core.proofs.OwnHistory.{shows_state}
 use Rattle.inf_duty.specs.World.{World}
-use Rattle.inf_core.proofs.CoreFacts.{got_before, got_pushed}
+use Rattle.inf_sched.proofs.Indexed.{got_before, got_pushed}
 use Rattle.inf_message.specs.declared.event.Event.{Event}
-use Rattle.inf_message.specs.History.{asks_of, trip_of, trips_of}
-use Rattle.inf_sched.specs.Actor.{Actor, actor, trips_of_actor}
-use Rattle.inf_sched.specs.AskLog.{no_asks}
+use Rattle.inf_client.specs.Actor.{Actor, actor}
+use Rattle.inf_trips.specs.AskLog.{no_asks}
 use Rattle.inf_sched.specs.Order.{came_to, results_from}
 use Rattle.inf_sched.specs.Run.{AreActors, AreEmpty, AreOpening, AreQueues, IsActor, IsKept, IsStateOf, gone_of, results_of_actor, unset}
 use Rattle.inf_sched.specs.Scene.{has_ended, is_gone, number_in, calls_left, opening}
@@ -48,12 +44,12 @@ push_each P xs y old new k x at = by (nat_lt k (length xs)) refl
 pub opening_none : (world : World) → AreOpening world 0 []
 opening_none world = record { count = refl; each = λ client a at. absurd (cc); gone = refl }
 
-pub opening_more : (world : World) (many : ℕ) (actors all : List Actor) (next : Actor) → AreOpening world many actors → next ≡ actor (start world many) false no_asks
+pub opening_more : (world : World) (many : ℕ) (actors all : List Actor) (next : Actor) → AreOpening world many actors → next ≡ actor (start world many) false no_asks false
     → all ≡ actors ++ next ∷ [] → AreOpening world (many + 1) all
 opening_more world many actors all next are is pushed =
     subst (λ xs. AreOpening world (many + 1) xs) (sym pushed) (record {
       count = omega (arith, length-append actors (next ∷ []), are.count);
-      each = push_each (λ k x. x ≡ actor (start world k) false no_asks) actors next are.each (is ∙ ap (λ n. actor (start world n) false no_asks) (sym are.count));
+      each = push_each (λ k x. x ≡ actor (start world k) false no_asks false) actors next are.each (is ∙ ap (λ n. actor (start world n) false no_asks false) (sym are.count));
       gone = map-append (λ (a : Actor). a.gone) actors (next ∷ [])
           ∙ ap₂ (λ gs (a : Actor). gs ++ a.gone ∷ []) are.gone is ∙ unset_more many ∙ (let e : suc many ≡ many + 1 = omega arith in ap unset e);
     })
@@ -83,6 +79,7 @@ kept_opening world h actors to by none are queues askers =
         count = are.count;
         each = λ client a at. subst (λ x. IsActor (start world client) x) (sym (are.each client a at)) refl;
         asks = λ client a at. ap (λ (x : Actor). x.log.asks) (are.each client a at);
+        idle = λ client a at. ap (λ (x : Actor). x.handed) (are.each client a at);
       };
       servers = empty_queues is_to (world.setup.servers + 1) to queues;
       askers = empty_queues is_by (length world.setup.clients) by askers;
@@ -124,31 +121,6 @@ pub left_same : (world : World) (h : List Event) (actors : List Actor) (client :
     → length a.state.left ≡ calls_left world (record { history = h; gone = gone_of actors }) client
 left_same world h actors client a at is here =
     ap (λ (s : Client). length s.left) (state_here (client_after world client h) a is (here_at h actors client a at here))
-
-cons_back : {X : Type 0} (o : Option X) (xs : List X) → reverse (cons_option o xs) ≡ reverse xs ++ cons_option o []
-cons_back None xs = sym (append-nil (reverse xs))
-cons_back (Some x) xs = reverse-cons x xs
-
-filter_back : {X Y : Type 0} (f : X → Option Y) (xs : List X) → filter_map f (reverse xs) ≡ reverse (filter_map f xs)
-filter_back f [] = refl
-filter_back f (x ∷ xs) =
-    ap (filter_map f) (reverse-cons x xs)
-    ∙ filter_map-append f (reverse xs) (x ∷ [])
-    ∙ ap (λ front. front ++ filter_map f (x ∷ [])) (filter_back f xs)
-    ∙ sym (cons_back (f x) (filter_map f xs))
-
--- what a client kept of its trips are those of the history
-pub trips_same : (world : World) (h : List Event) (actors : List Actor) (client : ℕ) (a : Actor) → AreActors world h actors → slice_get actors client ≡ Some a
-    → trips_of_actor a ≡ reverse (trips_of client h)
-trips_same world h actors client a are at = ap (filter_map trip_of) (are.asks client a at) ∙ filter_back trip_of (asks_of client h)
-
--- its Asks show what it is
-pub asks_show : (world : World) (h : List Event) (actors : List Actor) (client : ℕ) (a : Actor) → Legal world h → AreActors world h actors → slice_get actors client ≡ Some a
-    → IsActor (client_of world client (map own_of a.log.asks)) a
-asks_show world h actors client a legal are at =
-    subst (λ s. IsActor s a)
-    (sym (ap (λ owns. client_of world client (map own_of owns)) (are.asks client a at) ∙ shows_state world client h legal))
-    (are.each client a at)
 
 -- ---- the end
 

@@ -2,16 +2,17 @@
 use Rattle.std.proofs.Common.{◌≡◌, ℕ, suc, ◌+◌, Bool, true, false, cond, eqb, List, [], ◌∷◌, length, map, ◌&&◌, zero, slice_get, slice_set, refl, sym, ap, subst, ◌∙◌, inl, inr}
 use Rattle.std.proofs.lemmas.Bool.Decides.{Decides-eqb}
 use Rattle.inf_base.specs.declared.setup.ClientLine.{ClientLine}
-use Rattle.inf_duty.specs.Client.{Client, has_place}
-use Rattle.inf_core.specs.Legal.{Legal}
+use Rattle.inf_flow_dir.specs.Client.{Client, has_place}
+use Rattle.inf_laws_history.specs.Legal.{Legal}
 use Rattle.inf_duty.specs.After.{client_after}
-use Rattle.inf_duty.specs.Outcome.{Agrees, Outcome, OutcomeFrom}
-use Rattle.inf_duty.specs.Turn.{after_record, recorded, served}
+use Rattle.inf_duty.specs.Outcome.{Agrees, Outcome, OutcomeFrom, may_give_up}
+use Rattle.inf_flow_dir.specs.Heard.{heard}
 use Rattle.inf_duty.specs.World.{World}
-use Rattle.inf_core.proofs.CoreFacts.{got_apart}
+use Rattle.inf_sched.proofs.Indexed.{got_apart}
 use Rattle.inf_message.specs.declared.call_result.CallResult.{CallResult}
 use Rattle.inf_message.specs.declared.event.Event.{Event}
-use Rattle.inf_message.specs.History.{Told, told_reply}
+use Rattle.inf_message.specs.History.{told_reply}
+use Rattle.inf_laws_history.proofs.ClientSteps.{served_apart}
 use Rattle.inf_message.proofs.HistoryLaws.{other}
 use Rattle.inf_order.specs.declared.moves.Move.{Move}
 use Rattle.inf_sched.specs.Order.{ByMoves, ByOrder, came_to, results_from}
@@ -38,6 +39,7 @@ is_legal world order h results by =
 pub record IsLeft (s : Client) : Type 0 where
   pub between : s.sent ≡ []
   pub was_to_ask : is_ask (next_step (planned s)) ≡ true
+  pub free : may_give_up s ≡ true
 
 abbrev pub GoneAreLeft : World → Scene → Type 0
 GoneAreLeft world scene = (client : ℕ) → is_gone scene client ≡ true → IsLeft (client_in world scene client)
@@ -46,14 +48,6 @@ pub starts_present : (lines : List ClientLine) (client : ℕ) → is_set (slice_
 starts_present [] client = refl
 starts_present (line ∷ lines) zero = refl
 starts_present (line ∷ lines) (suc client) = starts_present lines client
-
--- a Serve changes nothing of a client that has sent nothing
-unserved : (place : ℕ) (told : Told) (s : Client) → s.sent ≡ [] → served place told s ≡ s
-unserved place told s none = by (has_place place s.sent) (ap (has_place place) none)
-  where
-    by : (b : Bool) → b ≡ false → cond b (after_record (recorded place told s)) s ≡ s
-    by true e = absurd (cc)
-    by false e = refl
 
 both_true : (a b : Bool) → (a && b) ≡ true → (a ≡ true) × (b ≡ true)
 both_true true b e = (refl, e)
@@ -73,13 +67,16 @@ giving_up_left world client old new gives left = subst (GoneAreLeft world) (sym 
     by : (each : ℕ) → is_set (slice_get (slice_set old.gone client true) each) ≡ true → (b : Bool) → eqb each client ≡ b → IsLeft (client_in world old each)
     by each gone true same =
         subst (λ c. IsLeft (client_in world old c)) (sym ((Decides-eqb each client).0 same))
-        (record { between = gives.between; was_to_ask = (both_true _ _ gives.can).1 })
+        (record { between = gives.between; was_to_ask = (both_true _ _ gives.can).1; free = gives.free })
     by each gone false apart =
         left each (ap is_set (sym (got_apart old.gone client each true (λ same. let is : eqb each client ≡ true = (Decides-eqb each client).1 same in cc))) ∙ gone)
 
 serving_left : (world : World) (number place : ℕ) (old new : Scene) → MakesServe world number place old new → GoneAreLeft world old → GoneAreLeft world new
 serving_left world number place old new serves left = subst (GoneAreLeft world) (sym serves.joins) (λ each gone.
-    subst IsLeft (sym (unserved place (told_reply (suc (length old.history)) serves.given) (client_in world old each) (left each gone).between)) (left each gone))
+    subst IsLeft
+    (sym (served_apart place (told_reply (suc (length old.history)) (heard serves.given)) (client_in world old each)
+    (ap (has_place place) (left each gone).between)))
+    (left each gone))
 
 pub gone_left : (world : World) (order : List Move) (scene : Scene) → ByMoves world order (opening world) scene → GoneAreLeft world scene
 gone_left world order scene moves =

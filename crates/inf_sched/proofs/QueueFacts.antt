@@ -5,7 +5,7 @@ use Rattle.std.proofs.lemmas.List.Elements.{All-head, All-tail}
 use Rattle.inf_message.specs.declared.event.Event.{Event}
 use Rattle.inf_message.specs.History.{is_served}
 use Rattle.inf_sched.specs.Waiting.{IsFrontLeft, IsWithin, Posting, first_of, is_open, is_to}
-use Rattle.inf_duty.proofs.Placed.{counted_same, same_counted}
+use Rattle.inf_sched.proofs.Indexed.{counted_same, same_counted}
 
 pub front_starts : (h : List Event) (queue : List Posting) → All (IsWithin h) queue → IsFrontLeft h queue queue
 front_starts h queue within = record { finds = λ also. refl; within = within }

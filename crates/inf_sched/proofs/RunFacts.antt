@@ -8,16 +8,16 @@ use Rattle.std.proofs.lemmas.List.Elements.{All-head, All-nil, All-push, All-tai
 use Rattle.std.proofs.lemmas.List.Folds.{find-append}
 use Rattle.std.proofs.lemmas.Option.{slice_get-get_or, slice_get-map, slice_get_within}
 use Rattle.inf_base.specs.declared.id.Id.{Id}
-use Rattle.inf_duty.specs.Client.{Client}
+use Rattle.inf_flow_dir.specs.Client.{Client}
 use Rattle.inf_core.specs.Core.{world_in}
-use Rattle.inf_duty.specs.Duty.{asked, next_step}
-use Rattle.inf_core.specs.Legal.{Legal}
-use Rattle.inf_duty.specs.After.{client_after}
-use Rattle.inf_duty.specs.World.{World}
-use Rattle.inf_core.proofs.CoreFacts.{got_apart, got_set}
-use Rattle.inf_core.proofs.Driven.{others_stay}
-use Rattle.inf_duty.proofs.Placed.{counted_same, same_counted}
 use Rattle.inf_core.proofs.Posted.{posted_known}
+use Rattle.inf_duty.specs.Duty.{asked, next_step}
+use Rattle.inf_laws_history.specs.Legal.{Legal}
+use Rattle.inf_duty.specs.After.{client_after}
+use Rattle.inf_duty.specs.Outcome.{may_give_up}
+use Rattle.inf_duty.specs.World.{World}
+use Rattle.inf_sched.proofs.Indexed.{counted_same, got_apart, got_set, same_counted}
+use Rattle.inf_laws_history.proofs.DrivenFacts.{others_stay}
 use Rattle.inf_message.specs.declared.ask.Ask.{Ask}
 use Rattle.inf_message.specs.declared.event.Event.{Event}
 use Rattle.inf_message.specs.declared.event.Event.TheVariants as event
@@ -25,7 +25,7 @@ use Rattle.inf_message.specs.declared.reply.Reply.{Reply}
 use Rattle.inf_message.specs.History.{Own, Posted, asked_at, asks_of, is_served, made_ask, own_ask, posted_ask, served_at, told_reply}
 use Rattle.inf_message.proofs.ClientLaws.{asks_apart, serve_apart}
 use Rattle.inf_message.proofs.HistoryLaws.{asked_newest, asked_stays, asked_within}
-use Rattle.inf_sched.specs.Actor.{Actor, wants_to_ask}
+use Rattle.inf_client.specs.Actor.{Actor, wants_to_ask}
 use Rattle.inf_sched.specs.Moves.{HasNoAsk}
 use Rattle.inf_sched.specs.Scene.{Asks, MakesServe, Scene, can_ask, is_ask, is_gone, is_set, planned}
 use Rattle.inf_sched.specs.Run.{AreActors, AreQueues, Asked, HasGivenUp, HasRested, HasServed, IsActor, IsKept, IsStateOf, Playing, asks_shown, gone_of, scene_of}
@@ -209,6 +209,7 @@ asked_actors world h after client p actors a b are at did = record {
       (λ k x unlike at_k.
       are.asks k x at_k
       ∙ sym (ap (asks_shown k) did.joins ∙ ap reverse (asks_apart k did.number did.ask h (λ same. unlike (sym same ∙ did.own)))));
+  idle = set_each (λ k x. x.handed ≡ false) actors client b (slice_get_within actors client a at) did.idle (λ k x unlike at_k. are.idle k x at_k);
 }
 
 gave_up_actors : (world : World) (h after : List Event) (client : ℕ) (actors : List Actor) (a b : Actor)
@@ -220,6 +221,7 @@ gave_up_actors world h after client actors a b are at did = record {
   asks = set_each (λ k x. x.log.asks ≡ asks_shown k h) actors client b (slice_get_within actors client a at)
       (did.asks ∙ are.asks client a at)
       (λ k x unlike at_k. are.asks k x at_k);
+  idle = set_each (λ k x. x.handed ≡ false) actors client b (slice_get_within actors client a at) did.idle (λ k x unlike at_k. are.idle k x at_k);
 }
 
 served_actors : (world : World) (h after : List Event) (p : Posting) (actors : List Actor) (a b : Actor) → Legal world h → IsWaiting h p
@@ -230,7 +232,7 @@ served_actors world h after p actors a b legal waits are at did = record {
       (λ k x unlike at_k.
       subst (λ s. IsActor s x)
       (sym (ap (client_after world k) did.joins
-      ∙ others_stay world h legal k p.number p.place did.given (posted_ask p.number waits.ask) waits.asked (λ same. unlike (sym same ∙ waits.own))))
+      ∙ others_stay world h k p.number p.place did.given (posted_ask p.number waits.ask) waits.asked (λ same. unlike (sym same ∙ waits.own))))
       (are.each k x at_k));
   asks = set_each (λ k x. x.log.asks ≡ asks_shown k after) actors p.client b (slice_get_within actors p.client a at)
       (did.asks ∙ ap (map (served_at p.place (told_reply (suc (length h)) did.given))) (are.asks p.client a at)
@@ -240,6 +242,8 @@ served_actors world h after p actors a b legal waits are at did = record {
       are.asks k x at_k
       ∙ sym (ap (asks_shown k) did.joins
       ∙ ap reverse (serve_apart k p.number p.place did.given (posted_ask p.number waits.ask) h waits.asked (λ same. unlike (sym same ∙ waits.own)))));
+  idle = set_each (λ k x. x.handed ≡ false) actors p.client b (slice_get_within actors p.client a at) (did.same_handed ∙ are.idle p.client a at)
+      (λ k x unlike at_k. are.idle k x at_k);
 }
 
 -- ---- the run
@@ -443,6 +447,7 @@ pub gives_up : (world : World) (h after : List Event) (client : ℕ) (actors : L
 gives_up world h after client actors a b at is did = inr (record {
   can = wants_same world h actors client a at is ∙ did.asking;
   between = ap (λ (s : Client). s.sent) (sym (state_here (client_after world client h) a is did.here)) ∙ did.between;
+  free = ap may_give_up (sym (state_here (client_after world client h) a is did.here)) ∙ did.free;
   gone = ap₂ (λ g gs. record { history = g; gone = gs }) did.same
       (map-set (λ (x : Actor). x.gone) actors client b ∙ ap (λ g. slice_set (gone_of actors) client g) did.gone);
 })

@@ -1,11 +1,9 @@
 -- The run in which nothing wants memory is one that the order makes.
 use Rattle.std.proofs.Common.{◌≡◌, ℕ, zero, suc, ◌+◌, ◌<◌, Bool, true, false, List, [], ◌∷◌, length, slice_get, Option, Some, None, refl, subst, arith, inl, inr}
 use Rattle.std.proofs.lemmas.List.{length-map}
-use Rattle.inf_base.specs.declared.call.Call.{Call}
-use Rattle.inf_base.specs.declared.answer.Answer.TheVariants as answer
 use Rattle.inf_base.specs.declared.setup.ClientLine.{ClientLine}
-use Rattle.inf_duty.specs.Client.{Client, ended, starting}
-use Rattle.inf_duty.specs.Outcome.{unanswered}
+use Rattle.inf_flow_dir.specs.Client.{Client}
+use Rattle.inf_duty.specs.Start.{starting}
 use Rattle.inf_duty.specs.World.{World}
 use Rattle.inf_order.specs.declared.moves.Move.{Move}
 use Rattle.inf_order.specs.declared.moves.Move.TheVariants as move
@@ -17,6 +15,7 @@ use Rattle.inf_sched.specs.Straight.{alone, ask_on, call, calls, made, only_if, 
 use Rattle.inf_sched.specs.Waiting.{Posting, is_by, is_for, oldest}
 use Rattle.inf_sched.specs.declared.limits.TheConstants.{MOST_EVENTS}
 use Rattle.inf_sched.proofs.BuiltFacts.{HasNotGivenUp, none_joined}
+use Rattle.inf_sched.proofs.CalmFacts.{ShowsNoWant, to_results}
 use Rattle.inf_sched.proofs.OrderLaws.{starts_present}
 use Rattle.inf_sched.proofs.RunSteps.{Comes, ask_comes, serve_comes}
 use Rattle.inf_sched.proofs.StraightSteps.{IsCalm}
@@ -126,9 +125,9 @@ moves_come world (next ∷ moves) old calm =
 
 -- ---- the opening scene, and the results in the end
 
-starting_none : (world : World) (client : ℕ) (line : Option ClientLine) → HasNotGivenUp (starting world client line).results
-starting_none world client None = refl
-starting_none world client (Some line) = refl
+starting_none : (world : World) (client : ℕ) (line : Option ClientLine) → ShowsNoWant (starting world client line)
+starting_none world client None = record { results = refl; stage = tt }
+starting_none world client (Some line) = record { results = refl; stage = tt }
 
 opening_calm : (world : World) → IsCalm world (opening world)
 opening_calm world = record {
@@ -138,13 +137,9 @@ opening_calm world = record {
   answers = λ client within. starting_none world client (slice_get world.setup.clients client);
 }
 
-unanswered_none : (left : List Call) (s : Client) → HasNotGivenUp (unanswered left s)
-unanswered_none [] s = refl
-unanswered_none (next ∷ left) s = unanswered_none left (ended answer.Unanswered None s)
-
-came_to_none : (gone : Bool) (s : Client) → gone ≡ false → HasNotGivenUp s.results → HasNotGivenUp (came_to gone s)
+came_to_none : (gone : Bool) (s : Client) → gone ≡ false → ShowsNoWant s → HasNotGivenUp (came_to gone s)
 came_to_none true s here none = absurd (cc)
-came_to_none false s here none = none_joined s.results (unanswered s.left s) none (unanswered_none s.left s)
+came_to_none false s here none = to_results s none
 
 one_on : (first k : ℕ) → first + suc k ≡ first + 1 + k
 one_on first k = omega arith

@@ -7,7 +7,7 @@ use Rattle.inf_birth.specs.Digest.{sha_id}
 use Rattle.inf_birth.specs.declared.rule.ShaRule.{ShaRule}
 use Rattle.inf_core.specs.Core.{IsSameRun, Running, world_in}
 use Rattle.inf_duty.specs.World.{world_by, World, world_of}
-use Rattle.inf_core.specs.Legal.{Legal}
+use Rattle.inf_laws_history.specs.Legal.{Legal}
 use Rattle.inf_message.specs.declared.call_result.CallResult.{CallResult}
 use Rattle.inf_message.specs.declared.event.Event.{Event}
 use Rattle.inf_order.specs.declared.moves.Move.{Move}

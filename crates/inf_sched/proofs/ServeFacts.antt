@@ -1,37 +1,40 @@
 -- What comes of serving an Ask.
-use Rattle.std.proofs.Common.{◌≡◌, ℕ, suc, Bool, true, false, cond, List, [], ◌∷◌, length, Option, Some, IsSome, is_some, refl, sym, ap, subst, ◌∙◌}
+use Rattle.std.proofs.Common.{◌≡◌, ℕ, suc, Bool, true, false, List, [], ◌∷◌, length, Option, Some, IsSome, refl, sym, ap, subst, ◌∙◌}
 use Rattle.inf_base.specs.declared.call.Call.{Call}
-use Rattle.inf_duty.specs.Client.{Client, has_place}
+use Rattle.inf_flow_dir.specs.Client.{Client, has_place}
 use Rattle.inf_duty.specs.Duty.{given_up}
-use Rattle.inf_duty.specs.Group.{op_of}
-use Rattle.inf_duty.specs.Outcome.{all_given_up}
+use Rattle.inf_flow_dir.specs.Heard.{heard}
+use Rattle.inf_duty.specs.Outcome.{all_given_up, may_give_up}
 use Rattle.inf_base.specs.declared.id.Id.{Id}
 use Rattle.inf_core.specs.Core.{IsSameRun, IsServedNext, Running, world_in}
-use Rattle.inf_core.specs.Legal.{Legal, MayServe}
+use Rattle.inf_laws_history.specs.Legal.{Legal, MayServe}
 use Rattle.inf_duty.specs.After.{client_after}
-use Rattle.inf_duty.specs.Turn.{after_record, recorded, served}
+use Rattle.inf_flow_dir.specs.Turn.{served}
 use Rattle.inf_duty.specs.World.{World}
-use Rattle.inf_core.proofs.Driven.{idle_stays}
+use Rattle.inf_laws_history.proofs.ClientSteps.{Lasts, given_up_lasts, if_both, served_apart}
+use Rattle.inf_laws_history.proofs.DrivenFacts.{idle_stays}
 use Rattle.inf_message.specs.declared.event.Event.{Event}
 use Rattle.inf_message.specs.declared.event.Event.TheVariants as event
 use Rattle.inf_message.specs.declared.reply.Reply.{Reply}
-use Rattle.inf_message.specs.History.{Posted, Told, asked_at, posted_ask, told_reply}
-use Rattle.inf_sched.specs.Actor.{Actor, actor}
-use Rattle.inf_sched.specs.AskLog.{told_log}
+use Rattle.inf_message.specs.History.{Posted, asked_at, posted_ask, told_reply}
+use Rattle.inf_client.specs.Actor.{Actor, actor}
+use Rattle.inf_trips.specs.AskLog.{told_log}
 use Rattle.inf_sched.specs.Run.{HasServed, IsActor, IsGivenUp, IsStateOf}
 use Rattle.inf_sched.specs.Waiting.{IsWaiting, Posting}
 
-served_nothing : (place : ℕ) (told : Told) (s : Client) → s.sent ≡ [] → served place told s ≡ s
-served_nothing place told s between = ap (λ b. cond b (after_record (recorded place told s)) s) (ap (has_place place) between)
-
-given_up_between : (b : Bool) (now later : Client) → now.sent ≡ [] → later.sent ≡ [] → (cond b later now).sent ≡ []
-given_up_between true now later between more = more
-given_up_between false now later between more = between
+between_lasts : Lasts (λ s. s.sent ≡ [])
+between_lasts = record {
+  composing = λ s between. between;
+  ending = λ given place s between. refl;
+  again = λ s between. refl;
+  going_on = λ next s between. refl;
+}
 
 all_between : (left : List Call) (s : Client) → s.sent ≡ [] → (all_given_up left s).sent ≡ []
 all_between [] s between = between
 all_between (next ∷ left) s between =
-    given_up_between (is_some (op_of next)) s (all_given_up left (given_up s)) between (all_between left (given_up s) refl)
+    if_both (λ (t : Client). t.sent ≡ []) (may_give_up s) (all_given_up left (given_up s)) s
+    (all_between left (given_up s) (given_up_lasts (λ t. t.sent ≡ []) between_lasts s between)) between
 
 some_there : {A : Type 0} (o : Option A) (x : A) → o ≡ Some x → IsSome o
 some_there o x same = subst (λ p. IsSome p) (sym same) refl
@@ -49,35 +52,36 @@ to_server world h p number given waits may =
 -- a client that gave up what it had left is told of nothing that it waits for
 served_state : (world : World) (h : List Event) (client number place : ℕ) (given : Reply) (g : Bool) (state : Client)
     → IsStateOf g (client_after world client h) state
-    → IsStateOf g (client_after world client (event.Serve number place given ∷ h)) (served place (told_reply (suc (length h)) given) state)
-served_state world h client number place given false state is = ap (served place (told_reply (suc (length h)) given)) is
+    → IsStateOf g (client_after world client (event.Serve number place given ∷ h)) (served place (told_reply (suc (length h)) (heard given)) state)
+served_state world h client number place given false state is = ap (served place (told_reply (suc (length h)) (heard given))) is
 served_state world h client number place given true state is =
     let s : Client = client_after world client h in
     let stays : client_after world client (event.Serve number place given ∷ h) ≡ s = idle_stays world h client number place given is.between in
     let state_between : state.sent ≡ [] = ap (λ (t : Client). t.sent) is.all ∙ all_between s.left s is.between in
-    subst (λ t. IsGivenUp t (served place (told_reply (suc (length h)) given) state)) (sym stays)
+    subst (λ t. IsGivenUp t (served place (told_reply (suc (length h)) (heard given)) state)) (sym stays)
     (record { between = is.between; all = untold state state_between ∙ is.all })
   where
-    untold : (t : Client) → t.sent ≡ [] → served place (told_reply (suc (length h)) given) t ≡ t
-    untold t between = served_nothing place (told_reply (suc (length h)) given) t between
+    untold : (t : Client) → t.sent ≡ [] → served place (told_reply (suc (length h)) (heard given)) t ≡ t
+    untold t between = served_apart place (told_reply (suc (length h)) (heard given)) t (ap (has_place place) between)
 
 pub has_served : (world : World) (p : Posting) (h after : List Event) (place : ℕ) (given : Reply) (a b : Actor) → IsWaiting h p
     → IsActor (client_after world p.client h) a → place ≡ suc (length h) → IsServedNext world h after p.place given → Legal world after
-    → b ≡ actor (served p.place (told_reply place given) a.state) a.gone (told_log p.place (told_reply place given) a.log)
+    → b ≡ actor (served p.place (told_reply place (heard given)) a.state) a.gone (told_log p.place (told_reply place given) a.log) a.handed
     → HasServed world p h after a b
 has_served world p h after place given a b waits is newest next legal telling =
     let number : next.number ≡ p.number = to_server world h p next.number given waits next.may in
     let joins : after ≡ event.Serve p.number p.place given ∷ h = next.joins ∙ ap (λ n. event.Serve n p.place given ∷ h) number in
-    let told : b ≡ actor (served p.place (told_reply (suc (length h)) given) a.state) a.gone (told_log p.place (told_reply (suc (length h)) given) a.log) =
-    telling ∙ ap (λ n. actor (served p.place (told_reply n given) a.state) a.gone (told_log p.place (told_reply n given) a.log)) newest in
+    let told : b ≡ actor (served p.place (told_reply (suc (length h)) (heard given)) a.state) a.gone (told_log p.place (told_reply (suc (length h)) given) a.log) a.handed =
+    telling ∙ ap (λ n. actor (served p.place (told_reply n (heard given)) a.state) a.gone (told_log p.place (told_reply n given) a.log) a.handed) newest in
     record {
       given = given;
       may = subst (λ n. MayServe world h n p.place given) number next.may;
       joins = joins;
       same_gone = ap (λ (x : Actor). x.gone) told;
+      same_handed = ap (λ (x : Actor). x.handed) told;
       asks = ap (λ (x : Actor). x.log.asks) told;
       actor = subst (λ x. IsActor (client_after world p.client after) x) (sym told)
-          (subst (λ g. IsStateOf a.gone (client_after world p.client g) (served p.place (told_reply (suc (length h)) given) a.state)) (sym joins)
+          (subst (λ g. IsStateOf a.gone (client_after world p.client g) (served p.place (told_reply (suc (length h)) (heard given)) a.state)) (sym joins)
           (served_state world h p.client p.number p.place given a.gone a.state is));
       legal = legal;
     }

@@ -1,25 +1,29 @@
 -- What comes of letting a client ask, by what its step told.
-use Rattle.std.proofs.Common.{◌≡◌, ℕ, suc, ◌+◌, ◌≤◌, ◌<◌, ◌^◌, Bool, true, false, cond, not, ◌&&◌, List, [], ◌∷◌, ◌++◌, length, slice_get, None, is_some, refl, sym, ap, subst, ◌∙◌, arith, inl, inr}
-use Rattle.inf_duty.specs.Client.{Client, Sent, placed}
+use Rattle.std.proofs.Common.{◌≡◌, ℕ, suc, ◌+◌, ◌≤◌, ◌<◌, ◌^◌, Bool, true, false, cond, not, ◌&&◌, List, [], ◌∷◌, ◌++◌, length, reverse, slice_get, None, Some, All, refl, sym, ap, subst, ◌∙◌, arith, inl, inr}
+use Rattle.std.proofs.lemmas.List.Elements.{All-head, All-nil, All-push, All-tail, All-weaker}
+use mathlib.Core.List.{reverse-cons}
+use Rattle.inf_flow_dir.specs.Client.{Client, placed}
 use Rattle.inf_duty.specs.Outcome.{all_given_up}
 use Rattle.inf_sched.specs.Scene.{planned}
 use Rattle.inf_duty.specs.ClientStep.{is_ask}
 use Rattle.inf_duty.specs.Duty.{Duty, asked, begun, next_step}
-use Rattle.inf_core.specs.Legal.{Legal, MayAsk}
+use Rattle.inf_laws_history.specs.Legal.{Legal, MayAsk}
+use Rattle.inf_laws_history.proofs.DrivenFacts.{messages_within}
+use Rattle.inf_laws_history.proofs.StepFacts.{client_is}
 use Rattle.inf_duty.specs.After.{client_after}
 use Rattle.inf_duty.specs.World.{World}
 use Rattle.inf_duty.specs.declared.client_step.ClientStep.TheVariants as step
-use Rattle.inf_duty.proofs.BegunFacts.{at_call_messages}
-use Rattle.inf_core.proofs.Driven.{messages_within}
-use Rattle.inf_duty.proofs.Placed.{reads, same_counted}
-use Rattle.inf_duty.proofs.ResultFacts.{client_of}
 use Rattle.inf_message.specs.declared.ask.Ask.{Ask}
 use Rattle.inf_message.specs.declared.event.Event.{Event}
 use Rattle.inf_message.specs.declared.event.Event.TheVariants as event
-use Rattle.inf_message.specs.History.{made_ask, own_ask}
-use Rattle.inf_sched.specs.Actor.{Actor, AsksNext, Rests, Steps, actor, wants_to_ask}
-use Rattle.inf_sched.specs.AskLog.{asked_log, asks_with}
-use Rattle.inf_sched.specs.Run.{Asked, Did, IsActor, IsGivenUp, IsStateOf, rested}
+use Rattle.inf_message.specs.History.{Own, Posted, asks_of, made_ask, own_ask, posted_ask}
+use Rattle.inf_message.specs.Shown.{IsOwn}
+use Rattle.inf_message.proofs.ClientLaws.{asks_are_own}
+use Rattle.inf_message.proofs.HistoryLaws.{asked_within}
+use Rattle.inf_client.specs.Actor.{Actor, AsksNext, Rests, Steps, actor, wants_to_ask}
+use Rattle.inf_trips.specs.AskLog.{AskLog, IsLater, asked_first, asked_log}
+use Rattle.inf_sched.proofs.Indexed.{same_counted}
+use Rattle.inf_sched.specs.Run.{Asked, Did, IsActor, IsGivenUp, IsStateOf, asks_shown, rested}
 use Rattle.inf_sched.specs.Waiting.{posting}
 
 -- ---- a client that asks
@@ -31,13 +35,9 @@ here_state s a is here = by a.gone here is
     by true no_more same = absurd (cc)
     by false no_more same = same
 
-pub client_number : (world : World) (client : ℕ) (h : List Event) → (client_after world client h).who.client ≡ client
-client_number world client h =
-    ap (λ w. w.client) (reads world client h).who ∙ client_of world client (slice_get world.setup.clients client)
-
 own_client : (world : World) (client : ℕ) (h : List Event) (a : Actor) (ask : Ask) → a.state ≡ client_after world client h
     → ask.from.client ≡ a.state.who.client → ask.from.client ≡ client
-own_client world client h a ask same own = own ∙ ap (λ (s : Client). s.who.client) same ∙ client_number world client h
+own_client world client h a ask same own = own ∙ ap (λ (s : Client). s.who.client) same ∙ client_is world h client
 
 -- the ask that a step tells may be made
 pub may_ask : (world : World) (client number : ℕ) (h : List Event) (ask : Ask) (a b : Actor) → client < length world.setup.clients
@@ -51,53 +51,76 @@ may_ask world client number h ask a b there is next =
           (subst (λ (s : Client). Duty s number ask) same next.duty);
     }
 
-pub ready_here : (number : ℕ) (ask : Ask) (a b : Actor) → AsksNext number ask a b → b.gone ≡ false
-ready_here number ask a b next = ap (λ (x : Actor). x.gone) next.ready
+-- ---- its Asks so far stand at earlier places
 
-pub ready_kept : (number : ℕ) (ask : Ask) (a b : Actor) → AsksNext number ask a b → is_some b.log.ready ≡ true
-ready_kept number ask a b next = ap (λ (x : Actor). is_some x.log.ready) next.ready
+all_back : {X : Type 0} (P : X → Type 0) (xs : List X) → All P xs → All P (reverse xs)
+all_back P [] all = All-nil P
+all_back P (x ∷ xs) all =
+    subst (All P) (sym (reverse-cons x xs)) (All-push P (reverse xs) x (all_back P xs (All-tail P x xs all)) (All-head P x xs all))
 
-begun_messages : (ask : Ask) (s : Client) → (begun ask s.sent s).counts.messages ≤ s.counts.messages
-begun_messages ask s = by s.sent
+asks_within : (client : ℕ) (h : List Event) → All (λ (own : Own). own.made.ask_place < suc (length h)) (asks_of client h)
+asks_within client h =
+    All-weaker (IsOwn client h) (λ (own : Own). own.made.ask_place < suc (length h))
+    (λ own is. let place = asked_within own.made.ask_place _ h is.made.asked in omega (arith, place.within))
+    (asks_of client h) (asks_are_own client h)
+
+pub ready_later : (client number place : ℕ) (h : List Event) (ask : Ask) (a b : Actor) → a.log.asks ≡ asks_shown client h → AsksNext number ask a b
+    → place ≡ suc (length h) → IsLater place b.log.asks
+ready_later client number place h ask a b shown next newest =
+    subst (λ p. IsLater p b.log.asks) (sym newest)
+    (subst (IsLater (suc (length h))) (sym (next.asks ∙ shown))
+    (all_back (λ (own : Own). own.made.ask_place < suc (length h)) (asks_of client h) (asks_within client h)))
+
+-- ---- what it is then
+
+module _ (world : World) (client number : ℕ) (h : List Event) (ask : Ask) (a b : Actor) (is : IsActor (client_after world client h) a) (next : AsksNext number ask a b) where
+  begins : b.state ≡ begun ask (client_after world client h).sent (client_after world client h)
+  begins = next.state ∙ ap (λ (t : Client). begun ask t.sent t) (here_state (client_after world client h) a is next.here)
+
+  follows : client_after world client (event.Ask number ask ∷ h) ≡ placed (suc (length h)) b.state
+  follows =
+      let s : Client = client_after world client h in
+      let own : ask.from.client ≡ client = own_client world client h a ask (here_state s a is next.here) next.own in
+      ap (λ t. cond t (asked (suc (length h)) ask s) s) (same_counted ask.from.client client own) ∙ ap (placed (suc (length h))) (sym begins)
+
+  pub ready_room : (place : ℕ) → place ≡ suc (length h) → place < 2 ^ 64 → b.state.counts.messages + 1 < 2 ^ 64
+  ready_room place newest fits =
+      let few : (client_after world client (event.Ask number ask ∷ h)).counts.messages ≤ suc (length h) = messages_within world (event.Ask number ask ∷ h) client in
+      let count : (client_after world client (event.Ask number ask ∷ h)).counts.messages ≡ b.state.counts.messages + 1 = ap (λ (t : Client). t.counts.messages) follows in
+      omega (arith, few, count, newest, fits)
+
+first_asked : (place : ℕ) (posted : Posted) (log : AskLog) → slice_get log.ready 0 ≡ Some posted
+    → (asked_log place log).asks ≡ log.asks ++ own_ask (made_ask posted.number posted.ask place) None ∷ []
+first_asked place posted log first = by log.ready first
   where
-    by : (sent : List Sent) → (begun ask sent s).counts.messages ≤ s.counts.messages
-    by [] = at_call_messages ask.from.number s.left s
-    by (x ∷ sent) = omega arith
-
-pub ready_room : (world : World) (client number place : ℕ) (h : List Event) (ask : Ask) (a b : Actor) → Legal world h
-    → IsActor (client_after world client h) a → AsksNext number ask a b → place ≡ suc (length h) → place < 2 ^ 64
-    → b.state.counts.messages + 1 < 2 ^ 64
-ready_room world client number place h ask a b legal is next newest fits =
-    let same : a.state ≡ client_after world client h = here_state (client_after world client h) a is next.here in
-    let few : a.state.counts.messages ≤ length h = subst (λ (s : Client). s.counts.messages ≤ length h) (sym same) (messages_within world h legal client) in
-    let fewer : (begun ask a.state.sent a.state).counts.messages ≤ a.state.counts.messages = begun_messages ask a.state in
-    let count : b.state.counts.messages ≡ (begun ask a.state.sent a.state).counts.messages = ap (λ (x : Actor). x.state.counts.messages) next.ready in
-    omega arith
+    by : (ready : List Posted) → slice_get ready 0 ≡ Some posted
+        → (asked_first place log ready).asks ≡ log.asks ++ own_ask (made_ask posted.number posted.ask place) None ∷ []
+    by [] none = absurd (cc)
+    by (p ∷ ready) same =
+        let is : p ≡ posted = cc in
+        ap (λ (q : Posted). log.asks ++ own_ask (made_ask q.number q.ask place) None ∷ []) is
 
 pub asked_did : (world : World) (client number place : ℕ) (h after : List Event) (ask : Ask) (a b c : Actor) → client < length world.setup.clients → Legal world after
     → IsActor (client_after world client h) a → AsksNext number ask a b → place ≡ suc (length h)
-    → after ≡ event.Ask number ask ∷ h → c ≡ actor (placed place b.state) false (asked_log place b.log)
+    → after ≡ event.Ask number ask ∷ h → c ≡ actor (placed place b.state) false (asked_log place b.log) false
     → Asked world client (posting place number client) h after a c
 asked_did world client number place h after ask a b c there legal is next newest joins placing =
-    let s : Client = client_after world client h in
-    let same : a.state ≡ s = here_state s a is next.here in
-    let own : ask.from.client ≡ client = own_client world client h a ask same next.own in
-    let begins : b.state ≡ begun ask s.sent s = ap (λ (x : Actor). x.state) next.ready ∙ ap (λ (t : Client). begun ask t.sent t) same in
-    let state : placed place b.state ≡ asked (suc (length h)) ask s = ap (λ (t : Client). placed place t) begins ∙ ap (λ p. placed p (begun ask s.sent s)) newest in
-    let follows : client_after world client after ≡ asked (suc (length h)) ask s =
-    ap (client_after world client) joins ∙ ap (λ t. cond t (asked (suc (length h)) ask s) s) (same_counted ask.from.client client own) in
-    let is_after : placed place b.state ≡ client_after world client after = state ∙ sym follows in
+    let same : a.state ≡ client_after world client h = here_state (client_after world client h) a is next.here in
+    let is_after : placed place b.state ≡ client_after world client after =
+    ap (λ p. placed p b.state) newest ∙ sym (ap (client_after world client) joins ∙ follows world client number h ask a b is next) in
     record {
       number = number;
       ask = ask;
       here = next.here;
-      own = own;
+      own = own_client world client h a ask same next.own;
       may = may_ask world client number h ask a b there is next;
       joins = joins;
       posted = ap (λ p. posting p number client) newest;
       still_here = ap (λ (x : Actor). x.gone) placing;
-      asks = ap (λ (x : Actor). x.log.asks) placing ∙ ap (λ (x : Actor). asks_with place x.log.ready x.log.asks) next.ready
+      asks = ap (λ (x : Actor). x.log.asks) placing ∙ first_asked place (posted_ask number ask) b.log next.first
+          ∙ ap (λ owns. owns ++ own_ask (made_ask number ask place) None ∷ []) next.asks
           ∙ ap (λ p. a.log.asks ++ own_ask (made_ask number ask p) None ∷ []) newest;
+      idle = ap (λ (x : Actor). x.handed) placing;
       actor = subst (λ x. IsActor (client_after world client after) x) (sym placing) is_after;
       legal = legal;
     }
@@ -124,21 +147,22 @@ rested_did world client h a b is (inr giving) =
     let s : Client = client_after world client h in
     let here : a.gone ≡ false = gave_up_here a giving.asking in
     let same : a.state ≡ s = here_state s a is here in
-    let gone : b.gone ≡ true = ap (λ (x : Actor). x.gone) giving.all in
     let given : IsGivenUp s b.state = record {
       between = ap (λ (t : Client). t.sent) (sym same) ∙ giving.between;
-      all = ap (λ (x : Actor). x.state) giving.all ∙ ap (λ (t : Client). all_given_up t.left t) same;
+      all = giving.state ∙ ap (λ (t : Client). all_given_up t.left t) same;
     } in
     subst (λ g. Did world client (rested g b.gone) h h a b) (sym here)
-    (subst (λ g. Did world client (rested false g) h h a b) (sym gone)
+    (subst (λ g. Did world client (rested false g) h h a b) (sym giving.gone)
     (record {
       here = here;
       asking = giving.asking;
       between = giving.between;
+      free = giving.free;
       same = refl;
-      gone = gone;
-      asks = ap (λ (x : Actor). x.log.asks) giving.all;
-      actor = subst (λ g. IsStateOf g s b.state) (sym gone) given;
+      gone = giving.gone;
+      asks = giving.asks;
+      idle = giving.handed;
+      actor = subst (λ g. IsStateOf g s b.state) (sym giving.gone) given;
     }))
 
 pub waiting_rests : (a b : Actor) → Steps a step.Waiting b → Rests a b

@@ -3,7 +3,7 @@ use Rattle.std.proofs.Common.{◌≡◌, ℕ, zero, suc, ◌+◌, ◌<◌, Bool,
 use Rattle.std.specs.List.{list_any}
 use Rattle.std.proofs.lemmas.List.{length-map, length-set}
 use Rattle.inf_base.specs.declared.setup.ClientLine.{ClientLine}
-use Rattle.inf_duty.specs.Client.{Client}
+use Rattle.inf_flow_dir.specs.Client.{Client}
 use Rattle.inf_duty.specs.World.{World}
 use Rattle.inf_message.specs.declared.call_result.CallResult.{CallResult}
 use Rattle.inf_message.specs.declared.event.Event.{Event}
@@ -13,6 +13,7 @@ use Rattle.inf_sched.specs.Order.{ByMoves, came_to, results_from, results_in}
 use Rattle.inf_sched.specs.Scene.{Scene, client_in, is_gone, opening}
 use Rattle.inf_sched.specs.Straight.{straight}
 use Rattle.inf_sched.proofs.BuiltFacts.{HasNotGivenUp, IsBuiltFor, built, gone_gave_up, none_before, none_behind}
+use Rattle.inf_sched.proofs.CalmFacts.{ShowsNoWant, from_results}
 use Rattle.inf_sched.proofs.Kept.{IsKept, moves_keep}
 use Rattle.inf_sched.proofs.OrderLaws.{IsLeft, gone_left}
 use Rattle.inf_sched.proofs.StraightMoves.{moves_lead}
@@ -34,11 +35,11 @@ sized world order scene moves = moves_keep world (IsSized world) (sized_kept wor
 -- a client whose results tell of no want is there, and has given up nothing
 record IsPresent (gone : Bool) (s : Client) : Type 0 where
   here : gone ≡ false
-  answers : HasNotGivenUp s.results
+  answers : ShowsNoWant s
 
 present : (gone : Bool) (s : Client) → (gone ≡ true → IsLeft s) → IsBuiltFor s → HasNotGivenUp (came_to gone s) → IsPresent gone s
-present true s left built none = absurd (let gave = gone_gave_up s built (left refl) in cc)
-present false s left built none = record { here = refl; answers = none_before s.results _ none }
+present true s left built none = absurd (let gave = gone_gave_up s (left refl) in cc)
+present false s left built none = record { here = refl; answers = from_results s built none }
 
 one_on : (first k : ℕ) → first + 1 + k ≡ first + suc k
 one_on first k = omega arith

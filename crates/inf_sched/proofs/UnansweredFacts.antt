@@ -1,35 +1,31 @@
 -- A call is unanswered only where the order ended before it was decided.
-use Rattle.std.proofs.Common.{◌≡◌, ◌≢◌, ℕ, ◌+◌, ◌≤◌, eqb, List, [], ◌∷◌, length, slice_get, Option, None, Some, All, IfSome, is_some, refl, sym, ap, subst, ◌∙◌, ⊎_elim, arith}
-use Rattle.std.proofs.lemmas.List.Elements.{All-append, All-cons, All-push}
+use Rattle.std.proofs.Common.{◌≡◌, ◌≢◌, ℕ, suc, ◌+◌, ◌≤◌, Bool, true, false, cond, eqb, List, [], ◌∷◌, length, slice_get, Option, None, Some, All, refl, sym, ap, subst, ◌∙◌, ⊎_elim, arith}
+use Rattle.std.proofs.lemmas.List.Elements.{All-append, All-cons, All-nil, All-push}
 use Rattle.inf_base.specs.declared.answer.Answer.{Answer}
 use Rattle.inf_base.specs.declared.answer.Answer.TheVariants as answer
 use Rattle.inf_base.specs.declared.call.Call.{Call}
-use Rattle.inf_base.specs.declared.entry.Entry.{Entry}
 use Rattle.inf_base.specs.declared.setup.ClientLine.{ClientLine}
-use Rattle.inf_duty.specs.Client.{Client, Who, ended, rest_of, result_of, starting}
-use Rattle.inf_duty.specs.Duty.{asked, given_up}
-use Rattle.inf_duty.specs.Group.{op_of}
 use Rattle.inf_duty.specs.After.{client_after}
-use Rattle.inf_duty.specs.Outcome.{Agrees, OutcomeFrom, all_given_up, results_of, unanswered}
-use Rattle.inf_duty.specs.Turn.{Turn, act_with, after_lookup, begins_again, ends, first_told, goes_on, next_op, recorded, served, success_of, turn_at, turned, unless_success}
+use Rattle.inf_duty.specs.Duty.{asked, given_up, given_up_in}
+use Rattle.inf_duty.specs.Outcome.{Agrees, OutcomeFrom, all_given_up, may_give_up, results_of, so_far, unanswered}
+use Rattle.inf_duty.specs.Start.{starting}
 use Rattle.inf_duty.specs.World.{World}
-use Rattle.inf_duty.specs.declared.stage.Stage.{Stage}
-use Rattle.inf_duty.specs.declared.stage.Stage.TheVariants as stage
-use Rattle.inf_duty.proofs.Placed.{reads}
-use Rattle.inf_duty.proofs.ResultFacts.{IsKept, all_given_up_keeps, begun_keeps, client_of, if_both}
-use Rattle.inf_core.proofs.ResultFacts.{by_serve}
+use Rattle.inf_flow_dir.specs.Client.{Client, Ending, Stage, act, answers, compose, ended, rest_of, result_of, retries, round, winds, wound}
+use Rattle.inf_flow_dir.specs.Flow.{Who, clean_up}
+use Rattle.inf_flow_dir.specs.Heard.{heard}
+use Rattle.inf_flow_dir.specs.Turn.{Turn, goes_on, recorded, served, turn_at, turned, winds_up}
+use Rattle.inf_laws_history.proofs.ClientSteps.{by_answer, if_both, who_after}
 use Rattle.inf_message.specs.declared.call_result.CallResult.{CallResult}
 use Rattle.inf_message.specs.declared.event.Event.{Event}
 use Rattle.inf_message.specs.declared.event.Event.TheVariants as event
-use Rattle.inf_message.specs.declared.op.Op.{Op}
-use Rattle.inf_message.specs.declared.op.Op.TheVariants as op
-use Rattle.inf_message.specs.declared.reply.Reply.{Reply}
-use Rattle.inf_message.specs.declared.reply.Reply.TheVariants as reply
+use Rattle.inf_message.specs.declared.step.Message.{Message}
 use Rattle.inf_message.specs.History.{Told, told_reply}
 use Rattle.inf_order.specs.declared.moves.Move.{Move}
 use Rattle.inf_sched.specs.Endings.{IsLeftOpen}
 use Rattle.inf_sched.specs.Order.{ByOrder}
+use Rattle.inf_sched.proofs.BuiltFacts.{begun_keeps, may_end}
 use Rattle.inf_sched.proofs.OrderLaws.{is_outcome}
+use Rattle.inf_sched.proofs.TurnFacts.{EndingHas, IsOfReplies, StageHas, TurnHas, composed_has, turn_has}
 
 -- ---- a call that ended is answered
 
@@ -39,78 +35,65 @@ IsAnswer given = given ≢ answer.Unanswered
 abbrev IsAnswered : CallResult → Type 0
 IsAnswered result = IsAnswer result.answer
 
-abbrev AllAnswered : Client → Type 0
-AllAnswered s = All IsAnswered s.results
+-- and one that winds up is, once it has ended
+record AllAnswered (s : Client) : Type 0 where
+  results : All IsAnswered s.results
+  stage : StageHas IsAnswer s.stage
 
--- a call that ends by this turn is answered
-abbrev Answers : Turn → Type 0
-Answers (goes_on next) = Unit {0}
-Answers (ends given place) = IsAnswer given
-Answers begins_again = Unit {0}
-
-acting : (asked : Option Op) (chain : List Entry) → Answers (act_with asked chain)
-acting None chain = tt
-acting (Some asked) chain = tt
-
-looked_up : (asked : Option Op) (place : ℕ) (given : Reply) → Answers (after_lookup asked place given)
-looked_up asked place (reply.Found key access) = acting asked _
-looked_up asked place (reply.Busy by at born) = λ e. absurd (cc)
-looked_up asked place reply.NoMem = λ e. absurd (cc)
-looked_up asked place other_reply = tt
-
-succeeds : (asked : Op) (given : Reply) → IfSome (success_of asked given) IsAnswer
-succeeds (op.Create name mode) reply.Fine = λ e. absurd (cc)
-succeeds (op.Stat name) (reply.Stat kind meta) = λ e. absurd (cc)
-succeeds other_op other_reply = tt
-
-unless : (given : Option Answer) (place : ℕ) (told : Reply) → IfSome given IsAnswer → Answers (unless_success given place told)
-unless (Some given) place told is = is
-unless None place (reply.Refused error) is = λ e. absurd (cc)
-unless None place (reply.Busy by at born) is = λ e. absurd (cc)
-unless None place reply.NoMem is = λ e. absurd (cc)
-unless None place other_reply is = tt
-
-turn_answers : (left : List Call) (next : Stage) (told : Option Told) → Answers (turn_at left next told)
-turn_answers left (stage.Round keys) (Some told) = looked_up (next_op left) told.serve_place told.reply
-turn_answers left (stage.Act chain asked) (Some told) = unless (success_of asked told.reply) told.serve_place told.reply (succeeds asked told.reply)
-turn_answers left other_stage other_told = tt
-
-ended_answered : (given : Answer) (place : Option ℕ) (s : Client) → IsAnswer given → AllAnswered s → AllAnswered (ended given place s)
-ended_answered given place s is before = All-push IsAnswered s.results (result_of given place s.counts.last s) before is
-
-answered_kept : IsKept AllAnswered
-answered_kept = record {
-  composing = λ s before. before;
-  giving_up = λ s before. ended_answered answer.NoMemory None s (λ e. absurd (cc)) before;
+of_replies : IsOfReplies IsAnswer
+of_replies = record {
+  done = λ e. absurd (cc);
+  stat = λ kind meta e. absurd (cc);
+  refused = λ error e. absurd (cc);
+  again = λ by e. absurd (cc);
+  clash = λ own kept e. absurd (cc);
 }
 
-turned_answered : (turn : Turn) (s : Client) → Answers turn → AllAnswered s → AllAnswered (turned turn s)
-turned_answered (goes_on next) s is before = before
-turned_answered (ends given place) s is before = ended_answered given place s is before
-turned_answered begins_again s is before = before
+no_memory : IsAnswer answer.NoMemory
+no_memory e = absurd (cc)
+
+ended_answered : (given : Answer) (place : Option ℕ) (s : Client) → IsAnswer given → All IsAnswered s.results → AllAnswered (ended given place s)
+ended_answered given place s is before = record { results = All-push IsAnswered s.results (result_of given place s.counts.last s) before is; stage = tt }
+
+wound_answered : (ending : Ending) (more : List Message) (s : Client) → EndingHas IsAnswer ending → All IsAnswered s.results → AllAnswered (wound ending more s)
+wound_answered (answers given place) [] s is before = ended_answered given place s is before
+wound_answered retries [] s is before = record { results = before; stage = tt }
+wound_answered ending (m ∷ ms) s is before = record { results = before; stage = is }
+
+turned_answered : (turn : Turn) (s : Client) → TurnHas IsAnswer turn → All IsAnswered s.results → AllAnswered (turned turn s)
+turned_answered (goes_on next) s is before = record { results = before; stage = is }
+turned_answered (winds_up ending more) s is before = wound_answered ending more s is before
+
+given_up_answered : (s : Client) (stage : Stage) → AllAnswered s → AllAnswered (given_up_in s stage)
+given_up_answered s (act flow) before = wound_answered (answers answer.NoMemory None) (clean_up s.who flow) s no_memory before.results
+given_up_answered s (winds ending m ms) before = before
+given_up_answered s compose before = ended_answered answer.NoMemory None s no_memory before.results
+given_up_answered s (round keys) before = ended_answered answer.NoMemory None s no_memory before.results
 
 served_answered : (ask_place : ℕ) (told : Told) (s : Client) → AllAnswered s → AllAnswered (served ask_place told s)
 served_answered ask_place told s before =
-    by_serve (λ t made. AllAnswered t) ask_place told s
+    by_answer AllAnswered ask_place told s
     (λ apart. before)
-    (λ here going. before)
-    (λ here complete. turned_answered _ (recorded ask_place told s) (turn_answers s.left s.stage (first_told (recorded ask_place told s).sent)) before)
-
-none_yet : (P : CallResult → Type 0) → All P []
-none_yet P k d within = absurd (omega arith)
+    (λ here going. record { results = before.results; stage = before.stage })
+    (λ here over.
+    turned_answered (turn_at (recorded ask_place told s) s.stage) (recorded ask_place told s)
+    (turn_has IsAnswer of_replies (recorded ask_place told s) s.stage before.stage (λ wants. no_memory)) before.results)
 
 starting_answered : (world : World) (client : ℕ) (line : Option ClientLine) → AllAnswered (starting world client line)
-starting_answered world client None = none_yet IsAnswered
-starting_answered world client (Some line) = none_yet IsAnswered
+starting_answered world client None = record { results = All-nil IsAnswered; stage = tt }
+starting_answered world client (Some line) = record { results = All-nil IsAnswered; stage = tt }
 
 answered : (world : World) (client : ℕ) (h : List Event) → AllAnswered (client_after world client h)
 answered world client [] = starting_answered world client (slice_get world.setup.clients client)
 answered world client (event.Ask number ask ∷ h) =
-    if_both AllAnswered (eqb ask.from.client client) (asked _ ask (client_after world client h)) _
-    (begun_keeps AllAnswered answered_kept ask (client_after world client h).sent (client_after world client h) (answered world client h))
-    (answered world client h)
+    let s : Client = client_after world client h in
+    let begun =
+    begun_keeps AllAnswered (λ t before. record { results = before.results; stage = composed_has IsAnswer t t.stage before.stage })
+    (λ t before. given_up_answered t t.stage before) ask s.sent s (answered world client h) in
+    if_both AllAnswered (eqb ask.from.client client) (asked (suc (length h)) ask s) s
+    (record { results = begun.results; stage = begun.stage }) (answered world client h)
 answered world client (event.Serve number ask_place given ∷ h) =
-    served_answered ask_place (told_reply _ given) (client_after world client h) (answered world client h)
+    served_answered ask_place (told_reply (suc (length h)) (heard given)) (client_after world client h) (answered world client h)
 
 -- ---- a call that has not ended is left
 
@@ -124,33 +107,35 @@ record IsFrom (world : World) (h : List Event) (client before count : ℕ) (s : 
 record IsWithin (world : World) (h : List Event) (client : ℕ) (s : Client) : Type 0 where
   before : ℕ
   from : IsFrom world h client before (length s.left) s
+  answered : AllAnswered s
 
 abbrev OnlyOpen : World → List Event → CallResult → Type 0
 OnlyOpen world h result = result.answer ≡ answer.Unanswered → IsLeftOpen world h result
 
-from_after : (world : World) (h : List Event) (client : ℕ) → IsWithin world h client (client_after world client h)
+from_after : (world : World) (h : List Event) (client : ℕ) → IsFrom world h client 0 (length (client_after world client h).left) (client_after world client h)
 from_after world h client = record {
-  before = 0;
-  from = record {
-    own = ap (λ (who : Who). who.client) (reads world client h).who ∙ client_of world client (slice_get world.setup.clients client);
-    number = omega arith;
-    room = omega arith;
-  };
+  own = ap (λ (who : Who). who.client) (who_after world h client);
+  number = omega arith;
+  room = omega arith;
 }
 
-given_up_within : (world : World) (h : List Event) (client before : ℕ) (calls : List Call) (s : Client) → s.left ≡ calls → IsFrom world h client before (length calls) s → IsWithin world h client (all_given_up calls s)
-given_up_within world h client before [] s same from = record {
+given_up_within : (world : World) (h : List Event) (client before : ℕ) (calls : List Call) (s : Client) → s.left ≡ calls → AllAnswered s → IsFrom world h client before (length calls) s → IsWithin world h client (all_given_up calls s)
+given_up_within world h client before [] s same known from = record {
   before = before;
   from = record { own = from.own; number = from.number; room = omega (arith, from.room, ap length same) };
+  answered = known;
 }
-given_up_within world h client before (next ∷ calls) s same from =
-    if_both (IsWithin world h client) (is_some (op_of next)) (all_given_up calls (given_up s)) s
-    (given_up_within world h client (before + 1) calls (given_up s) (ap rest_of same)
+given_up_within world h client before (next ∷ calls) s same known from = by (may_give_up s) refl (given_up_within world h client (before + 1) calls (ended answer.NoMemory None s) (ap rest_of same)
+    (ended_answered answer.NoMemory None s no_memory known.results)
     (record { own = from.own; number = omega (arith, from.number); room = omega (arith, from.room) }))
-    (record {
+  where
+    by : (b : Bool) → may_give_up s ≡ b → IsWithin world h client (all_given_up calls (ended answer.NoMemory None s)) → IsWithin world h client (cond b (all_given_up calls (given_up s)) s)
+    by true may given = subst (λ t. IsWithin world h client (all_given_up calls t)) (sym (may_end s may)) given
+    by false may given = record {
       before = before;
       from = record { own = from.own; number = from.number; room = omega (arith, from.room, ap length same) };
-    })
+      answered = known;
+    }
 
 left_open : (world : World) (h : List Event) (client before count : ℕ) (s : Client) → IsFrom world h client before (count + 1) s → IsLeftOpen world h (result_of answer.Unanswered None None s)
 left_open world h client before count s from = record {
@@ -160,37 +145,45 @@ left_open world h client before count s from = record {
   placeless = refl;
 }
 
-unanswered_open : (world : World) (h : List Event) (client before : ℕ) (calls : List Call) (s : Client) → IsFrom world h client before (length calls) s → All (OnlyOpen world h) (unanswered calls s)
-unanswered_open world h client before [] s from = none_yet (OnlyOpen world h)
-unanswered_open world h client before (next ∷ calls) s from =
-    All-cons (OnlyOpen world h) (result_of answer.Unanswered None None s) (unanswered calls (ended answer.Unanswered None s))
-    (λ e. left_open world h client before (length calls) s (record { own = from.own; number = from.number; room = omega (arith, from.room) }))
-    (unanswered_open world h client (before + 1) calls (ended answer.Unanswered None s)
+-- a call that winds up is answered already
+so_far_open : (world : World) (h : List Event) (client before count : ℕ) (s : Client) (stage : Stage) → StageHas IsAnswer stage → IsFrom world h client before (count + 1) s → OnlyOpen world h (so_far stage s)
+so_far_open world h client before count s (winds (answers given place) m ms) is from = λ e. absurd (is e)
+so_far_open world h client before count s (winds retries m ms) is from = λ e. left_open world h client before count s from
+so_far_open world h client before count s compose is from = λ e. left_open world h client before count s from
+so_far_open world h client before count s (round keys) is from = λ e. left_open world h client before count s from
+so_far_open world h client before count s (act flow) is from = λ e. left_open world h client before count s from
+
+unanswered_open : (world : World) (h : List Event) (client before : ℕ) (calls : List Call) (s : Client) → StageHas IsAnswer s.stage → IsFrom world h client before (length calls) s → All (OnlyOpen world h) (unanswered calls s)
+unanswered_open world h client before [] s is from = All-nil (OnlyOpen world h)
+unanswered_open world h client before (next ∷ calls) s is from =
+    All-cons (OnlyOpen world h) (so_far s.stage s) (unanswered calls (ended answer.Unanswered None s))
+    (so_far_open world h client before (length calls) s s.stage is (record { own = from.own; number = from.number; room = omega (arith, from.room) }))
+    (unanswered_open world h client (before + 1) calls (ended answer.Unanswered None s) tt
     (record { own = from.own; number = omega (arith, from.number); room = omega (arith, from.room) }))
 
 -- ---- the results of all clients
 
-results_open : (world : World) (h : List Event) (client : ℕ) (s : Client) → AllAnswered s → IsWithin world h client s → All (OnlyOpen world h) (results_of s)
-results_open world h client s before is =
+results_open : (world : World) (h : List Event) (client : ℕ) (s : Client) → IsWithin world h client s → All (OnlyOpen world h) (results_of s)
+results_open world h client s is =
     All-append (OnlyOpen world h) s.results (unanswered s.left s)
-    (λ k d within e. absurd (before k d within e))
-    (unanswered_open world h client is.before s.left s is.from)
+    (λ k d within e. absurd (is.answered.results k d within e))
+    (unanswered_open world h client is.before s.left s is.answered.stage is.from)
 
 agreeing_open : (world : World) (h : List Event) (client : ℕ) (mine : List CallResult) → Agrees (client_after world client h) mine → All (OnlyOpen world h) mine
 agreeing_open world h client mine agrees =
     let s : Client = client_after world client h in
-    let is : IsWithin world h client s = from_after world h client in
     ⊎_elim
-    (λ (same : mine ≡ results_of s). subst (All (OnlyOpen world h)) (sym same) (results_open world h client s (answered world client h) is))
+    (λ (same : mine ≡ results_of s).
+    subst (All (OnlyOpen world h)) (sym same)
+    (results_open world h client s (record { before = 0; from = from_after world h client; answered = answered world client h })))
     (λ (gave : (s.sent ≡ []) × (mine ≡ results_of (all_given_up s.left s))).
     subst (All (OnlyOpen world h)) (sym gave.1)
     (results_open world h client (all_given_up s.left s)
-    (all_given_up_keeps AllAnswered answered_kept s.left s (answered world client h))
-    (given_up_within world h client is.before s.left s refl is.from)))
+    (given_up_within world h client 0 s.left s refl (answered world client h) (from_after world h client))))
     agrees
 
 outcome_open : (world : World) (h : List Event) (client : ℕ) (lines : List ClientLine) (results : List CallResult) → OutcomeFrom world h client lines results → All (OnlyOpen world h) results
-outcome_open world h client [] results out = subst (All (OnlyOpen world h)) (sym out) (none_yet (OnlyOpen world h))
+outcome_open world h client [] results out = subst (All (OnlyOpen world h)) (sym out) (All-nil (OnlyOpen world h))
 outcome_open world h client (line ∷ lines) results out =
     subst (All (OnlyOpen world h)) (sym out.all)
     (All-append (OnlyOpen world h) out.mine out.others

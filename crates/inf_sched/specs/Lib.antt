@@ -1,11 +1,9 @@
-pub mod AskLog
 pub mod Scene
 pub mod Waiting
 pub mod Moves
 pub mod Order
-pub mod Actor
 pub mod Run
 pub mod Straight
 pub mod Laws
-pub mod Examples
 pub mod Endings
+pub mod Examples

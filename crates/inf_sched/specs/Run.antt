@@ -1,18 +1,21 @@
 -- What contracts see of a run, and what it keeps behind that.
 use Rattle.std.specs.Prelude.{◌≡◌, ◌⊎◌, ℕ, zero, suc, ◌+◌, Bool, true, false, List, [], ◌∷◌, ◌++◌, length, map, reverse, slice_get, Some, None}
-use Rattle.inf_duty.specs.Client.{Client, start}
+use Rattle.inf_flow_dir.specs.Client.{Client}
+use Rattle.inf_duty.specs.Start.{start}
 use Rattle.inf_core.specs.Core.{IsSameRun, Running}
-use Rattle.inf_core.specs.Legal.{Legal, MayAsk, MayServe}
+use Rattle.inf_laws_history.specs.Legal.{Legal, MayAsk, MayServe}
+use Rattle.inf_base.specs.declared.id.Id.{Id}
 use Rattle.inf_duty.specs.After.{client_after}
-use Rattle.inf_duty.specs.Outcome.{all_given_up, results_of}
+use Rattle.inf_duty.specs.Outcome.{all_given_up, may_give_up, results_of}
 use Rattle.inf_duty.specs.World.{World}
 use Rattle.inf_message.specs.declared.ask.Ask.{Ask}
 use Rattle.inf_message.specs.declared.call_result.CallResult.{CallResult}
 use Rattle.inf_message.specs.declared.event.Event.{Event}
 use Rattle.inf_message.specs.declared.event.Event.TheVariants as event
 use Rattle.inf_message.specs.History.{Own, asks_of, made_ask, own_ask, served_at, told_reply}
-use Rattle.inf_sched.specs.Actor.{Actor, actor, wants_to_ask}
-use Rattle.inf_sched.specs.AskLog.{no_asks}
+use Rattle.inf_client.specs.ActorBy.{ActorBy, actor_by}
+use Rattle.inf_client.specs.Actor.{Actor, actor, wants_to_ask}
+use Rattle.inf_trips.specs.AskLog.{no_asks}
 use Rattle.inf_sched.specs.declared.stepping.Stepped.{Stepped}
 use Rattle.inf_sched.specs.declared.stepping.Stepped.TheVariants as stepped
 use Rattle.inf_message.specs.declared.reply.Reply.{Reply}
@@ -33,6 +36,13 @@ scene_of run = record { history = run.core.history; gone = run.gone }
 
 abbrev pub gone_of : List Actor → List Bool
 gone_of actors = map (λ (a : Actor). a.gone) actors
+
+-- clients as code has them, with the rule that makes identifiers
+abbrev pub gone_by : {A : Type 0} → List (ActorBy A) → List Bool
+gone_by actors = map (λ (a : ActorBy _). a.gone) actors
+
+abbrev pub actors_by : {A : Type 0} → (A → List ℕ → Id) → List (ActorBy A) → List Actor
+actors_by digest_of actors = map (actor_by digest_of) actors
 
 -- ---- what a run keeps
 
@@ -58,6 +68,8 @@ pub record AreActors (world : World) (h : List Event) (actors : List Actor) : Ty
   pub each : (client : ℕ) (a : Actor) → slice_get actors client ≡ Some a → IsActor (client_after world client h) a
   -- what it keeps of its Asks is what its events show
   pub asks : (client : ℕ) (a : Actor) → slice_get actors client ≡ Some a → a.log.asks ≡ asks_shown client h
+  -- it was told of no ask that it did not make
+  pub idle : (client : ℕ) (a : Actor) → slice_get actors client ≡ Some a → a.handed ≡ false
 
 -- so many queues, each with the Asks that fit
 pub record AreQueues (fits : ℕ → Posting → Bool) (h : List Event) (many : ℕ) (queues : List (List Posting)) : Type 0 where
@@ -83,6 +95,7 @@ pub record Asked (world : World) (client : ℕ) (p : Posting) (h after : List Ev
   pub posted : p ≡ posting (suc (length h)) number client
   pub still_here : b.gone ≡ false
   pub asks : b.log.asks ≡ a.log.asks ++ own_ask (made_ask number ask (suc (length h))) None ∷ []
+  pub idle : b.handed ≡ false
   pub actor : IsActor (client_after world client after) b
   pub legal : Legal world after
 
@@ -91,9 +104,11 @@ pub record HasGivenUp (world : World) (client : ℕ) (h after : List Event) (a b
   pub here : a.gone ≡ false
   pub asking : wants_to_ask a ≡ true
   pub between : a.state.sent ≡ []
+  pub free : may_give_up a.state ≡ true
   pub same : after ≡ h
   pub gone : b.gone ≡ true
   pub asks : b.log.asks ≡ a.log.asks
+  pub idle : b.handed ≡ false
   pub actor : IsActor (client_after world client h) b
 
 -- it has no ask to make
@@ -119,6 +134,7 @@ pub record HasServed (world : World) (p : Posting) (h after : List Event) (a b :
   pub may : MayServe world h p.number p.place given
   pub joins : after ≡ event.Serve p.number p.place given ∷ h
   pub same_gone : b.gone ≡ a.gone
+  pub same_handed : b.handed ≡ a.handed
   pub asks : b.log.asks ≡ map (served_at p.place (told_reply (suc (length h)) given)) a.log.asks
   pub actor : IsActor (client_after world p.client after) b
   pub legal : Legal world after
@@ -139,7 +155,7 @@ unset (suc many) = false ∷ unset many
 -- the first so many clients before anything has happened
 pub record AreOpening (world : World) (many : ℕ) (actors : List Actor) : Type 0 where
   pub count : length actors ≡ many
-  pub each : (client : ℕ) (a : Actor) → slice_get actors client ≡ Some a → a ≡ actor (start world client) false no_asks
+  pub each : (client : ℕ) (a : Actor) → slice_get actors client ≡ Some a → a ≡ actor (start world client) false no_asks false
   pub gone : gone_of actors ≡ unset many
 
 pub record AreEmpty (many : ℕ) (queues : List (List Posting)) : Type 0 where

@@ -1,12 +1,13 @@
 -- Where a run stands, and the steps that it takes: a client asks, or wants memory; a server serves.
 use Rattle.std.specs.Prelude.{◌≡◌, ◌⊎◌, ℕ, Bool, true, false, ◌&&◌, ◌||◌, not, nat_lt, List, [], ◌∷◌, length, map, slice_get, slice_set, Option, Some, None}
 use Rattle.inf_base.specs.declared.setup.ClientLine.{ClientLine}
-use Rattle.inf_duty.specs.Client.{Client, Sent}
+use Rattle.inf_flow_dir.specs.Client.{Client}
+pub use Rattle.inf_client.specs.Planned.{planned, planned_from}
 pub use Rattle.inf_duty.specs.ClientStep.{is_ask}
 use Rattle.inf_duty.specs.Duty.{next_step}
-use Rattle.inf_duty.specs.Group.{composed}
-use Rattle.inf_core.specs.Legal.{MayAsk, MayServe}
+use Rattle.inf_laws_history.specs.Legal.{MayAsk, MayServe}
 use Rattle.inf_duty.specs.After.{client_after}
+use Rattle.inf_duty.specs.Outcome.{may_give_up}
 use Rattle.inf_duty.specs.World.{World}
 use Rattle.inf_message.specs.declared.ask.Ask.{Ask}
 use Rattle.inf_message.specs.declared.event.Event.{Event}
@@ -35,19 +36,12 @@ client_in world scene client = client_after world client scene.history
 
 -- ---- what a client may do
 
--- between two groups it settles what it asks for next; within a group it goes on with it
-abbrev pub planned_from : List Sent → Client → Client
-planned_from [] s = composed s
-planned_from (x ∷ xs) s = s
-
-abbrev pub planned : Client → Client
-planned s = planned_from s.sent s
-
 -- whether the client has an ask to make
 abbrev pub can_ask : World → Scene → ℕ → Bool
 can_ask world scene client = not (is_gone scene client) && is_ask (next_step (planned (client_in world scene client)))
 
--- the client makes an ask: its next one; or, where it wanted memory for some calls, its next one behind these
+-- the client makes an ask: its next one; where it wanted memory for some calls, its next one behind these; where it wanted
+-- memory in the midst of a flow, the first of what lifts that flow's changes
 pub record MakesAsk (world : World) (client : ℕ) (old new : Scene) : Type 0 where
   pub number : ℕ
   pub ask : Ask
@@ -56,10 +50,11 @@ pub record MakesAsk (world : World) (client : ℕ) (old new : Scene) : Type 0 wh
   pub may : MayAsk world old.history number ask
   pub joins : new ≡ record { history = event.Ask number ask ∷ old.history; gone = old.gone }
 
--- the client is to ask, between two groups, and wants memory for each call that it has left
+-- the client is to ask, between two groups, with nothing to clean up, and wants memory for each call that it has left
 pub record GivesUp (world : World) (client : ℕ) (old new : Scene) : Type 0 where
   pub can : can_ask world old client ≡ true
   pub between : (client_in world old client).sent ≡ []
+  pub free : may_give_up (client_in world old client) ≡ true
   pub gone : new ≡ record { history = old.history; gone = slice_set old.gone client true }
 
 abbrev pub Asks : World → ℕ → Scene → Scene → Type 0

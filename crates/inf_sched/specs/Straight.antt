@@ -1,9 +1,9 @@
 -- The run of an order in which nothing wants memory, as a function: each move's definition mirrors its relation.
 use Rattle.std.specs.Prelude.{ℕ, zero, suc, ◌+◌, Bool, true, false, List, [], ◌∷◌, length, Option, Some, None}
 use Rattle.inf_duty.specs.Duty.{Next, asks, is_over, next_step, waits}
-use Rattle.inf_core.specs.Legal.{server_after}
+use Rattle.inf_laws_history.specs.Legal.{server_after}
 use Rattle.inf_duty.specs.World.{World}
-use Rattle.inf_core.specs.Sites.{site_of}
+use Rattle.inf_laws_history.specs.Sites.{site_of}
 use Rattle.inf_message.specs.declared.event.Event.{Event}
 use Rattle.inf_message.specs.declared.event.Event.TheVariants as event
 use Rattle.inf_message.specs.declared.reply.Reply.{Reply}

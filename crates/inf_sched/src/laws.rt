@@ -2,7 +2,7 @@
 
 ghost use Rattle.std.specs.Prelude.{◌≡◌, ℕ, List, All, Some, map, reverse, slice_get};
 ghost use Rattle.inf_base.specs.declared.answer.Answer.TheVariants as answer;
-ghost use Rattle.inf_core.specs.Legal.{Legal};
+ghost use Rattle.inf_laws_history.specs.Legal.{Legal};
 ghost use Rattle.inf_duty.specs.Outcome.{Outcome};
 ghost use Rattle.inf_duty.specs.Own.{client_of, own_of};
 ghost use Rattle.inf_duty.specs.World.{World};
@@ -10,7 +10,7 @@ ghost use Rattle.inf_message.specs.declared.call_result.CallResult.{CallResult};
 ghost use Rattle.inf_message.specs.declared.event.Event.{Event};
 ghost use Rattle.inf_message.specs.History.{trips_of};
 ghost use Rattle.inf_order.specs.declared.moves.Move.{Move};
-ghost use Rattle.inf_sched.specs.Actor.{Actor, trips_of_actor};
+ghost use Rattle.inf_client.specs.Actor.{Actor, trips_of_actor};
 ghost use Rattle.inf_sched.specs.Endings.{IsLeftOpen};
 ghost use Rattle.inf_sched.specs.Laws.{IsStraight, MakesCalmly};
 ghost use Rattle.inf_sched.specs.Order.{ByOrder, results_in};
@@ -66,7 +66,7 @@ pub fn clients_keep_their_trips()
         → trips_of_actor a ≡ reverse (trips_of client h) }
 {}
 
-/// And its state, and so its results, is what these Asks show, those that wait among them.
+/// And its state, and so its results, is what its Asks show, those that wait among them.
 pub fn kept_asks_show_the_client()
     ensures { (world : World) (h : List Event) (actors : List Actor) (client : ℕ) (a : Actor)
         → Legal world h → AreActors world h actors → slice_get actors client ≡ Some a

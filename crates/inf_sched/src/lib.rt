@@ -1,8 +1,6 @@
 //! Runs the calls of a script under an order of moves: clients ask, servers serve, and a history comes of it.
 #![tactic(auto)]
 
-mod ask_log;
-mod client;
 mod ending;
 mod examples;
 mod laws;
@@ -16,8 +14,8 @@ mod scheduler;
 mod serving;
 mod stepping;
 
-pub use client::Client;
-pub use examples::{ended_calls, lone_clients, single_moves, wanting};
+pub use examples::{ended_calls, lone_clients, rounds, single_moves, wanting, wanting_in_a_flow};
+pub use inf_client::Client;
 pub use inf_duty::{ClientStep, Outcome, Results};
 pub use inf_order::{MOST_MOVES, Move, Moves};
 pub use laws::{

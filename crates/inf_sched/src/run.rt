@@ -5,14 +5,13 @@ ghost use Rattle.inf_base.specs.declared.limits.TheConstants.{MOST_CALLS, MOST_C
 ghost use Rattle.inf_base.specs.Setup.{call_count};
 ghost use Rattle.inf_core.specs.Core.{IsSameRun, world_in};
 ghost use Rattle.inf_duty.specs.World.{world_by};
-ghost use Rattle.inf_core.specs.Legal.{Legal};
+ghost use Rattle.inf_laws_history.specs.Legal.{Legal};
 ghost use Rattle.inf_message.specs.History.{trips_of};
 ghost use Rattle.inf_sched.specs.Order.{results_in};
 ghost use Rattle.inf_sched.specs.Run.{HasStepped, scene_of};
 ghost use Rattle.inf_sched.specs.Scene.{MakesServe, calls_left, has_calls, has_ended, is_gone, number_in, opening};
 ghost use Rattle.inf_sched.specs.Waiting.{IsWaiting, is_by, is_for, oldest};
 
-use crate::client::Client;
 use crate::ending::all_results;
 use crate::opening::{open_clients, open_queues};
 use crate::posting::Posting;
@@ -21,6 +20,7 @@ use crate::serving::serve;
 use crate::stepping::{Stepped, let_ask};
 use inf_base::{NoMemory, Setup};
 use inf_birth::IdRule;
+use inf_client::Client;
 use inf_core::Core;
 use inf_duty::{Outcome, Results};
 use inf_message::Trip;
@@ -32,7 +32,7 @@ use std::marker::Model;
 pub struct Run<R: IdRule> {
     alloc: Global,
     core: Core<R>,
-    clients: Vec<Client>,
+    clients: Vec<Client<R>>,
     /// By number, the coordinator last.
     to_server: Vec<Queue>,
     by_client: Vec<Queue>,
@@ -40,13 +40,13 @@ pub struct Run<R: IdRule> {
 
 impl<R: IdRule> Model for Run<R> {
     ghost use Rattle.inf_core.specs.Core.{world_in};
-    ghost use Rattle.inf_sched.specs.Run.{IsKept, Playing, gone_of, playing};
+    ghost use Rattle.inf_sched.specs.Run.{IsKept, Playing, actors_by, gone_by, playing};
 
     ghost Value = { Playing R };
 
-    ghost view = { λ r. playing r.core (gone_of r.clients.items) };
+    ghost view = { λ r. playing r.core (gone_by r.clients.items) };
 
-    ghost invariant = { λ r. IsKept (world_in R.digest_of r.core) r.core.history r.clients.items
+    ghost invariant = { λ r. IsKept (world_in R.digest_of r.core) r.core.history (actors_by R.digest_of r.clients.items)
         r.to_server.items r.by_client.items };
 }
 
@@ -60,7 +60,7 @@ impl<R: IdRule> Run<R> {
         ensures core { IfOk result (λ run. run.core ≡ record { rule = rule; setup = setup; history = [] }) }
         ensures opening { IfOk result (λ run. scene_of run ≡ opening (world_by (R.digest_of rule) setup)) }
     {
-        let clients = open_clients(alloc, &rule, &setup)?;
+        let clients = open_clients(alloc, rule, &setup)?;
         let to_server = open_queues(alloc, setup.servers as usize + 1)?;
         let by_client = open_queues(alloc, setup.clients.len())?;
         let core = Core::new(alloc, setup, rule)?;

@@ -3,9 +3,9 @@
 ghost use Rattle.std.specs.Prelude.{◌≡◌, true, length, reverse, IfOk};
 ghost use Rattle.std.specs.List.{list_all};
 ghost use Rattle.inf_base.specs.Setup.{IsValid};
-ghost use Rattle.inf_core.specs.Legal.{Legal};
+ghost use Rattle.inf_laws_history.specs.Legal.{Legal};
 ghost use Rattle.inf_duty.specs.Outcome.{Outcome as IsOutcome};
-ghost use Rattle.inf_core.specs.Replayed.{decisions};
+ghost use Rattle.inf_laws_history.specs.Replayed.{decisions};
 ghost use Rattle.inf_duty.specs.World.{world_of};
 ghost use Rattle.inf_order.specs.Order.{is_move_of};
 ghost use Rattle.inf_sched.specs.Order.{ByOrder};
@@ -17,6 +17,7 @@ use crate::run::Run;
 use inf_base::{NoMemory, Setup, TryClone};
 use inf_birth::ShaRule;
 use inf_duty::Outcome;
+use inf_laws_history::every_legal_history_replays;
 use inf_order::Move;
 use std::alloc::Global;
 
@@ -32,6 +33,7 @@ pub fn schedule(alloc: Global, setup: &Setup, order: &[Move]) -> Result<Outcome,
     ensures replays { IfOk result (λ outcome. Replays opening_tree
         (decisions (world_of setup.now) (reverse outcome.history) outcome.results)) }
 {
+    every_legal_history_replays();
     let rule = ShaRule {
         bytes: setup.digest_bytes,
     };

@@ -1,29 +1,30 @@
 //! What comes of serving an Ask.
 
 ghost use Rattle.std.specs.Prelude.{OnOk};
+ghost use Rattle.inf_client.specs.ActorBy.{actor_by};
 ghost use Rattle.inf_core.specs.Core.{IsSameRun, world_in};
 ghost use Rattle.inf_duty.specs.After.{client_after};
 ghost use Rattle.inf_sched.specs.Run.{HasServed, IsActor};
 ghost use Rattle.inf_sched.specs.Waiting.{IsWaiting};
 
-use crate::client::Client;
 use crate::posting::Posting;
 use inf_base::NoMemory;
 use inf_birth::IdRule;
+use inf_client::Client;
 use inf_core::Core;
 
 #[tactic(auto, using(crate::proofs::ServeFacts::waiting_asked, crate::proofs::ServeFacts::has_served))]
 /// The server of an Ask that waits serves it, and the client that made it is told.
 pub fn serve<R: IdRule>(
     core: &mut Core<R>,
-    client: &mut Client,
+    client: &mut Client<R>,
     posting: Posting,
 ) -> Result<(), NoMemory>
     requires waits { IsWaiting core.old.history posting }
     requires actor { IsActor (client_after (world_in R.digest_of core.old)
-        posting.client core.old.history) client.old }
+        posting.client core.old.history) (actor_by R.digest_of client.old) }
     ensures served { OnOk result (HasServed (world_in R.digest_of core.old) posting
-        core.old.history core.new.history client.old client.new) }
+        core.old.history core.new.history (actor_by R.digest_of client.old) (actor_by R.digest_of client.new)) }
     ensures same { OnOk result (IsSameRun core.old core.new) }
 {
     let (place, reply) = core.serve(posting.place)?;

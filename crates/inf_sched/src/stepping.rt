@@ -1,15 +1,15 @@
 //! What comes of letting a client ask.
 
-ghost use Rattle.std.specs.Prelude.{◌≡◌, ◌<◌, length, IfOk, OnOk};
+ghost use Rattle.std.specs.Prelude.{◌≡◌, ◌<◌, false, length, IfOk, OnOk};
+ghost use Rattle.inf_client.specs.ActorBy.{actor_by};
 ghost use Rattle.inf_core.specs.Core.{IsSameRun, world_in};
-ghost use Rattle.inf_core.specs.Legal.{Legal};
 ghost use Rattle.inf_duty.specs.After.{client_after};
-ghost use Rattle.inf_sched.specs.Run.{Did, IsActor, rested};
+ghost use Rattle.inf_sched.specs.Run.{Did, IsActor, asks_shown, rested};
 
-use crate::client::Client;
 use crate::posting::Posting;
 use inf_base::NoMemory;
 use inf_birth::IdRule;
+use inf_client::Client;
 use inf_core::Core;
 use inf_duty::ClientStep;
 use std::alloc::Global;
@@ -24,20 +24,21 @@ pub enum Stepped {
     Rested,
 }
 
-#[tactic(auto, using(crate::proofs::StepFacts::ready_here, crate::proofs::StepFacts::ready_kept, crate::proofs::StepFacts::asked_did, crate::proofs::StepFacts::rested_did, crate::proofs::StepFacts::waiting_rests, crate::proofs::StepFacts::finished_rests))]
+#[tactic(auto, using(crate::proofs::StepFacts::asked_did, crate::proofs::StepFacts::rested_did, crate::proofs::StepFacts::waiting_rests, crate::proofs::StepFacts::finished_rests))]
 /// Lets the client of this number make its next ask.
 pub fn let_ask<R: IdRule>(
     alloc: Global,
     core: &mut Core<R>,
-    client: &mut Client,
+    client: &mut Client<R>,
     number: u32,
 ) -> Result<Stepped, NoMemory>
     requires there { number < length core.old.setup.clients }
     requires actor { IsActor (client_after (world_in R.digest_of core.old)
-        number core.old.history) client.old }
-    requires legal { Legal (world_in R.digest_of core.old) core.old.history }
+        number core.old.history) (actor_by R.digest_of client.old) }
+    requires asks { client.old.log.asks ≡ asks_shown number core.old.history }
+    requires idle { client.old.handed ≡ false }
     ensures did { IfOk result (λ stepped. Did (world_in R.digest_of core.old) number stepped
-        core.old.history core.new.history client.old client.new) }
+        core.old.history core.new.history (actor_by R.digest_of client.old) (actor_by R.digest_of client.new)) }
     ensures same { OnOk result (IsSameRun core.old core.new) }
 {
     let was_gone = client.has_given_up();
@@ -56,7 +57,7 @@ pub fn let_ask<R: IdRule>(
     }
 }
 
-fn rested(was_gone: bool, client: &Client) -> Stepped
+fn rested<R: IdRule>(was_gone: bool, client: &Client<R>) -> Stepped
     ensures { result ≡ rested was_gone client.now.gone }
 {
     if !was_gone && client.has_given_up() {

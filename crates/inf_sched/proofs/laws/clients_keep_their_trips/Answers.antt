@@ -1,4 +1,4 @@
-use Rattle.inf_sched.proofs.OpeningFacts.{trips_same}
+use Rattle.inf_sched.proofs.ShownFacts.{trips_same}
 use Rattle.inf_sched.proofs.laws.clients_keep_their_trips.Goals as goal
 
 pub returns : goal.returns

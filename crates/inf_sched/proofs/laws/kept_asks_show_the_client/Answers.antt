@@ -1,4 +1,4 @@
-use Rattle.inf_sched.proofs.OpeningFacts.{asks_show}
+use Rattle.inf_sched.proofs.ShownFacts.{asks_show}
 use Rattle.inf_sched.proofs.laws.kept_asks_show_the_client.Goals as goal
 
 pub returns : goal.returns

@@ -1,6 +1,5 @@
 use Rattle.std.proofs.Common.{◌≡◌, refl, reverse, rules}
 use Rattle.inf_duty.specs.World.{world_of}
-use Rattle.inf_core.proofs.Replayed.{all_replay}
 use Rattle.inf_sched.proofs.OrderLaws.{is_outcome}
 use Rattle.inf_sched.proofs.ScheduleFacts.{made_by_order, made_legal, sha_digest, sha_opening, sha_world}
 use Rattle.inf_sched.proofs.scheduler.schedule.Goals as goal
@@ -26,4 +25,4 @@ returns-clause-outcome c =
 
 pub returns-clause-replays : goal.returns-clause-replays
 returns-clause-replays c =
-    all_replay (world_of c.args.setup.now) (reverse c.in_ok-outcome.outcome.history) (returns-clause-legal c) c.in_ok-outcome.outcome.results (returns-clause-outcome c)
+    c.every_legal_history_replays.ensures (world_of c.args.setup.now) (reverse c.in_ok-outcome.outcome.history) (returns-clause-legal c) c.in_ok-outcome.outcome.results (returns-clause-outcome c)

@@ -1,0 +1,30 @@
+-- Lists by index, and numbers that are equal by a test.
+use Rattle.std.proofs.Common.{◌≡◌, ◌≢◌, ℕ, zero, suc, ◌<◌, true, eqb, List, [], ◌∷◌, ◌++◌, length, slice_get, slice_set, Some, refl, ap, arith}
+use Rattle.std.proofs.lemmas.Bool.Decides.{Decides-eqb}
+
+pub counted_same : (a b : ℕ) → eqb a b ≡ true → a ≡ b
+counted_same a b same = (Decides-eqb a b).0 same
+
+pub same_counted : (a b : ℕ) → a ≡ b → eqb a b ≡ true
+same_counted a b same = (Decides-eqb a b).1 same
+
+pub got_pushed : {X : Type 0} (xs : List X) (y : X) → slice_get (xs ++ y ∷ []) (length xs) ≡ Some y
+got_pushed [] y = refl
+got_pushed (x ∷ xs) y = got_pushed xs y
+
+pub got_before : {X : Type 0} (xs : List X) (y : X) (i : ℕ) → i < length xs → slice_get (xs ++ y ∷ []) i ≡ slice_get xs i
+got_before [] y i within = absurd (omega arith)
+got_before (x ∷ xs) y zero within = refl
+got_before (x ∷ xs) y (suc i) within = got_before xs y i (omega arith)
+
+pub got_set : {X : Type 0} (xs : List X) (i : ℕ) (y : X) → i < length xs → slice_get (slice_set xs i y) i ≡ Some y
+got_set [] i y within = absurd (omega arith)
+got_set (x ∷ xs) zero y within = refl
+got_set (x ∷ xs) (suc i) y within = got_set xs i y (omega arith)
+
+pub got_apart : {X : Type 0} (xs : List X) (i k : ℕ) (y : X) → k ≢ i → slice_get (slice_set xs i y) k ≡ slice_get xs k
+got_apart [] i k y apart = refl
+got_apart (x ∷ xs) zero zero y apart = absurd (apart refl)
+got_apart (x ∷ xs) zero (suc k) y apart = refl
+got_apart (x ∷ xs) (suc i) zero y apart = refl
+got_apart (x ∷ xs) (suc i) (suc k) y apart = got_apart xs i k y (λ e. apart (ap suc e))
