@@ -1,21 +1,25 @@
 -- What the parts of a command did, taken together.
-use Rattle.std.proofs.Common.{◌≡◌, ◌⊎◌, ℕ, ◌≤◌, false, nat_lt, List, [], ◌∷◌, length, reverse, take, Contains, inl, inr, Option, None, Some, Result, Ok, Err, IfSome, OnErr, OnOk, sym, ap, ◌∙◌, refl, subst, arith}
+use Rattle.std.proofs.Common.{◌≡◌, ◌⊎◌, ℕ, ◌≤◌, false, nat_lt, List, [], ◌∷◌, length, reverse, take, Contains, All, inl, inr, Option, None, Some, Result, Ok, Err, IfSome, OnErr, OnOk, sym, ap, ◌∙◌, refl, subst, arith}
 use Rattle.std.proofs.lemmas.Bool.{le-ltb}
 use Rattle.std.proofs.lemmas.List.{reverse-reverse, take_all}
 use Rattle.std.specs.Io.KnownBytes.{Appends, Keeps}
 use Rattle.inf_base.specs.Setup.{IsValid}
-use Rattle.inf_core.specs.Legal.{Legal}
+use Rattle.inf_laws_history.specs.Legal.{Legal}
 use Rattle.inf_duty.specs.Outcome.{Outcome}
-use Rattle.inf_core.specs.Replayed.{decisions}
-use Rattle.inf_duty.specs.World.{world_of}
-use Rattle.inf_core.proofs.CauseFacts.{again_is_because}
+use Rattle.inf_laws_history.specs.Replayed.{decisions}
+use Rattle.inf_duty.specs.World.{World, world_of}
+use Rattle.inf_laws_history.specs.Causes.{IsAgainBecause, IsClashBecause}
+use Rattle.inf_base.specs.declared.answer.Answer.TheVariants as answer
+use Rattle.inf_base.specs.declared.caller.CallRef.{CallRef}
+use Rattle.inf_base.specs.declared.triple.Triple.{Triple}
+use Rattle.inf_order.specs.declared.moves.Move.{Move}
 use Rattle.inf_io.specs.Faults.{Rose}
 use Rattle.inf_message.specs.declared.call_result.CallResult.{CallResult}
 use Rattle.inf_message.specs.declared.event.Event.{Event}
 use Rattle.inf_report.specs.Report.{report}
 use Rattle.inf_report.specs.Writing.{AppendsFront}
 use Rattle.inf_sched.specs.Order.{ByOrder}
-use Rattle.inf_sched.proofs.UnansweredFacts.{unanswered_are_left}
+use Rattle.inf_sched.specs.Endings.{IsLeftOpen}
 use Rattle.inf_script.specs.Reading.{meaning}
 use Rattle.inf_script.specs.declared.refusal.ScriptRefusal.{ScriptRefusal}
 use Rattle.inf_script.specs.declared.script.Script.{Script}
@@ -36,7 +40,21 @@ whole_text all (Some t) same few =
 
 -- ---- a script was run, and its outcome written
 
-module _ (script : Script) (events : List Event) (results : List CallResult)
+-- the laws that say why calls are answered as the plain tree does not answer
+abbrev pub AgainsAreOfChanges : Type 0
+AgainsAreOfChanges = (world : World) (h : List Event) (results : List CallResult) → Legal world h → Outcome world h results
+    → All (λ (result : CallResult). (by : CallRef) → result.answer ≡ answer.Again by → IsAgainBecause world h result by) results
+
+abbrev pub ClashesAreOfBirths : Type 0
+ClashesAreOfBirths = (world : World) (h : List Event) (results : List CallResult) → Legal world h → Outcome world h results
+    → All (λ (result : CallResult). (own kept : Triple) → result.answer ≡ answer.IdClash own kept → IsClashBecause world h result own kept) results
+
+abbrev pub UnansweredAreLeft : Type 0
+UnansweredAreLeft = (world : World) (order : List Move) (h : List Event) (results : List CallResult) → ByOrder world order h results
+    → All (λ (result : CallResult). result.answer ≡ answer.Unanswered → IsLeftOpen world h result) results
+
+module _ (agains : AgainsAreOfChanges) (clashes : ClashesAreOfBirths) (lefts : UnansweredAreLeft)
+    (script : Script) (events : List Event) (results : List CallResult)
     (valid : IsValid script.setup)
     (legal : Legal (world_of script.setup) (reverse events))
     (outcome : Outcome (world_of script.setup) (reverse events) results)
@@ -55,8 +73,9 @@ module _ (script : Script) (events : List Event) (results : List CallResult)
     by_order = by_order;
     replays = replays;
     causes = λ k d inside. record {
-      again = λ by is. again_is_because (world_of script.setup) (reverse events) results legal outcome k d inside by is;
-      unanswered = λ is. unanswered_are_left (world_of script.setup) script.order (reverse events) results by_order k d inside is;
+      again = λ by is. agains (world_of script.setup) (reverse events) results legal outcome k d inside by is;
+      clash = λ own kept is. clashes (world_of script.setup) (reverse events) results legal outcome k d inside own kept is;
+      unanswered = λ is. lefts (world_of script.setup) script.order (reverse events) results by_order k d inside is;
     };
     told = ap (λ es. report script.setup es results) (sym (reverse-reverse events));
   }

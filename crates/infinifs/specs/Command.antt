@@ -7,11 +7,12 @@ use Rattle.std.specs.Io.KnownBytes.{Appends, Keeps}
 use Rattle.inf_base.specs.declared.answer.Answer.TheVariants as answer
 use Rattle.inf_base.specs.declared.caller.CallRef.{CallRef}
 use Rattle.inf_base.specs.declared.setup.Setup.{Setup}
+use Rattle.inf_base.specs.declared.triple.Triple.{Triple}
 use Rattle.inf_base.specs.Setup.{IsValid}
-use Rattle.inf_core.specs.Causes.{IsAgainBecause}
-use Rattle.inf_core.specs.Legal.{Legal}
+use Rattle.inf_laws_history.specs.Causes.{IsAgainBecause, IsClashBecause}
+use Rattle.inf_laws_history.specs.Legal.{Legal}
 use Rattle.inf_duty.specs.Outcome.{Outcome}
-use Rattle.inf_core.specs.Replayed.{decisions}
+use Rattle.inf_laws_history.specs.Replayed.{decisions}
 use Rattle.inf_duty.specs.World.{World, world_of}
 use Rattle.inf_io.specs.Faults.{Rose}
 use Rattle.inf_message.specs.declared.call_result.CallResult.{CallResult}
@@ -64,6 +65,8 @@ refusal_line refusal = line (codes "script " ++ decimal refusal.line ++ codes " 
 pub record HasCause (world : World) (h : List Event) (result : CallResult) : Type 0 where
   -- a change of another client's call was in flight, and touched this call
   pub again : (by : CallRef) → result.answer ≡ answer.Again by → IsAgainBecause world h result by
+  -- the directory that it was to make has the identifier of another, of a different birth
+  pub clash : (own kept : Triple) → result.answer ≡ answer.IdClash own kept → IsClashBecause world h result own kept
   -- the order ended before the call was decided
   pub unanswered : result.answer ≡ answer.Unanswered → IsLeftOpen world h result
 

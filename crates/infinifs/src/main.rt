@@ -1,12 +1,20 @@
 //! A metadata service for very large file systems, whose answers are proved.
 #![tactic(auto)]
 
+#[cfg(test)]
+mod clash_tests;
+#[cfg(test)]
+mod crossing_tests;
+#[cfg(test)]
+mod directory_tests;
 mod input;
 mod sched;
 mod status;
 #[cfg(test)]
 mod tests;
 mod top;
+#[cfg(test)]
+mod trial;
 
 use inf_io::{ReadSource, WriteSink};
 use status::Status;

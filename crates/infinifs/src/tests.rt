@@ -1,7 +1,8 @@
 ghost use Rattle.std.specs.Prelude.{◌<◌};
 
 use crate::top::infinifs;
-use inf_io::{MemSink, MemSource};
+use crate::trial::{source, words_of};
+use inf_io::MemSink;
 use inf_script::{MOST_SCRIPT_BYTES, ScriptFault, ScriptRefusal, Why, read_script};
 use std::alloc::Global;
 use std::process::Abort;
@@ -49,25 +50,10 @@ const EMPTY_REPORT: &[u8] = b"infinifs report 1\n\
 
 const USAGE: &[u8] = b"usage: infinifs sched | run | work START SIZE\n";
 
-/// A source of these bytes in pieces of `piece`, of whose calls those of the numbers in `fails` fail.
-fn source(alloc: Global, bytes: &[u8], piece: usize, fails: &[u64]) -> Result<MemSource, Fail>
-    requires { 0 < piece }
-{
-    Ok(MemSource::new(bytes.to_vec(alloc)?, piece, fails.to_vec(alloc)?))
-}
-
 fn sink(alloc: Global, piece: usize, fails: &[u64]) -> Result<MemSink, Fail>
     requires { 0 < piece }
 {
     Ok(MemSink::new(alloc, piece, 4096, fails.to_vec(alloc)?)?)
-}
-
-fn words_of(alloc: Global, words: &[&str]) -> Result<Vec<String>, Fail> {
-    let mut all = Vec::new(alloc);
-    for word in words {
-        all.push(String::from_str(alloc, word)?)?;
-    }
-    Ok(all)
 }
 
 /// Two servers, of which the first keeps the root, and two clients that create a file and ask for it.
