@@ -75,12 +75,12 @@ impl<R: IdRule> ClientMachine<R> {
         match line_of(setup, client) {
             Some(line) => ClientMachine::idle(
                 alloc,
-                Party::new(alloc, rule, client, line.caller, setup.servers)?,
+                Party::new(rule, client, line.caller, setup.servers),
                 line.calls.as_slice(),
             ),
             None => ClientMachine::idle(
                 alloc,
-                Party::new(alloc, rule, client, NOBODY, setup.servers)?,
+                Party::new(rule, client, NOBODY, setup.servers),
                 &[],
             ),
         }

@@ -2,5 +2,4 @@ pub mod DraftFacts
 pub mod NamesFacts
 pub mod PathFacts
 pub mod ReplyFacts
-pub mod SendingFacts
 pub mod WalkFacts

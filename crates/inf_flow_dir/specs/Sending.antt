@@ -1,6 +1,6 @@
 -- Words for the Asks of a group.
-use Rattle.std.specs.Prelude.{◌≡◌, ℕ, false, List, [], ◌∷◌, Some, None}
-use Rattle.inf_flow_dir.specs.Client.{Sent, has_place}
+use Rattle.std.specs.Prelude.{ℕ, Some, None}
+use Rattle.inf_flow_dir.specs.Client.{Sent}
 use Rattle.inf_message.specs.History.{Told, or_told}
 
 -- an Ask that was just made
@@ -10,8 +10,3 @@ new_sent place = record { place = place; told = None }
 -- the same Ask once it was served
 abbrev pub told_more : Told → Sent → Sent
 told_more told x = record x { told = Some (or_told x.told told) }
-
--- no two of them stand at one place
-abbrev pub AreApart : List Sent → Type 0
-AreApart [] = Unit {0}
-AreApart (x ∷ xs) = (has_place x.place xs ≡ false) × AreApart xs

@@ -12,7 +12,7 @@ use crate::aim::Aim;
 use crate::party::{LookKeys, Party};
 use crate::path::{has_names, names_of};
 use crate::room::NameRoom;
-use inf_base::{Call, Entry, LookKey, Name, NoMemory, TryClone};
+use inf_base::{Call, Entry, Id, LookKey, Name, NoMemory, TryClone};
 use inf_birth::IdRule;
 use std::alloc::Global;
 use std::marker::Model;
@@ -93,17 +93,29 @@ impl Draft {
     {
         let mut keys = Vec::with_capacity(alloc, 1 + self.looked.len())?;
         keys.push(LookKey::Top)?;
+        let Some((first, others)) = self.looked.split_first() else {
+            return Ok(LookKeys::new(keys));
+        };
         let mut dir = party.root();
-        for name in self.looked.iter() {
-            keys.push(LookKey::At {
-                dir,
-                name: name.try_clone(alloc)?,
-            })?;
+        let mut above = first;
+        keys.push(key_at(alloc, dir, first)?)?;
+        for name in others {
             // What is made under a name for the first time has version 0.
-            dir = party.identity(&dir, name, 0);
+            dir = party.identity(&dir, above, 0);
+            above = name;
+            keys.push(key_at(alloc, dir, name)?)?;
         }
         Ok(LookKeys::new(keys))
     }
+}
+
+fn key_at(alloc: Global, dir: Id, name: &Name) -> Result<LookKey, NoMemory>
+    ensures { IfOk result (λ key. key ≡ look.At dir name.now) }
+{
+    Ok(LookKey::At {
+        dir,
+        name: name.try_clone(alloc)?,
+    })
 }
 
 /// The path of a call, of the kinds that go by these flows.

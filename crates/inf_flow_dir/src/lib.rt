@@ -30,6 +30,6 @@ pub use ending::Ending;
 pub use party::{LookKeys, Party};
 pub use room::ReplyRoom;
 pub use round::after_round;
-pub use sending::{Sending, are_told, has_place, record_answer};
+pub use sending::{Sending, are_told, has_place};
 pub use telling::Telling;
 pub use turn::Turn;

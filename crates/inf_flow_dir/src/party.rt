@@ -8,8 +8,8 @@ ghost use Rattle.inf_flow_dir.specs.Group.{asked_id, lookup_of};
 ghost use Rattle.inf_flow_dir.specs.Party.{who_of};
 
 use crate::identity::identity_of;
-use inf_base::{Caller, Entry, Id, LookKey, Name, NoMemory, Sequence, Triple, TryClone};
-use inf_birth::{IdRule, identify, server_of};
+use inf_base::{Caller, Entry, Id, LookKey, Name, NoMemory, Sequence, TryClone};
+use inf_birth::{IdRule, server_of};
 use inf_message::{Message, Request};
 use std::alloc::Global;
 use std::marker::Model;
@@ -41,25 +41,19 @@ impl<R: IdRule> Model for Party<R> {
 }
 
 impl<R: IdRule> Party<R> {
-    pub fn new(
-        alloc: Global,
-        rule: R,
-        client: u32,
-        caller: Caller,
-        servers: u32,
-    ) -> Result<Self, NoMemory>
+    pub fn new(rule: R, client: u32, caller: Caller, servers: u32) -> Self
         requires { 1 ≤ servers }
-        ensures { IfOk result (λ party.
-            party ≡ record { rule = rule; client = client; caller = caller; servers = servers }) }
+        ensures { result ≡ record { rule = rule; client = client; caller = caller; servers = servers } }
     {
-        let root = identify(alloc, &rule, &Triple::Root)?;
-        Ok(Party {
+        // The root's identifier is the digest of the empty message.
+        let root = rule.digest(&[]);
+        Party {
             rule,
             client,
             caller,
             servers,
             root,
-        })
+        }
     }
 
     pub fn client(&self) -> u32

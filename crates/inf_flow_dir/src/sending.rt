@@ -1,9 +1,9 @@
 //! The Asks of the group that is under way.
 
-ghost use Rattle.std.specs.Prelude.{◌≡◌, ◌==◌, ◌∷◌, [], map, position, vec_capacity, MatchOption};
+ghost use Rattle.std.specs.Prelude.{◌≡◌, ◌==◌, ◌∷◌, [], vec_capacity, MatchOption};
 ghost use Rattle.std.specs.List.{list_all, list_any};
-ghost use Rattle.inf_flow_dir.specs.Client.{Sent, has_place, is_told, told_at};
-ghost use Rattle.inf_flow_dir.specs.Sending.{AreApart, new_sent, told_more};
+ghost use Rattle.inf_flow_dir.specs.Client.{Sent, has_place, is_told};
+ghost use Rattle.inf_flow_dir.specs.Sending.{new_sent, told_more};
 ghost use Rattle.inf_flow_dir.specs.Turn.{wants_memory};
 
 use crate::telling::Telling;
@@ -96,24 +96,6 @@ pub fn is_one_wanting(sent: &[Sending]) -> bool
     ensures { result ≡ list_any (λ (x : Sent). wants_memory x.told) sent.now }
 {
     sent.iter().any(|sending| sending.wants_memory())
-}
-
-fn index_of(sent: &[Sending], place: Place) -> Option<usize>
-    ensures { result ≡ position (λ x. x.place == place) sent.now }
-{
-    sent.iter().position(|sending| sending.is_at(place))
-}
-
-/// Keeps the answer of the Ask at this place.
-pub fn record_answer(sent: &mut Vec<Sending>, place: Place, told: Telling)
-    requires { AreApart sent.old.items }
-    ensures told { sent.new.items ≡ map (told_at place told) sent.old.items }
-    ensures capacity { vec_capacity sent.new ≡ vec_capacity sent.old }
-{
-    if let Some(index) = index_of(sent.as_slice(), place) {
-        let sending = &mut sent[index];
-        sending.tell(told);
-    }
 }
 
 /// Takes the first of them. A group has few, so that the others may move up.

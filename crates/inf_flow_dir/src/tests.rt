@@ -26,8 +26,8 @@ const A_IN_ROOT: Id = Id {
 
 const WHOLE: ShaRule = ShaRule { bytes: 32 };
 
-fn party(alloc: Global) -> Result<Party<ShaRule>, NoMemory> {
-    Party::new(alloc, WHOLE, 0, Caller { uid: 0, gid: 0 }, 2)
+fn party() -> Party<ShaRule> {
+    Party::new(WHOLE, 0, Caller { uid: 0, gid: 0 }, 2)
 }
 
 fn name(alloc: Global, letter: u8) -> Result<Name, NoMemory> {
@@ -37,7 +37,7 @@ fn name(alloc: Global, letter: u8) -> Result<Name, NoMemory> {
 /// The root, and each directory under the identifier that it would have if it were the first of its name.
 #[test]
 fn keys(rt: HostRuntime) -> Result<(), Fail> {
-    let party = party(rt.alloc())?;
+    let party = party();
     let call = Call::Stat {
         path: Text::from_slice(rt.alloc(), b"//a/b/f")?,
     };

@@ -128,7 +128,7 @@ impl<R: IdRule> ClientMachine<R> {
 
     /// The client has made an Ask at this place. Where memory is wanting it may have given up calls before that one.
     #[tactic(auto, using(crate::proofs::OwnFacts::begun_took))]
-    pub fn asked(&mut self, alloc: Global, place: Place, ask: &Ask) -> Result<(), NoMemory>
+    pub(crate) fn asked(&mut self, alloc: Global, place: Place, ask: &Ask) -> Result<(), NoMemory>
         requires { self.old.counts.messages + 1 < 2 ^ 64 }
         ensures { OnOk result (client_by R.digest_of self.new ≡ asked place ask.now (client_by R.digest_of self.old)) }
     {
