@@ -1,6 +1,7 @@
 pub mod StartFacts
 pub mod TurnFacts
 pub mod BegunFacts
+pub mod BegunKept
 pub mod StepFacts
 pub mod ResultFacts
 pub mod OwnFacts

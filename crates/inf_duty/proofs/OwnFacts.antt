@@ -1,29 +1,23 @@
 -- What a client keeps while it follows its own Asks: that its counts fit.
-use Rattle.std.proofs.Common.{◌≡◌, ℕ, ◌+◌, ◌<◌, ◌≤◌, Bool, true, false, cond, eqb, List, [], ◌∷◌, length, get_or, take, fold, Option, Some, None, is_some, refl, sym, ap, ◌∙◌, arith}
+use Rattle.std.proofs.Common.{◌≡◌, ℕ, ◌+◌, ◌<◌, ◌≤◌, Bool, true, false, List, [], ◌∷◌, length, get_or, take, fold, Option, Some, None, refl, sym, ap, ◌∙◌, arith}
 use Rattle.std.proofs.lemmas.List.Sums.{fold_more}
 use Rattle.inf_base.specs.declared.answer.Answer.TheVariants as answer
-use Rattle.inf_base.specs.declared.call.Call.{Call}
-use Rattle.inf_duty.specs.Duty.{asked, at_call, begun, found_at, given_up, given_up_in, is_acting, lifts}
+use Rattle.inf_duty.specs.Duty.{asked, begun, given_up_in}
 use Rattle.inf_duty.specs.Own.{after_answer, after_own}
 use Rattle.inf_duty.specs.declared.own.OwnAsk.{OwnAsk}
-use Rattle.inf_flow_dir.specs.Client.{Client, Ending, Sent, Stage, act, answers, compose, has_place, retries, round, winds, wound}
+use Rattle.inf_duty.proofs.BegunKept.{IsKept, if_both, kept_begun}
+use Rattle.inf_flow_dir.specs.Client.{Client, Ending, Stage, act, answers, compose, has_place, retries, round, winds, wound}
 use Rattle.inf_flow_dir.specs.Flow.{clean_up}
-use Rattle.inf_flow_dir.specs.Group.{composed, course_of}
 use Rattle.inf_flow_dir.specs.Heard.{heard}
 use Rattle.inf_flow_dir.specs.Turn.{Turn, after_record, goes_on, is_complete, recorded, served, settled, turn_at, turned, winds_up}
 use Rattle.inf_message.specs.declared.ask.Ask.{Ask}
 use Rattle.inf_message.specs.declared.reply.Reply.{Reply}
-use Rattle.inf_message.specs.declared.request.Request.{Request}
 use Rattle.inf_message.specs.declared.step.Message.{Message}
 use Rattle.inf_message.specs.History.{Told, told_reply}
 
 -- its call has taken at most so many messages
 abbrev TookAtMost : ℕ → Client → Type 0
 TookAtMost count s = s.counts.messages ≤ count
-
-either : (P : Client → Type 0) (b : Bool) (x y : Client) → P x → P y → P (cond b x y)
-either P true x y here there = here
-either P false x y here there = there
 
 wound_took : (count : ℕ) (ending : Ending) (ms : List Message) (s : Client) → TookAtMost count s → TookAtMost count (wound ending ms s)
 wound_took count (answers given place) [] s took = omega arith
@@ -36,26 +30,12 @@ given_took_in count s (round keys) took = omega arith
 given_took_in count s (act flow) took = wound_took count (answers answer.NoMemory None) (clean_up s.who flow) s took
 given_took_in count s (winds ending m ms) took = took
 
-found_took : (count : ℕ) (asked : Request) (s : Client) → TookAtMost count s → TookAtMost count (found_at asked s)
-found_took count asked s took =
-    either (TookAtMost count) (lifts asked) (cond (is_acting s.stage) (given_up s) s) (composed s)
-    (either (TookAtMost count) (is_acting s.stage) (given_up s) s (given_took_in count s s.stage took) took) took
-
-at_call_took : (count number : ℕ) (asked : Request) (calls : List Call) (s : Client) → TookAtMost count s → TookAtMost count (at_call number asked calls s)
-at_call_took count number asked [] s took = took
-at_call_took count number asked (next ∷ calls) s took =
-    either (TookAtMost count) (eqb number s.number) (found_at asked s) (cond (is_some (course_of next)) (at_call number asked calls (given_up s)) s)
-    (found_took count asked s took)
-    (either (TookAtMost count) (is_some (course_of next)) (at_call number asked calls (given_up s)) s
-    (at_call_took count number asked calls (given_up s) (given_took_in count s s.stage took)) took)
-
-begun_took_with : (count : ℕ) (ask : Ask) (sent : List Sent) (s : Client) → TookAtMost count s → TookAtMost count (begun ask sent s)
-begun_took_with count ask [] s took = at_call_took count ask.from.number ask.request s.left s took
-begun_took_with count ask (x ∷ sent) s took = took
+took_kept : (count : ℕ) → IsKept (TookAtMost count)
+took_kept count = record { composing = λ s took. took; giving_up = λ s took. given_took_in count s s.stage took }
 
 -- a client that an ask finds has sent no more than before
 pub begun_took : (count : ℕ) (ask : Ask) (s : Client) → s.counts.messages ≤ count → (begun ask s.sent s).counts.messages ≤ count
-begun_took count ask s took = begun_took_with count ask s.sent s took
+begun_took count ask s took = kept_begun (TookAtMost count) (took_kept count) ask s.sent s took
 
 asked_took : (count at : ℕ) (ask : Ask) (s : Client) → TookAtMost count s → TookAtMost (count + 1) (asked at ask s)
 asked_took count at ask s took = let before = begun_took count ask s took in omega arith
@@ -70,7 +50,7 @@ settled_took count false s took = took
 
 served_took : (count at : ℕ) (told : Told) (s : Client) → TookAtMost count s → TookAtMost count (served at told s)
 served_took count at told s took =
-    either (TookAtMost count) (has_place at s.sent) (after_record (recorded at told s)) s
+    if_both (TookAtMost count) (has_place at s.sent) (after_record (recorded at told s)) s
     (settled_took count (is_complete (recorded at told s)) (recorded at told s) took) took
 
 answer_took : (count at : ℕ) (told : Option (ℕ × Reply)) (s : Client) → TookAtMost count s → TookAtMost count (after_answer at told s)
