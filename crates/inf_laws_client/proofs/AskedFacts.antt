@@ -13,12 +13,13 @@ use Rattle.inf_message.specs.declared.step.Message.{Message}
 use Rattle.inf_message.specs.History.{Told, or_told}
 use Rattle.inf_laws_client.specs.Asked.{AnswersAsked, AreAskedFor, AsksItsGroup}
 use Rattle.inf_flow_dir.specs.Client.{Client, Ending, Sent, Stage, act, answers, compose, has_place, idle, placed, retries, round, told_at, winds, wound}
-use Rattle.inf_duty.specs.Duty.{asks, at_call, begun, found_at, given_up, given_up_in, is_acting, lifts, next_step}
+use Rattle.inf_duty.specs.Duty.{asks, begun, given_up, given_up_in, next_step}
 use Rattle.inf_flow_dir.specs.Flow.{Who, clean_up, root_id}
 use Rattle.inf_flow_dir.specs.Group.{Course, composed, composed_stage, group, keys_along, keys_of, lookup_of, next_course}
 use Rattle.inf_laws_client.specs.Paths.{AnswersKeys, AnswersLookup, IsToldFor, KeepsToPath, StandsOnPath}
 use Rattle.inf_laws_client.specs.Told.{AnswersTop, IfFirst, IsOfTop}
 use Rattle.inf_flow_dir.specs.Turn.{Turn, goes_on, is_complete, recorded, served, settled, turn_at, turned, winds_up}
+use Rattle.inf_duty.proofs.BegunKept.{if_both, kept_begun}
 use Rattle.inf_laws_client.proofs.KnowsFacts.{asks_next, is_sent}
 
 -- what is told of the root's lookup is of the root
@@ -49,10 +50,6 @@ pub answers_top : (place : ℕ) (given : Reply) (s : Client) → KeepsToPath s �
 answers_top place given s keeps told = top_at s.who s.left s.stage s.sent place given keeps.stands told
 
 module _ (A : ℕ → Request → Type 0) where
-  asks_if : (b : Bool) (s other : Client) → AsksItsGroup A s → AsksItsGroup A other → AsksItsGroup A (if b then s else other)
-  asks_if true s other one two = one
-  asks_if false s other one two = two
-
   pub idle_asks : (who : Who) (calls : List Call) → AsksItsGroup A (idle who calls)
   idle_asks who calls = record { asked = tt }
 
@@ -87,22 +84,9 @@ module _ (A : ℕ → Request → Type 0) where
   pub given_up_asks : (s : Client) → AsksItsGroup A s → AsksItsGroup A (given_up s)
   given_up_asks s asks_its = given_up_at s s.stage asks_its
 
-  found_asks : (asked : Request) (s : Client) → AsksItsGroup A s → AsksItsGroup A (found_at asked s)
-  found_asks asked s asks_its =
-      asks_if (lifts asked) _ _ (asks_if (is_acting s.stage) _ _ (given_up_asks s asks_its) asks_its) (composed_asks s asks_its)
-
-  at_call_asks : (number : ℕ) (asked : Request) (calls : List Call) (s : Client) → AsksItsGroup A s → AsksItsGroup A (at_call number asked calls s)
-  at_call_asks number asked [] s asks_its = asks_its
-  at_call_asks number asked (call ∷ calls) s asks_its =
-      asks_if (number == s.number) _ _ (found_asks asked s asks_its)
-      (asks_if _ (at_call number asked calls (given_up s)) s (at_call_asks number asked calls (given_up s) (given_up_asks s asks_its)) asks_its)
-
-  begun_in : (ask : Ask) (sent : List Sent) (s : Client) → AsksItsGroup A s → AsksItsGroup A (begun ask sent s)
-  begun_in ask [] s asks_its = at_call_asks ask.from.number ask.request s.left s asks_its
-  begun_in ask (x ∷ xs) s asks_its = asks_its
-
   pub begun_asks : (ask : Ask) (s : Client) → AsksItsGroup A s → AsksItsGroup A (begun ask s.sent s)
-  begun_asks ask s asks_its = begun_in ask s.sent s asks_its
+  begun_asks ask s asks_its =
+      kept_begun (AsksItsGroup A) (record { composing = composed_asks; giving_up = given_up_asks }) ask s.sent s asks_its
 
   -- ---- an Ask more
 
@@ -143,7 +127,7 @@ module _ (A : ℕ → Request → Type 0) where
   pub served_asks : (place : ℕ) (told : Told) (s : Client) → AsksItsGroup A s → AsksItsGroup A (served place told s)
   served_asks place told s asks_its =
       let here : AsksItsGroup A (recorded place told s) = record { asked = asked_told place told (group s.who s.stage) s.sent asks_its.asked } in
-      asks_if (has_place place s.sent) _ s (settled_asks (is_complete (recorded place told s)) (recorded place told s) here) asks_its
+      if_both (AsksItsGroup A) (has_place place s.sent) _ s (settled_asks (is_complete (recorded place told s)) (recorded place told s) here) asks_its
 
   -- ---- what is told of them
 

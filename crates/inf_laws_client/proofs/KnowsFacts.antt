@@ -16,11 +16,12 @@ use Rattle.inf_message.specs.declared.step.Message.{Message}
 use Rattle.inf_message.specs.History.{Told, or_told}
 use Rattle.inf_server.specs.Chains.{chains_of}
 use Rattle.inf_flow_dir.specs.Client.{Client, Ending, Sent, Stage, act, answers, compose, has_place, idle, placed, retries, round, told_at, winds, wound}
-use Rattle.inf_duty.specs.Duty.{asks, at_call, begun, found_at, given_up, given_up_in, is_acting, lifts, next_in, next_of, next_step}
+use Rattle.inf_duty.specs.Duty.{asks, begun, given_up, given_up_in, next_in, next_of, next_step}
 use Rattle.inf_flow_dir.specs.Flow.{Flow, Who, clean_up, finishes, links, makes, message_of, reserves, seals, unlinks}
 use Rattle.inf_flow_dir.specs.Group.{Course, composed, composed_stage, group, keys_of, lookup_of, next_course}
 use Rattle.inf_laws_client.specs.Told.{AllTell, AnswersTop, ArePlain, BeginsAtTop, CarriesOnly, FirstIsTop, IfFirst, IfTold, IsChainOf, IsOfTop, KnowsOnly, StandsOn, TellsOnly, chain_of}
 use Rattle.inf_flow_dir.specs.Turn.{Turn, goes_on, is_complete, recorded, served, settled, turn_at, turned, winds_up}
+use Rattle.inf_duty.proofs.BegunKept.{if_both, kept_begun}
 use Rattle.inf_laws_client.proofs.ChainFacts.{TurnStands, plain_clean_up, turn_stands}
 
 -- ---- an answer among those to a group
@@ -96,10 +97,6 @@ module _ (T : Key → Access → Type 0) where
   all_more [] x none told = (subst (λ (o : Option Told). IfTold (TellsOnly T) o) (sym none) tt, tt)
   all_more (first ∷ sent) x none told = (told.0, all_more sent x none told.1)
 
-  knows_if : (b : Bool) (s other : Client) → KnowsOnly T s → KnowsOnly T other → KnowsOnly T (if b then s else other)
-  knows_if true s other one two = one
-  knows_if false s other one two = two
-
   pub idle_knows : (who : Who) (calls : List Call) → KnowsOnly T (idle who calls)
   idle_knows who calls = record { answers = tt; begins = refl; stands = tt }
 
@@ -141,22 +138,8 @@ module _ (T : Key → Access → Type 0) where
   pub given_up_knows : (s : Client) → KnowsOnly T s → KnowsOnly T (given_up s)
   given_up_knows s knows = given_up_at s s.stage knows
 
-  found_knows : (asked : Request) (s : Client) → KnowsOnly T s → KnowsOnly T (found_at asked s)
-  found_knows asked s knows =
-      knows_if (lifts asked) _ _ (knows_if (is_acting s.stage) _ _ (given_up_knows s knows) knows) (composed_knows s knows)
-
-  at_call_knows : (number : ℕ) (asked : Request) (calls : List Call) (s : Client) → KnowsOnly T s → KnowsOnly T (at_call number asked calls s)
-  at_call_knows number asked [] s knows = knows
-  at_call_knows number asked (call ∷ calls) s knows =
-      knows_if (number == s.number) _ _ (found_knows asked s knows)
-      (knows_if _ (at_call number asked calls (given_up s)) s (at_call_knows number asked calls (given_up s) (given_up_knows s knows)) knows)
-
-  begun_in : (ask : Ask) (sent : List Sent) (s : Client) → KnowsOnly T s → KnowsOnly T (begun ask sent s)
-  begun_in ask [] s knows = at_call_knows ask.from.number ask.request s.left s knows
-  begun_in ask (x ∷ xs) s knows = knows
-
   pub begun_knows : (ask : Ask) (s : Client) → KnowsOnly T s → KnowsOnly T (begun ask s.sent s)
-  begun_knows ask s knows = begun_in ask s.sent s knows
+  begun_knows ask s knows = kept_begun (KnowsOnly T) (record { composing = composed_knows; giving_up = given_up_knows }) ask s.sent s knows
 
   pub placed_knows : (place number : ℕ) (ask : Ask) (s : Client) → KnowsOnly T s → next_step s ≡ asks number ask → KnowsOnly T (placed place s)
   placed_knows place number ask s knows is =
@@ -184,7 +167,7 @@ module _ (T : Key → Access → Type 0) where
   pub served_knows : (place : ℕ) (told : Told) (s : Client) → KnowsOnly T s → TellsOnly T told.reply → AnswersTop s.stage s.sent place told.reply
       → KnowsOnly T (served place told s)
   served_knows place told s knows tells top =
-      knows_if (has_place place s.sent) _ s
+      if_both (KnowsOnly T) (has_place place s.sent) _ s
       (settled_knows (is_complete (recorded place told s)) (recorded place told s) (recorded_knows place told s knows tells top)) knows
 
   -- ---- what is sent

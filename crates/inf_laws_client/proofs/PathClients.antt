@@ -1,31 +1,27 @@
 -- Clients keep to the paths of their calls.
-use Rattle.std.proofs.Common.{◌≡◌, ℕ, ◌==◌, Bool, true, false, if◌then◌else◌, List, [], ◌∷◌, ◌++◌, length, map, slice_get, Option, Some, None, refl, sym, ap, subst}
+use Rattle.std.proofs.Common.{◌≡◌, ℕ, ◌==◌, Bool, true, false, List, [], ◌∷◌, ◌++◌, length, map, slice_get, Option, Some, None, refl, sym, ap, subst}
 use Rattle.std.proofs.lemmas.Bool.Decides.{Decides-eqb}
 use Rattle.inf_base.specs.declared.answer.Answer.TheVariants as answer
 use Rattle.inf_base.specs.declared.call.Call.{Call}
 use Rattle.inf_base.specs.declared.key.LookKey.{LookKey}
 use Rattle.inf_base.specs.declared.key.LookKey.TheVariants as look
 use Rattle.inf_message.specs.declared.ask.Ask.{Ask}
-use Rattle.inf_message.specs.declared.request.Request.{Request}
 use Rattle.inf_message.specs.declared.step.Message.{Message}
 use Rattle.inf_message.specs.History.{Told}
 use Rattle.inf_flow_dir.specs.Client.{Client, Ending, Sent, Stage, act, answers, compose, has_place, idle, placed, retries, round, told_at, winds, wound}
-use Rattle.inf_duty.specs.Duty.{asks, at_call, begun, found_at, given_up, given_up_in, is_acting, lifts, next_of, next_step}
+use Rattle.inf_duty.specs.Duty.{asks, begun, given_up, given_up_in, next_of, next_step}
 use Rattle.inf_flow_dir.specs.Flow.{Flow, Who, clean_up, root_id}
 use Rattle.inf_flow_dir.specs.Group.{Course, composed, composed_stage, course_of, group, keys_along, keys_of, next_course}
 use Rattle.inf_laws_client.specs.Paths.{AnswersKeys, AnswersLookup, AreToldFor, FlowFollows, Follows, IsToldFor, KeepsToPath, StandsOnPath, TurnFollows}
 use Rattle.inf_laws_client.specs.Told.{IfTold}
 use Rattle.inf_flow_dir.specs.Turn.{Turn, act_turn, after_act, after_round, goes_on, is_complete, recorded, served, settled, turn_at, turned, winds_up}
+use Rattle.inf_duty.proofs.BegunKept.{if_both, kept_begun}
 use Rattle.inf_laws_client.proofs.KnowsFacts.{asks_next, told_one}
 use Rattle.inf_laws_client.proofs.PathFacts.{after_act_follows, after_round_follows}
 
 abbrev TurnKeeps : Who → List Call → Turn → Type 0
 TurnKeeps who calls (goes_on next) = StandsOnPath who calls next []
 TurnKeeps who calls (winds_up ending more) = Unit {0}
-
-keeps_if : (b : Bool) (s other : Client) → KeepsToPath s → KeepsToPath other → KeepsToPath (if b then s else other)
-keeps_if true s other one two = one
-keeps_if false s other one two = two
 
 pub idle_keeps : (who : Who) (calls : List Call) → KeepsToPath (idle who calls)
 idle_keeps who calls = record { stands = refl }
@@ -65,21 +61,8 @@ given_up_at s (round keys) keeps = record { stands = refl }
 pub given_up_keeps : (s : Client) → KeepsToPath s → KeepsToPath (given_up s)
 given_up_keeps s keeps = given_up_at s s.stage keeps
 
-found_keeps : (asked : Request) (s : Client) → KeepsToPath s → KeepsToPath (found_at asked s)
-found_keeps asked s keeps = keeps_if (lifts asked) _ _ (keeps_if (is_acting s.stage) _ _ (given_up_keeps s keeps) keeps) (composed_keeps s keeps)
-
-at_call_keeps : (number : ℕ) (asked : Request) (calls : List Call) (s : Client) → KeepsToPath s → KeepsToPath (at_call number asked calls s)
-at_call_keeps number asked [] s keeps = keeps
-at_call_keeps number asked (call ∷ calls) s keeps =
-    keeps_if (number == s.number) _ _ (found_keeps asked s keeps)
-    (keeps_if _ (at_call number asked calls (given_up s)) s (at_call_keeps number asked calls (given_up s) (given_up_keeps s keeps)) keeps)
-
-begun_in : (ask : Ask) (sent : List Sent) (s : Client) → KeepsToPath s → KeepsToPath (begun ask sent s)
-begun_in ask [] s keeps = at_call_keeps ask.from.number ask.request s.left s keeps
-begun_in ask (x ∷ xs) s keeps = keeps
-
 pub begun_keeps : (ask : Ask) (s : Client) → KeepsToPath s → KeepsToPath (begun ask s.sent s)
-begun_keeps ask s keeps = begun_in ask s.sent s keeps
+begun_keeps ask s keeps = kept_begun KeepsToPath (record { composing = composed_keeps; giving_up = given_up_keeps }) ask s.sent s keeps
 
 -- ---- an Ask more
 
@@ -165,4 +148,4 @@ settled_keeps false s keeps = keeps
 pub served_keeps : (place : ℕ) (told : Told) (s : Client) → KeepsToPath s → AnswersLookup s.stage s.sent place told.reply → KeepsToPath (served place told s)
 served_keeps place told s keeps now =
     let here : KeepsToPath (recorded place told s) = record { stands = told_stands s.who s.left place told s.stage s.sent now keeps.stands } in
-    keeps_if (has_place place s.sent) _ s (settled_keeps (is_complete (recorded place told s)) (recorded place told s) here) keeps
+    if_both KeepsToPath (has_place place s.sent) _ s (settled_keeps (is_complete (recorded place told s)) (recorded place told s) here) keeps
