@@ -42,7 +42,7 @@ module _ (world : World) (h : List Event) (number : ℕ) (ask : Ask) (kept : Kep
   goes_asked s duty goes = record {
     knows = placed_knows TrueNow (suc (length h)) number ask (begun ask s.sent s) (begun_knows TrueNow ask s goes.knows) duty;
     path = placed_keeps (suc (length h)) number ask (begun ask s.sent s) (begun_keeps ask s goes.path) duty;
-    hand = placed_in_hand kept.phases (suc (length h)) (begun ask s.sent s) (begun_in_hand kept.phases ask s goes.hand).0;
+    hand = placed_in_hand kept.phases (suc (length h)) (begun ask s.sent s) (begun_in_hand kept.phases ask s goes.hand);
   }
 
   goes_before : (client : ℕ) → Goes (client_after world client h)

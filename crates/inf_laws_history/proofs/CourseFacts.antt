@@ -1,13 +1,12 @@
 -- A client acts, in any history, only for a call that has a course: one of the kinds that go by flows, with a path that is
 -- in order.
-use Rattle.std.proofs.Common.{suc, ap, ◌≡◌, ℕ, ◌==◌, Bool, true, false, if◌then◌else◌, List, [], ◌∷◌, length, slice_get, Option, Some, None, is_some, refl}
+use Rattle.std.proofs.Common.{suc, ap, ◌≡◌, ℕ, ◌==◌, Bool, true, false, List, [], ◌∷◌, length, slice_get, Option, Some, None, is_some, refl}
 use Rattle.inf_base.specs.declared.answer.Answer.TheVariants as answer
 use Rattle.inf_base.specs.declared.call.Call.{Call}
 use Rattle.inf_base.specs.declared.setup.ClientLine.{ClientLine}
 use Rattle.inf_message.specs.declared.ask.Ask.{Ask}
 use Rattle.inf_message.specs.declared.event.Event.{Event}
 use Rattle.inf_message.specs.declared.event.Event.TheVariants as event
-use Rattle.inf_message.specs.declared.request.Request.{Request}
 use Rattle.inf_message.specs.declared.step.Message.{Message}
 use Rattle.inf_message.specs.History.{Told, told_reply}
 use Rattle.inf_flow_dir.specs.Client.{Client, Ending, Sent, Stage, act, answers, compose, has_place, retries, round, winds, wound}
@@ -16,9 +15,10 @@ use Rattle.inf_flow_dir.specs.Group.{Course, composed, composed_stage, keys_of, 
 use Rattle.inf_flow_dir.specs.Heard.{heard}
 use Rattle.inf_flow_dir.specs.Turn.{Turn, after_record, after_round, goes_on, is_complete, recorded, served, settled, turn_at, turned, winds_up}
 use Rattle.inf_duty.specs.After.{client_after}
-use Rattle.inf_duty.specs.Duty.{at_call, begun, found_at, given_up, given_up_in, is_acting, lifts}
+use Rattle.inf_duty.specs.Duty.{begun, given_up, given_up_in}
 use Rattle.inf_duty.specs.Start.{starting}
 use Rattle.inf_duty.specs.World.{World}
+use Rattle.inf_duty.proofs.BegunKept.{if_both, kept_begun}
 
 -- where a flow is at work, the call has a course
 abbrev pub StageHasCourse : List Call → Stage → Type 0
@@ -33,10 +33,6 @@ pub record HasCourse (s : Client) : Type 0 where
 abbrev TurnHasCourse : List Call → Turn → Type 0
 TurnHasCourse calls (goes_on next) = StageHasCourse calls next
 TurnHasCourse calls (winds_up ending more) = Unit {0}
-
-course_if : (b : Bool) (s other : Client) → HasCourse s → HasCourse other → HasCourse (if b then s else other)
-course_if true s other one two = one
-course_if false s other one two = two
 
 wound_course : (ending : Ending) (more : List Message) (s : Client) → HasCourse (wound ending more s)
 wound_course (answers given place) [] s = record { course = tt }
@@ -90,19 +86,8 @@ given_up_at s (round keys) has = record { course = tt }
 given_up_course : (s : Client) → HasCourse s → HasCourse (given_up s)
 given_up_course s has = given_up_at s s.stage has
 
-found_course : (asked : Request) (s : Client) → HasCourse s → HasCourse (found_at asked s)
-found_course asked s has =
-    course_if (lifts asked) _ _ (course_if (is_acting s.stage) _ _ (given_up_course s has) has) (composed_course s has)
-
-at_call_course : (number : ℕ) (asked : Request) (calls : List Call) (s : Client) → HasCourse s → HasCourse (at_call number asked calls s)
-at_call_course number asked [] s has = has
-at_call_course number asked (call ∷ calls) s has =
-    course_if (number == s.number) _ _ (found_course asked s has)
-    (course_if _ (at_call number asked calls (given_up s)) s (at_call_course number asked calls (given_up s) (given_up_course s has)) has)
-
 begun_course : (ask : Ask) (sent : List Sent) (s : Client) → HasCourse s → HasCourse (begun ask sent s)
-begun_course ask [] s has = at_call_course ask.from.number ask.request s.left s has
-begun_course ask (x ∷ xs) s has = has
+begun_course ask sent s has = kept_begun HasCourse (record { composing = composed_course; giving_up = given_up_course }) ask sent s has
 
 settled_course : (b : Bool) (s : Client) → HasCourse s → HasCourse (settled b s)
 settled_course true s has = turned_course (turn_at s s.stage) s (turn_course s s.stage has.course)
@@ -111,7 +96,7 @@ settled_course false s has = has
 served_course : (place : ℕ) (told : Told) (s : Client) → HasCourse s → HasCourse (served place told s)
 served_course place told s has =
     let here : HasCourse (recorded place told s) = record { course = has.course } in
-    course_if (has_place place s.sent) (after_record (recorded place told s)) s
+    if_both HasCourse (has_place place s.sent) (after_record (recorded place told s)) s
     (settled_course (is_complete (recorded place told s)) (recorded place told s) here) has
 
 starting_course : (world : World) (client : ℕ) (line : Option ClientLine) → HasCourse (starting world client line)
@@ -122,6 +107,6 @@ pub has_course : (world : World) (client : ℕ) (h : List Event) → HasCourse (
 has_course world client [] = starting_course world client (slice_get world.setup.clients client)
 has_course world client (event.Ask number ask ∷ h) =
     let before = has_course world client h in
-    course_if (ask.from.client == client) _ _ (record { course = (begun_course ask (client_after world client h).sent (client_after world client h) before).course }) before
+    if_both HasCourse (ask.from.client == client) _ _ (record { course = (begun_course ask (client_after world client h).sent (client_after world client h) before).course }) before
 has_course world client (event.Serve number ask_place given ∷ h) =
     served_course ask_place (told_reply (suc (length h)) (heard given)) (client_after world client h) (has_course world client h)

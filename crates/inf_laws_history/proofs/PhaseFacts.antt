@@ -11,7 +11,8 @@ use Rattle.inf_base.specs.declared.caller.CallRef.{CallRef}
 use Rattle.inf_base.specs.declared.entry.Entry.{Entry}
 use Rattle.inf_base.specs.declared.key.Key.{Key}
 use Rattle.inf_base.specs.declared.key.LookKey.{LookKey}
-use Rattle.inf_duty.specs.Duty.{at_call, begun, found_at, given_up, given_up_in, is_acting, lifts}
+use Rattle.inf_duty.specs.Duty.{begun, given_up_in}
+use Rattle.inf_duty.proofs.BegunKept.{IsKept, if_both, kept_begun}
 use Rattle.inf_flow_dir.specs.Client.{Client, Ending, Sent, Stage, act, answers, call_ref, compose, finished, has_place, idle as idle_client, is_told, placed, retries, round, winds, wound}
 use Rattle.inf_flow_dir.specs.Flow.{Who, clean_up, message_of}
 use Rattle.inf_flow_dir.specs.Group.{Course, composed_stage, group, keys_of, next_course}
@@ -89,70 +90,34 @@ turned_in_hand phases (winds_up ending more) s has others = wound_in_hand phases
 
 -- ---- before a group
 
--- the client goes on as the same
-record Goes (phases : Phases) (s next : Client) : Type 0 where
-  hand : InHand phases next
-  who : next.who ≡ s.who
-
-goes_if : (phases : Phases) (b : Bool) (s next other : Client) → Goes phases s next → Goes phases s other → Goes phases s (if b then next else other)
-goes_if phases true s next other one two = one
-goes_if phases false s next other one two = two
-
-finished_who : (ending : Ending) (s : Client) → (finished ending s).who ≡ s.who
-finished_who (answers given place) s = refl
-finished_who retries s = refl
-
-wound_who : (ending : Ending) (more : List Message) (s : Client) → (wound ending more s).who ≡ s.who
-wound_who ending [] s = finished_who ending s
-wound_who ending (m ∷ ms) s = refl
-
 keys_in_hand : (phases : Phases) (s : Client) (found : Option Course) → phases (call_ref s) ≡ idle → OthersIdle phases s
-    → Goes phases s (record s { stage = keys_of s.who found })
-keys_in_hand phases s None here others = record { hand = record { phase = here; others = others; may = tt }; who = refl }
-keys_in_hand phases s (Some course) here others = record { hand = record { phase = here; others = others; may = tt }; who = refl }
+    → InHand phases (record s { stage = keys_of s.who found })
+keys_in_hand phases s None here others = record { phase = here; others = others; may = tt }
+keys_in_hand phases s (Some course) here others = record { phase = here; others = others; may = tt }
 
-composed_goes : (phases : Phases) (s : Client) (stage : Stage) → HasPhase s.who stage (phases (call_ref s)) → OthersIdle phases s
-    → StageMay s.who.caller stage → Goes phases s (record s { stage = composed_stage s stage })
-composed_goes phases s compose here others may = keys_in_hand phases s (next_course s.left) here others
-composed_goes phases s (round keys) here others may = record { hand = record { phase = here; others = others; may = may }; who = refl }
-composed_goes phases s (act flow) here others may = record { hand = record { phase = here; others = others; may = may }; who = refl }
-composed_goes phases s (winds ending m ms) here others may = record { hand = record { phase = here; others = others; may = may }; who = refl }
+composed_in_hand : (phases : Phases) (s : Client) (stage : Stage) → HasPhase s.who stage (phases (call_ref s)) → OthersIdle phases s
+    → StageMay s.who.caller stage → InHand phases (record s { stage = composed_stage s stage })
+composed_in_hand phases s compose here others may = keys_in_hand phases s (next_course s.left) here others
+composed_in_hand phases s (round keys) here others may = record { phase = here; others = others; may = may }
+composed_in_hand phases s (act flow) here others may = record { phase = here; others = others; may = may }
+composed_in_hand phases s (winds ending m ms) here others may = record { phase = here; others = others; may = may }
 
 given_up_at : (phases : Phases) (s : Client) (stage : Stage) → HasPhase s.who stage (phases (call_ref s)) → InHand phases s
-    → Goes phases s (given_up_in s stage)
-given_up_at phases s (act flow) here hand = record {
-  hand = wound_in_hand phases (answers answer.NoMemory None) (clean_up s.who flow) s (clean_up_lifts s.who flow (phases (call_ref s)) here) hand.others;
-  who = wound_who (answers answer.NoMemory None) (clean_up s.who flow) s;
+    → InHand phases (given_up_in s stage)
+given_up_at phases s (act flow) here hand =
+    wound_in_hand phases (answers answer.NoMemory None) (clean_up s.who flow) s (clean_up_lifts s.who flow (phases (call_ref s)) here) hand.others
+given_up_at phases s (winds ending m ms) here hand = hand
+given_up_at phases s compose here hand = finished_in_hand phases (answers answer.NoMemory None) s (all_idle phases s here hand.others)
+given_up_at phases s (round keys) here hand = finished_in_hand phases (answers answer.NoMemory None) s (all_idle phases s here hand.others)
+
+in_hand_kept : (phases : Phases) → IsKept (InHand phases)
+in_hand_kept phases = record {
+  composing = λ s hand. composed_in_hand phases s s.stage hand.phase hand.others hand.may;
+  giving_up = λ s hand. given_up_at phases s s.stage hand.phase hand;
 }
-given_up_at phases s (winds ending m ms) here hand = record { hand = hand; who = refl }
-given_up_at phases s compose here hand =
-    record { hand = finished_in_hand phases (answers answer.NoMemory None) s (all_idle phases s here hand.others); who = refl }
-given_up_at phases s (round keys) here hand =
-    record { hand = finished_in_hand phases (answers answer.NoMemory None) s (all_idle phases s here hand.others); who = refl }
 
-given_up_goes : (phases : Phases) (s : Client) → InHand phases s → Goes phases s (given_up s)
-given_up_goes phases s hand = given_up_at phases s s.stage hand.phase hand
-
-found_goes : (phases : Phases) (asked : Request) (s : Client) → InHand phases s → Goes phases s (found_at asked s)
-found_goes phases asked s hand =
-    goes_if phases (lifts asked) s _ _ (goes_if phases (is_acting s.stage) s _ _ (given_up_goes phases s hand) (record { hand = hand; who = refl }))
-    (composed_goes phases s s.stage hand.phase hand.others hand.may)
-
-at_call_goes : (phases : Phases) (number : ℕ) (asked : Request) (calls : List Call) (s : Client) → InHand phases s → Goes phases s (at_call number asked calls s)
-at_call_goes phases number asked [] s hand = record { hand = hand; who = refl }
-at_call_goes phases number asked (call ∷ calls) s hand =
-    let up = given_up_goes phases s hand in
-    let later = at_call_goes phases number asked calls (given_up s) up.hand in
-    goes_if phases (number == s.number) s _ _ (found_goes phases asked s hand)
-    (goes_if phases _ s (at_call number asked calls (given_up s)) s (record { hand = later.hand; who = later.who ∙ up.who }) (record { hand = hand; who = refl }))
-
-begun_goes : (phases : Phases) (ask : Ask) (sent : List Sent) (s : Client) → InHand phases s → Goes phases s (begun ask sent s)
-begun_goes phases ask [] s hand = at_call_goes phases ask.from.number ask.request s.left s hand
-begun_goes phases ask (x ∷ xs) s hand = record { hand = hand; who = refl }
-
-pub begun_in_hand : (phases : Phases) (ask : Ask) (s : Client) → InHand phases s
-    → InHand phases (begun ask s.sent s) × ((begun ask s.sent s).who ≡ s.who)
-begun_in_hand phases ask s hand = let goes = begun_goes phases ask s.sent s hand in (goes.hand, goes.who)
+pub begun_in_hand : (phases : Phases) (ask : Ask) (s : Client) → InHand phases s → InHand phases (begun ask s.sent s)
+begun_in_hand phases ask s hand = kept_begun (InHand phases) (in_hand_kept phases) ask s.sent s hand
 
 pub placed_in_hand : (phases : Phases) (place : ℕ) (s : Client) → InHand phases s → InHand phases (placed place s)
 placed_in_hand phases place s hand = record { phase = hand.phase; others = hand.others; may = hand.may }
@@ -211,10 +176,6 @@ one_in_hand phases s stage place told phase one has others =
     (turned_in_hand now t (answered place told stage s)
     (subst (λ (p : Phase). TurnHas s.who p t) (sym (phase_here (call_ref s) phase phases)) has) (others_stay phases s phase others))
 
-hand_if : (phases : Phases) (b : Bool) (s other : Client) → InHand phases s → InHand phases other → InHand phases (if b then s else other)
-hand_if phases true s other one two = one
-hand_if phases false s other one two = two
-
 settled_in_hand : (phases : Phases) (b : Bool) (s : Client) → InHand phases s → TurnHas s.who (phases (call_ref s)) (turn_at s s.stage)
     → InHand phases (settled b s)
 settled_in_hand phases true s hand has = turned_in_hand phases (turn_at s s.stage) s has hand.others
@@ -224,7 +185,7 @@ round_in_hand : (phases : Phases) (s : Client) (keys : List LookKey) (sent : Lis
     → OthersIdle phases s → InHand phases (served place told (staged s (round keys) sent))
 round_in_hand phases s keys sent place told none others =
     let now = recorded place told (staged s (round keys) sent) in
-    hand_if phases (has_place place sent) (after_record now) (staged s (round keys) sent)
+    if_both (InHand phases) (has_place place sent) (after_record now) (staged s (round keys) sent)
     (settled_in_hand phases (is_complete now) now (record { phase = none; others = others; may = tt })
     (round_has s.who (phases (call_ref s)) none s.left now.sent))
     (record { phase = none; others = others; may = tt })
