@@ -50,7 +50,7 @@ use Rattle.inf_renames.proofs.RenamesFacts.{same_id}
 use Rattle.inf_laws_history.proofs.AgainCauses.{any_content, content_there, flies, found_at, last_of_three, owned_flies, same_client, sealing, way_is_other}
 use Rattle.inf_laws_history.proofs.BlockedRequests.{IsBlocked, IsBorne, is_of_self, request_busy}
 use Rattle.inf_laws_history.proofs.ClashCauses.{found_id, same_triple_self}
-use Rattle.inf_laws_history.proofs.ClientSteps.{if_both}
+use Rattle.inf_duty.proofs.BegunKept.{if_both}
 use Rattle.inf_laws_history.proofs.ContentBirths.{IsBirth, WasMade, births_after, each_server, so_found, top_free}
 use Rattle.inf_laws_history.proofs.IdleReplies.{never_busy}
 use Rattle.inf_laws_history.proofs.LinkBirths.{AllMade, IsMadeAt, StandsAsMade, found_made, made_still, served_made}

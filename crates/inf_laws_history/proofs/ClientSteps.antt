@@ -1,30 +1,27 @@
 -- What one event does to a client: its cases, what every step keeps, and that only the Asks of a client are waited for.
-use Rattle.std.proofs.Common.{◌≡◌, ℕ, suc, ◌||◌, Bool, true, false, cond, if◌then◌else◌, eqb, List, [], ◌∷◌, ◌++◌, length, map, slice_get, Option, Some, None, is_some, refl, sym, ap, ap₂, ◌∙◌, subst}
+use Rattle.std.proofs.Common.{◌≡◌, ℕ, suc, ◌||◌, Bool, true, false, cond, eqb, List, [], ◌∷◌, ◌++◌, length, map, slice_get, Option, Some, None, refl, sym, ap, ap₂, ◌∙◌, subst}
 use Rattle.std.proofs.lemmas.Bool.Decides.{Decides-eqb}
 use Rattle.inf_base.specs.declared.answer.Answer.{Answer}
 use Rattle.inf_base.specs.declared.answer.Answer.TheVariants as answer
-use Rattle.inf_base.specs.declared.call.Call.{Call}
 use Rattle.inf_base.specs.declared.setup.ClientLine.{ClientLine}
 use Rattle.inf_duty.specs.After.{client_after}
-use Rattle.inf_duty.specs.Duty.{asked, at_call, begun, found_at, given_up, given_up_in, is_acting, lifts}
+use Rattle.inf_duty.specs.Duty.{asked, begun, given_up, given_up_in}
 use Rattle.inf_duty.specs.Start.{start, starting, who_in}
 use Rattle.inf_duty.specs.World.{World}
+use Rattle.inf_duty.proofs.BegunKept.{IsKept, if_both, kept_begun}
 use Rattle.inf_flow_dir.specs.Client.{Client, Ending, Sent, Stage, act, answers, begins_again, compose, ended, has_place, retries, round, told_at, winds, wound}
 use Rattle.inf_flow_dir.specs.Flow.{clean_up}
-use Rattle.inf_flow_dir.specs.Group.{composed, course_of}
+use Rattle.inf_flow_dir.specs.Group.{composed}
 use Rattle.inf_flow_dir.specs.Heard.{heard}
 use Rattle.inf_flow_dir.specs.Turn.{Turn, after_record, goes_on, is_complete, recorded, served, settled, turn_at, turned, winds_up}
+use Rattle.inf_laws_history.specs.Decisions.{decided_at_stage, decided_for, decided_if, decided_when}
 use Rattle.inf_message.specs.declared.ask.Ask.{Ask}
 use Rattle.inf_message.specs.declared.event.Event.{Event}
 use Rattle.inf_message.specs.declared.event.Event.TheVariants as event
-use Rattle.inf_message.specs.declared.request.Request.{Request}
 use Rattle.inf_message.specs.declared.step.Message.{Message}
 use Rattle.inf_message.specs.History.{Posted, Told, asked_at, posted_ask, told_reply}
 use Rattle.inf_message.proofs.HistoryLaws.{asked_newest, asked_stays, asked_within}
-
-pub if_both : {A : Type 0} (P : A → Type 0) (b : Bool) (x y : A) → P x → P y → P (if b then x else y)
-if_both P true x y here there = here
-if_both P false x y here there = there
+use Rattle.inf_tree.specs.Replay.{Decided}
 
 -- ---- a property that ends, new attempts, clean-ups and new stages keep
 
@@ -53,37 +50,39 @@ module _ (P : Client → Type 0) (lasts : Lasts P) where
   pub given_up_lasts : (s : Client) → P s → P (given_up s)
   given_up_lasts s now = given_up_at s s.stage now
 
-  found_lasts : (asked : Request) (s : Client) → P s → P (found_at asked s)
-  found_lasts asked s now =
-      if_both P (lifts asked) _ _ (if_both P (is_acting s.stage) _ _ (given_up_lasts s now) now) (lasts.composing s now)
-
-  at_call_lasts : (number : ℕ) (asked : Request) (calls : List Call) (s : Client) → P s → P (at_call number asked calls s)
-  at_call_lasts number asked [] s now = now
-  at_call_lasts number asked (call ∷ calls) s now =
-      if_both P (eqb number s.number) _ _ (found_lasts asked s now)
-      (if_both P (is_some (course_of call)) (at_call number asked calls (given_up s)) s
-      (at_call_lasts number asked calls (given_up s) (given_up_lasts s now)) now)
+  pub lasts_kept : IsKept P
+  lasts_kept = record { composing = lasts.composing; giving_up = given_up_lasts }
 
   pub begun_lasts : (ask : Ask) (sent : List Sent) (s : Client) → P s → P (begun ask sent s)
-  begun_lasts ask [] s now = at_call_lasts ask.from.number ask.request s.left s now
-  begun_lasts ask (x ∷ sent) s now = now
+  begun_lasts ask sent s now = kept_begun P lasts_kept ask sent s now
 
 -- ---- the cases of an answer
 
+-- a Serve is not the client's; or its group goes on; or its group is over
+pub by_serve : (P : Client → List Decided → Type 0) (ask_place : ℕ) (told : Told) (s : Client)
+    → (has_place ask_place s.sent ≡ false → P s [])
+    → (has_place ask_place s.sent ≡ true → is_complete (recorded ask_place told s) ≡ false → P (recorded ask_place told s) [])
+    → (has_place ask_place s.sent ≡ true → is_complete (recorded ask_place told s) ≡ true
+    → P (turned (turn_at (recorded ask_place told s) s.stage) (recorded ask_place told s)) (decided_at_stage (recorded ask_place told s) s.stage))
+    → P (served ask_place told s) (decided_for ask_place told s)
+by_serve P ask_place told s apart going over = by_place (has_place ask_place s.sent) refl
+  where
+    by_end : has_place ask_place s.sent ≡ true → (b : Bool) → is_complete (recorded ask_place told s) ≡ b
+        → P (settled b (recorded ask_place told s)) (decided_if b (recorded ask_place told s))
+    by_end here false e = going here e
+    by_end here true e = over here e
+
+    by_place : (b : Bool) → has_place ask_place s.sent ≡ b → P (cond b (after_record (recorded ask_place told s)) s) (decided_when b ask_place told s)
+    by_place false e = apart e
+    by_place true e = by_end e (is_complete (recorded ask_place told s)) refl
+
+-- the same of the client alone
 pub by_answer : (P : Client → Type 0) (ask_place : ℕ) (told : Told) (s : Client)
     → (has_place ask_place s.sent ≡ false → P s)
     → (has_place ask_place s.sent ≡ true → is_complete (recorded ask_place told s) ≡ false → P (recorded ask_place told s))
     → (has_place ask_place s.sent ≡ true → is_complete (recorded ask_place told s) ≡ true → P (turned (turn_at (recorded ask_place told s) s.stage) (recorded ask_place told s)))
     → P (served ask_place told s)
-by_answer P ask_place told s apart going over = by_place (has_place ask_place s.sent) refl
-  where
-    by_end : has_place ask_place s.sent ≡ true → (b : Bool) → is_complete (recorded ask_place told s) ≡ b → P (settled b (recorded ask_place told s))
-    by_end here false e = going here e
-    by_end here true e = over here e
-
-    by_place : (b : Bool) → has_place ask_place s.sent ≡ b → P (cond b (after_record (recorded ask_place told s)) s)
-    by_place false e = apart e
-    by_place true e = by_end e (is_complete (recorded ask_place told s)) refl
+by_answer P ask_place told s apart going over = by_serve (λ t made. P t) ask_place told s apart going over
 
 pub served_apart : (ask_place : ℕ) (told : Told) (s : Client) → has_place ask_place s.sent ≡ false → served ask_place told s ≡ s
 served_apart ask_place told s apart = ap (λ b. cond b (after_record (recorded ask_place told s)) s) apart

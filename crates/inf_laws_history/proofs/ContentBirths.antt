@@ -34,7 +34,7 @@ use Rattle.inf_laws_directory.proofs.PassedRequests.{cancelled, created, dropped
 use Rattle.inf_laws_directory.proofs.ServedOrder.{forgot, looked_up, never_removed, never_walked, stat_told}
 use Rattle.inf_laws_directory.proofs.ServedReplies.{left_or_done}
 use Rattle.inf_laws_directory.proofs.TopStays.{top_kept}
-use Rattle.inf_laws_history.proofs.ClientSteps.{if_both}
+use Rattle.inf_duty.proofs.BegunKept.{if_both}
 use Rattle.inf_laws_history.proofs.StepFacts.{states_served}
 
 -- ---- a property of contents by what they come with

@@ -14,7 +14,8 @@ use Rattle.inf_message.specs.declared.event.Event.TheVariants as event
 use Rattle.inf_message.specs.declared.reply.Reply.{Reply}
 use Rattle.inf_message.specs.History.{Posted, asked_at, told_reply}
 use Rattle.inf_message.proofs.HistoryLaws.{asked_within}
-use Rattle.inf_laws_history.proofs.ClientSteps.{IsAskedBy, Lasts, begun_lasts, if_both, served_apart, served_lasts, waits_for_own}
+use Rattle.inf_duty.proofs.BegunKept.{if_both}
+use Rattle.inf_laws_history.proofs.ClientSteps.{IsAskedBy, Lasts, begun_lasts, served_apart, served_lasts, waits_for_own}
 
 unless_true : (b : Bool) → (b ≡ true → ⊥) → b ≡ false
 unless_true true never = absurd (never refl)

@@ -18,9 +18,10 @@ use Rattle.inf_message.specs.declared.call_result.CallResult.{CallResult}
 use Rattle.inf_message.specs.declared.step.Message.{Message}
 use Rattle.inf_message.specs.History.{Told, or_told}
 use Rattle.inf_message.proofs.HistoryLaws.{other}
+use Rattle.inf_duty.proofs.BegunKept.{IsKept, kept_all_given_up, kept_begun}
+use Rattle.inf_laws_history.proofs.ClientSteps.{by_answer}
 use Rattle.inf_laws_history.proofs.Open.{counted_same}
 use Rattle.inf_laws_history.proofs.ResultFacts.{none_behind}
-use Rattle.inf_laws_history.proofs.ResultSteps.{IsKept, all_given_up_keeps, begun_keeps, by_serve}
 use Rattle.inf_laws_history.proofs.Turns.{IsOfRound, IsThere, TurnOf, act_turn_there, round_turn_is, serve_is, told_there, weaker_turn}
 
 -- how many of these results stand at the place
@@ -130,7 +131,7 @@ module _ (place : ℕ) where
   pub asked_holds : (at : ℕ) (ask : Ask) (s : Client) → held_at place (asked at ask s) ≤ held_at place s
   asked_holds at ask s =
       let now : Client = begun ask s.sent s in
-      let few : held_at place now ≤ held_at place s = begun_keeps (λ t. held_at place t ≤ held_at place s) (less_kept _) ask s.sent s (omega arith) in
+      let few : held_at place now ≤ held_at place s = kept_begun (λ t. held_at place t ≤ held_at place s) (less_kept _) ask s.sent s (omega arith) in
       let same : one_if (told_there place (now.sent ++ record { place = at; told = None } ∷ [])) ≡ one_if (told_there place now.sent) = ap one_if (none_more at now.sent) in
       omega (arith, few, same)
 
@@ -158,7 +159,7 @@ module _ (place : ℕ) where
       ⊎_elim
       (λ same. omega (arith, ap (count_at place) same, results_count s))
       (λ (gave : (s.sent ≡ []) × (mine ≡ results_of (all_given_up s.left s))).
-      let few : held_at place (all_given_up s.left s) ≤ held_at place s = all_given_up_keeps (λ t. held_at place t ≤ held_at place s) (less_kept _) s.left s (omega arith) in
+      let few : held_at place (all_given_up s.left s) ≤ held_at place s = kept_all_given_up (λ t. held_at place t ≤ held_at place s) (less_kept _) s.left s (omega arith) in
       omega (arith, ap (count_at place) gave.1, results_count (all_given_up s.left s), few))
       agrees
 
@@ -180,7 +181,7 @@ module _ (place : ℕ) where
     served_holds s apart =
         let now : Client = recorded ask_place told s in
         let same : one_if (told_there place now.sent) ≡ one_if (told_there place s.sent) = ap one_if (all_same apart s.sent) in
-        by_serve (λ t made. held_at place t ≤ held_at place s) ask_place told s
+        by_answer (λ t. held_at place t ≤ held_at place s) ask_place told s
         (λ e. omega arith)
         (λ here going. omega (arith, same))
         (λ here complete. omega (arith, stage_holds s.stage now, same))
@@ -194,7 +195,7 @@ module _ (place : ℕ) where
     served_holds_one s none =
         let now : Client = recorded ask_place told s in
         let one : one_if (told_there place now.sent) ≤ 1 = one_at_most (told_there place now.sent) in
-        by_serve (λ t made. held_at place t ≤ 1) ask_place told s
+        by_answer (λ t. held_at place t ≤ 1) ask_place told s
         (λ e. omega (arith, none))
         (λ here going. omega (arith, none, one))
         (λ here complete. omega (arith, stage_holds s.stage now, none, one))

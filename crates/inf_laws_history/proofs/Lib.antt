@@ -28,7 +28,6 @@ pub mod PhaseFacts
 pub mod PhaseFits
 pub mod PhaseTurns
 pub mod ResultFacts
-pub mod ResultSteps
 pub mod ServeFacts
 pub mod ServeSteps
 pub mod StepFacts

@@ -33,7 +33,7 @@ use Rattle.inf_laws_directory.proofs.ServedOrder.{forgot, looked_up, never_remov
 use Rattle.inf_laws_directory.proofs.ServedReplies.{left_or_done}
 use Rattle.inf_laws_directory.proofs.ServiceFacts.{Slots}
 use Rattle.inf_laws_directory.proofs.SlotFacts.{same_name, same_test}
-use Rattle.inf_laws_history.proofs.ClientSteps.{if_both}
+use Rattle.inf_duty.proofs.BegunKept.{if_both}
 
 -- an Ask at this place made a directory of this name of the directory
 pub record IsMadeAt (h : List Event) (born : ℕ) (parent : Id) (name : List ℕ) : Type 0 where

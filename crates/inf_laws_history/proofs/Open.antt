@@ -14,7 +14,7 @@ use Rattle.inf_flow_dir.specs.Turn.{Turn, goes_on, is_complete, recorded, served
 use Rattle.inf_message.specs.declared.ask.Ask.{Ask}
 use Rattle.inf_message.specs.declared.step.Message.{Message}
 use Rattle.inf_message.specs.History.{Told, or_told}
-use Rattle.inf_laws_history.proofs.ResultSteps.{by_serve}
+use Rattle.inf_laws_history.proofs.ClientSteps.{by_answer}
 use Rattle.inf_laws_history.proofs.Turns.{first_told}
 
 -- the one message of a flow is not answered yet
@@ -131,7 +131,7 @@ still_open place told who (winds ending m ms) sent here going = tt
 
 pub served_open : (place : ℕ) (told : Told) (s : Client) → IsOpen s → IsOpen (served place told s)
 served_open place told s is =
-    by_serve (λ t made. IsOpen t) place told s
+    by_answer IsOpen place told s
     (λ apart. is)
     (λ here going. record { waits = still_open place told s.who s.stage s.sent here going })
     (λ here complete. turned_open _ (recorded place told s))

@@ -26,11 +26,11 @@ use Rattle.inf_message.specs.History.{Posted, Told, asked_at, told_reply}
 use Rattle.inf_message.proofs.HistoryLaws.{itself, other}
 use Rattle.inf_tree.specs.Replay.{Decided, Replays}
 use Rattle.inf_tree.specs.Tree.{opening_tree}
-use Rattle.inf_laws_history.proofs.ClientSteps.{IsAskedBy, if_both, waits_for_own}
+use Rattle.inf_duty.proofs.BegunKept.{if_both}
+use Rattle.inf_laws_history.proofs.ClientSteps.{IsAskedBy, by_serve, waits_for_own}
 use Rattle.inf_laws_history.proofs.DrivenFacts.{waits_not}
 use Rattle.inf_laws_history.proofs.Open.{IsOpen, asked_open, counted_same, served_open, starting_open}
 use Rattle.inf_laws_history.proofs.ResultFacts.{Reads, agrees_at, asked_comes, asked_reads, calls_of, comes_to, only_at, served_comes, served_reads, starting_reads, tree_at, tree_at_both}
-use Rattle.inf_laws_history.proofs.ResultSteps.{by_serve}
 use Rattle.inf_laws_history.proofs.TreeReplays.{replays_of_tree}
 
 -- ---- each client after every history

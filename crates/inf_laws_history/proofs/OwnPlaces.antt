@@ -15,7 +15,8 @@ use Rattle.inf_message.specs.declared.event.Event.TheVariants as event
 use Rattle.inf_message.specs.declared.reply.Reply.{Reply}
 use Rattle.inf_message.specs.History.{Posted, asked_at, told_reply}
 use Rattle.inf_message.proofs.HistoryLaws.{itself}
-use Rattle.inf_laws_history.proofs.ClientSteps.{if_both, served_apart}
+use Rattle.inf_duty.proofs.BegunKept.{if_both}
+use Rattle.inf_laws_history.proofs.ClientSteps.{served_apart}
 use Rattle.inf_laws_history.proofs.DrivenFacts.{waits_not}
 use Rattle.inf_laws_history.proofs.HeldPlaces.{agrees_count, asked_holds, count_at, count_both, held_at, served_holds, served_holds_one, starting_holds}
 use Rattle.inf_laws_history.proofs.Ordered.{none_waits}

@@ -39,7 +39,8 @@ use Rattle.inf_laws_directory.specs.Owned.{Has}
 use Rattle.inf_laws_directory.specs.Phases.{IsLoose, Phase, has_made, has_reserved, has_sealed, has_unlinked, idle}
 use Rattle.inf_laws_directory.proofs.ContentFacts.{same_dir}
 use Rattle.inf_laws_history.proofs.AgainCauses.{found_at, under_way, waits}
-use Rattle.inf_laws_history.proofs.ClientSteps.{Lasts, begun_lasts, if_both, served_lasts}
+use Rattle.inf_duty.proofs.BegunKept.{if_both}
+use Rattle.inf_laws_history.proofs.ClientSteps.{Lasts, begun_lasts, served_lasts}
 use Rattle.inf_laws_history.proofs.ContentBirths.{IsBirth, WasMade, births_after, so_found}
 use Rattle.inf_laws_history.proofs.GroupMessages.{alone, look_in, only_one}
 use Rattle.inf_laws_history.proofs.PhaseFacts.{one_ask, served_one, staged}

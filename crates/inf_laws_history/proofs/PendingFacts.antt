@@ -21,7 +21,8 @@ use Rattle.inf_message.specs.declared.request.Request.{Request}
 use Rattle.inf_message.specs.declared.step.Message.{Message}
 use Rattle.inf_message.specs.History.{Posted, Told, is_served, posted_ask, told_reply}
 use Rattle.inf_message.proofs.HistoryLaws.{by_test, itself}
-use Rattle.inf_laws_history.proofs.ClientSteps.{by_answer, if_both}
+use Rattle.inf_duty.proofs.BegunKept.{if_both}
+use Rattle.inf_laws_history.proofs.ClientSteps.{by_answer}
 
 abbrev pub waiting_at : ℕ → Sent
 waiting_at place = record { place = place; told = None }

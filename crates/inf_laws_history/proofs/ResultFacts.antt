@@ -24,9 +24,9 @@ use Rattle.inf_message.specs.declared.call_result.CallResult.{CallResult}
 use Rattle.inf_message.specs.declared.step.Message.{Message}
 use Rattle.inf_message.specs.History.{Told}
 use Rattle.inf_tree.specs.Replay.{Decided}
-use Rattle.inf_laws_history.proofs.ClientSteps.{Lasts, begun_lasts, served_lasts}
+use Rattle.inf_duty.proofs.BegunKept.{IsKept, kept_all_given_up, kept_begun}
+use Rattle.inf_laws_history.proofs.ClientSteps.{Lasts, begun_lasts, by_serve, lasts_kept, served_lasts}
 use Rattle.inf_laws_history.proofs.Open.{IsOpen, TellsFlow, told_completes}
-use Rattle.inf_laws_history.proofs.ResultSteps.{IsKept, all_given_up_keeps, begun_keeps, by_serve, kept}
 use Rattle.inf_laws_history.proofs.Turns.{IsAt, IsOfRound, TurnOf, act_turn_at, round_turn_is, weaker_turn}
 
 -- ---- what a client reads off its line of the setup
@@ -252,10 +252,10 @@ module _ (world : World) (client : ℕ) (line : Option ClientLine) (found : slic
 
   -- an Ask changes nothing of what a client's calls came to
   pub asked_comes : (number : ℕ) (ask : Ask) (s : Client) → comes_to world place (asked number ask s) ≡ comes_to world place s
-  asked_comes number ask s = begun_keeps (ComesTo (comes_to world place s)) (comes_kept _) ask s.sent s refl
+  asked_comes number ask s = kept_begun (ComesTo (comes_to world place s)) (comes_kept _) ask s.sent s refl
 
   all_given_up_reads : (s : Client) → Reads world client line s → Reads world client line (all_given_up s.left s)
-  all_given_up_reads s reads = all_given_up_keeps (Reads world client line) (kept (Reads world client line) (reads_last world client line)) s.left s reads
+  all_given_up_reads s reads = kept_all_given_up (Reads world client line) (lasts_kept (Reads world client line) (reads_last world client line)) s.left s reads
 
   -- the results that agree with a client
   pub agrees_at : (s : Client) (mine : List CallResult) → Reads world client line s → Agrees s mine → tree_at world place mine ≡ comes_to world place s
@@ -265,7 +265,7 @@ module _ (world : World) (client : ℕ) (line : Option ClientLine) (found : slic
       (λ (gave : (s.sent ≡ []) × (mine ≡ results_of (all_given_up s.left s))).
       ap (tree_at world place) gave.1
       ∙ results_at (all_given_up s.left s) (all_given_up_reads s reads)
-      ∙ all_given_up_keeps (ComesTo (comes_to world place s)) (comes_kept _) s.left s refl)
+      ∙ kept_all_given_up (ComesTo (comes_to world place s)) (comes_kept _) s.left s refl)
       agrees
 
   -- ---- the turn after a group

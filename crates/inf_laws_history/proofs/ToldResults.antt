@@ -38,9 +38,9 @@ use Rattle.inf_message.specs.declared.step.Message.{Message}
 use Rattle.inf_message.specs.History.{Posted, Told, asked_at, event_at, or_told, told_reply}
 use Rattle.inf_message.proofs.HistoryLaws.{asked_stays, asked_within, by_test, event_stays, event_within, itself}
 use Rattle.inf_laws_history.proofs.AskedGroups.{asks_group, group_stays}
-use Rattle.inf_laws_history.proofs.ClientSteps.{by_answer, if_both, waits_for_own}
+use Rattle.inf_duty.proofs.BegunKept.{IsKept, if_both, kept_all_given_up, kept_begun}
+use Rattle.inf_laws_history.proofs.ClientSteps.{by_answer, waits_for_own}
 use Rattle.inf_laws_history.proofs.PendingFacts.{pending_after}
-use Rattle.inf_laws_history.proofs.ResultSteps.{IsKept, all_given_up_keeps, begun_keeps}
 
 -- ---- earlier events
 
@@ -261,7 +261,7 @@ module _ (h : List Event) where
 
   asked_caused : (place : ℕ) (ask : Ask) (s : Client) → IsCaused h s → IsCaused h (asked place ask s)
   asked_caused place ask s is =
-      let now = begun_keeps (IsCaused h) keeps_causes ask s.sent s is in
+      let now = kept_begun (IsCaused h) keeps_causes ask s.sent s is in
       let t : Client = begun ask s.sent s in
       record { results = now.results; stage = now.stage; sent = newly_sent (call_ref t) place t.sent now.sent }
 
@@ -515,7 +515,7 @@ agrees_caused h s mine is agrees =
     ⊎_elim
     (λ same. subst (AllCaused h) (sym same) (shown_caused h s is))
     (λ (gave : (s.sent ≡ []) × (mine ≡ results_of (all_given_up s.left s))).
-    subst (AllCaused h) (sym gave.1) (shown_caused h (all_given_up s.left s) (all_given_up_keeps (IsCaused h) (keeps_causes h) s.left s is)))
+    subst (AllCaused h) (sym gave.1) (shown_caused h (all_given_up s.left s) (kept_all_given_up (IsCaused h) (keeps_causes h) s.left s is)))
     agrees
 
 outcome_caused : (world : World) (h : List Event) → Legal world h → (client : ℕ) (lines : List ClientLine) (results : List CallResult)
