@@ -1,5 +1,5 @@
 -- What the core keeps, as events join.
-use Rattle.std.proofs.Common.{Bor, ◌≡◌, ◌≢◌, ℕ, zero, suc, ◌+◌, ◌-◌, ◌<◌, ◌≤◌, ◌||◌, Bool, true, false, eqb, List, [], ◌∷◌, ◌++◌, length, reverse, slice_get, slice_set, get_or, Option, None, Some, IsSome, refl, sym, ap, ap₂, subst, ◌∙◌, arith, length-append}
+use Rattle.std.proofs.Common.{Bor, ◌≡◌, ◌≢◌, ℕ, suc, ◌+◌, ◌-◌, ◌<◌, ◌≤◌, ◌||◌, Bool, true, false, eqb, List, [], ◌∷◌, ◌++◌, length, reverse, slice_get, slice_set, get_or, Option, None, Some, IsSome, refl, sym, ap, ap₂, subst, ◌∙◌, arith, length-append}
 use Rattle.std.proofs.lemmas.Bool.Decides.{Decides-eqb, nat_tests}
 use Rattle.std.proofs.lemmas.List.{length-set, reverse-append, reverse-reverse}
 use Rattle.std.proofs.lemmas.Option.{get_or_from_slice_get, slice_get_within}
@@ -17,6 +17,7 @@ use Rattle.inf_message.specs.declared.reply.Reply.TheVariants as reply
 use Rattle.inf_message.specs.History.{Posted, Served, asked_at, event_at, is_served, served_ask, serves_of}
 use Rattle.inf_message.proofs.HistoryLaws.{IsPlaceOf, asked_is_event, asked_within, other, serves_apart, serves_own}
 use Rattle.inf_message.proofs.OldestFirst.{event_is_indexed}
+use Rattle.inf_core.proofs.ByIndex.{got_apart, got_before, got_pushed, got_set}
 use Rattle.inf_core.proofs.LeavingReplies.{serves_leaves}
 use Rattle.inf_core.proofs.Posted.{posted_known}
 use Rattle.inf_server.specs.Machine.{Serves, state_after}
@@ -25,29 +26,6 @@ use Rattle.inf_server.specs.Server.{IsSameServer, Standing, site}
 use Rattle.inf_server.specs.Server.{site_of as digest_site}
 use Rattle.inf_server.specs.State.{Site, State, opening}
 use Rattle.std.specs.Slice.{IsItemAt}
-
--- ---- lists by index
-
-pub got_pushed : {X : Type 0} (xs : List X) (y : X) → slice_get (xs ++ y ∷ []) (length xs) ≡ Some y
-got_pushed [] y = refl
-got_pushed (x ∷ xs) y = got_pushed xs y
-
-pub got_before : {X : Type 0} (xs : List X) (y : X) (i : ℕ) → i < length xs → slice_get (xs ++ y ∷ []) i ≡ slice_get xs i
-got_before [] y i within = absurd (omega arith)
-got_before (x ∷ xs) y zero within = refl
-got_before (x ∷ xs) y (suc i) within = got_before xs y i (omega arith)
-
-pub got_set : {X : Type 0} (xs : List X) (i : ℕ) (y : X) → i < length xs → slice_get (slice_set xs i y) i ≡ Some y
-got_set [] i y within = absurd (omega arith)
-got_set (x ∷ xs) zero y within = refl
-got_set (x ∷ xs) (suc i) y within = got_set xs i y (omega arith)
-
-pub got_apart : {X : Type 0} (xs : List X) (i k : ℕ) (y : X) → k ≢ i → slice_get (slice_set xs i y) k ≡ slice_get xs k
-got_apart [] i k y apart = refl
-got_apart (x ∷ xs) zero zero y apart = absurd (apart refl)
-got_apart (x ∷ xs) zero (suc k) y apart = refl
-got_apart (x ∷ xs) (suc i) zero y apart = refl
-got_apart (x ∷ xs) (suc i) (suc k) y apart = got_apart xs i k y (λ e. apart (ap suc e))
 
 -- ---- events by index
 

@@ -1,3 +1,4 @@
+pub mod ByIndex
 pub mod CoreFacts
 pub mod LeavingReplies
 pub mod Posted
