@@ -1,5 +1,5 @@
 -- The Asks of a legal history: servers know their kinds, their chains are short, and the server that is asked is there.
-use Rattle.std.proofs.Common.{◌≡◌, ℕ, zero, suc, ◌+◌, ◌<◌, ◌≤◌, Bool, true, false, if◌then◌else◌, eqb, List, [], ◌∷◌, ◌++◌, length, map, slice_get, Option, None, Some, is_some, Result, Ok, Err, refl, subst, nat_le, nat_lt, All, arith, rules, length-append}
+use Rattle.std.proofs.Common.{◌≡◌, ℕ, zero, suc, ◌+◌, ◌<◌, ◌≤◌, Bool, true, false, if◌then◌else◌, eqb, List, [], ◌∷◌, ◌++◌, length, map, slice_get, Option, None, Some, Result, Ok, Err, refl, subst, nat_le, nat_lt, All, arith, rules, length-append}
 use Rattle.std.proofs.lemmas.Bool.Decides.{nat_tests}
 use Rattle.inf_base.specs.declared.answer.Answer.TheVariants as answer
 use Rattle.inf_base.specs.declared.call.Call.{Call}
@@ -18,16 +18,17 @@ use Rattle.inf_base.specs.Identity.{identity}
 use Rattle.inf_base.specs.Path.{first_fault, is_absolute, is_reserved, name_fault, or_later, path_of, pieces_of, unless_at_fault}
 use Rattle.inf_base.specs.Same.{dir_of}
 use Rattle.inf_duty.specs.After.{client_after}
-use Rattle.inf_duty.specs.Duty.{asked, asks, at_call, begun, found_at, given_up, given_up_in, is_acting, lifts, next_in, next_of}
+use Rattle.inf_duty.specs.Duty.{asked, asks, begun, given_up_in, next_in, next_of}
 use Rattle.inf_duty.specs.Start.{starting}
 use Rattle.inf_duty.specs.World.{World}
 use Rattle.inf_flow_dir.specs.Client.{Client, Ending, Sent, Stage, act, answers, compose, finished, retries, round, winds, wound}
 use Rattle.inf_flow_dir.specs.Flow.{Flow, Who, after_unlink, birth_of, clean_up, finishes, forget_in, last_dir, last_entry, last_id, lift, links, lives_at, made_dir, makes, message_of, reserves, row_of, seals, to, unlinks, way_to}
-use Rattle.inf_flow_dir.specs.Group.{Course, asked_id, composed_stage, course_at, course_in, course_of, group, keys_of, lookup_of, next_course, rmdir_stop, split, text_of}
+use Rattle.inf_flow_dir.specs.Group.{Course, asked_id, composed_stage, course_at, course_in, group, keys_of, lookup_of, next_course, rmdir_stop, split, text_of}
 use Rattle.inf_flow_dir.specs.Heard.{heard}
 use Rattle.inf_flow_dir.specs.Turn.{Next, Turn, act_turn, after_act, after_make, after_round, by_next, fails, follow, from_root, goes_on, is_busy, next_entry, recorded, served, steps, stops, told_entry, turn_at, turned, winds_up}
 use Rattle.inf_laws_history.specs.Legal.{Legal, MayAsk}
-use Rattle.inf_laws_history.proofs.ClientSteps.{by_answer, if_both}
+use Rattle.inf_duty.proofs.BegunKept.{IsKept, if_both, kept_begun}
+use Rattle.inf_laws_history.proofs.ClientSteps.{by_answer}
 use Rattle.inf_message.specs.declared.ask.Ask.{Ask}
 use Rattle.inf_message.specs.declared.event.Event.{Event}
 use Rattle.inf_message.specs.declared.event.Event.TheVariants as event
@@ -314,21 +315,14 @@ module _ (world : World) where
   given_up_at s compose knows = record { servers = knows.servers; stage = tt }
   given_up_at s (round keys) knows = record { servers = knows.servers; stage = tt }
 
-  found_knows : (asked : Request) (s : Client) → Knows world s → Knows world (found_at asked s)
-  found_knows asked s knows =
-      if_both (Knows world) (lifts asked) _ _ (if_both (Knows world) (is_acting s.stage) _ _ (given_up_at s s.stage knows) knows)
-      (record { servers = knows.servers; stage = composed_known s.who.servers s s.stage knows.stage })
-
-  at_call_knows : (number : ℕ) (asked : Request) (calls : List Call) (s : Client) → Knows world s → Knows world (at_call number asked calls s)
-  at_call_knows number asked [] s knows = knows
-  at_call_knows number asked (next ∷ calls) s knows =
-      if_both (Knows world) (eqb number s.number) _ _ (found_knows asked s knows)
-      (if_both (Knows world) (is_some (course_of next)) (at_call number asked calls (given_up s)) s
-      (at_call_knows number asked calls (given_up s) (given_up_at s s.stage knows)) knows)
+  knows_kept : IsKept (Knows world)
+  knows_kept = record {
+    composing = λ s knows. record { servers = knows.servers; stage = composed_known s.who.servers s s.stage knows.stage };
+    giving_up = λ s knows. given_up_at s s.stage knows;
+  }
 
   begun_knows : (ask : Ask) (sent : List Sent) (s : Client) → Knows world s → Knows world (begun ask sent s)
-  begun_knows ask [] s knows = at_call_knows ask.from.number ask.request s.left s knows
-  begun_knows ask (x ∷ sent) s knows = knows
+  begun_knows ask sent s knows = kept_begun (Knows world) knows_kept ask sent s knows
 
   asked_knows : (place : ℕ) (ask : Ask) (s : Client) → Knows world s → Knows world (asked place ask s)
   asked_knows place ask s knows =
