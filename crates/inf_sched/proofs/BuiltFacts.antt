@@ -6,43 +6,25 @@ use Rattle.inf_base.specs.declared.answer.Answer.TheVariants as answer
 use Rattle.inf_base.specs.declared.call.Call.{Call}
 use Rattle.inf_base.specs.declared.setup.ClientLine.{ClientLine}
 use Rattle.inf_duty.specs.After.{client_after}
-use Rattle.inf_duty.specs.Duty.{asked, at_call, begun, found_at, given_up, given_up_in, is_acting, lifts}
+use Rattle.inf_duty.specs.Duty.{asked, given_up, given_up_in}
 use Rattle.inf_duty.specs.Outcome.{all_given_up, are_none, is_free, may_give_up, results_of}
 use Rattle.inf_duty.specs.Start.{starting}
 use Rattle.inf_duty.specs.World.{World}
-use Rattle.inf_flow_dir.specs.Client.{Client, Ending, Sent, Stage, act, answers, compose, ended, retries, round, winds, wound}
+use Rattle.inf_flow_dir.specs.Client.{Client, Ending, Stage, act, answers, compose, ended, retries, round, winds, wound}
 use Rattle.inf_flow_dir.specs.Flow.{Who, clean_up}
-use Rattle.inf_flow_dir.specs.Group.{Course, composed, composed_stage, course_of, keys_of, next_course}
+use Rattle.inf_flow_dir.specs.Group.{Course, composed_stage, keys_of, next_course}
 use Rattle.inf_flow_dir.specs.Heard.{heard}
 use Rattle.inf_flow_dir.specs.Turn.{Turn, goes_on, recorded, turn_at, turned, winds_up}
 use Rattle.inf_message.specs.declared.ask.Ask.{Ask}
 use Rattle.inf_message.specs.declared.call_result.CallResult.{CallResult}
 use Rattle.inf_message.specs.declared.event.Event.{Event}
 use Rattle.inf_message.specs.declared.event.Event.TheVariants as event
-use Rattle.inf_message.specs.declared.request.Request.{Request}
 use Rattle.inf_message.specs.declared.step.Message.{Message}
 use Rattle.inf_message.specs.History.{Told, told_reply}
-use Rattle.inf_laws_history.proofs.ClientSteps.{Lasts, by_answer, given_up_lasts, if_both}
+use Rattle.inf_duty.proofs.BegunKept.{IsKept, if_both, kept_all_given_up, kept_begun}
+use Rattle.inf_laws_history.proofs.ClientSteps.{Lasts, by_answer, lasts_kept}
 use Rattle.inf_sched.specs.Laws.{gave_up}
 use Rattle.inf_sched.proofs.OrderLaws.{IsLeft}
-
--- ---- what a client keeps while it settles what to ask for, and gives calls up on the way
-
-module _ (P : Client → Type 0) (composing : (s : Client) → P s → P (composed s)) (giving_up : (s : Client) → P s → P (given_up s)) where
-  found_keeps : (asked : Request) (s : Client) → P s → P (found_at asked s)
-  found_keeps asked s now =
-      if_both P (lifts asked) _ _ (if_both P (is_acting s.stage) _ _ (giving_up s now) now) (composing s now)
-
-  at_call_keeps : (number : ℕ) (asked : Request) (calls : List Call) (s : Client) → P s → P (at_call number asked calls s)
-  at_call_keeps number asked [] s now = now
-  at_call_keeps number asked (call ∷ calls) s now =
-      if_both P (eqb number s.number) _ _ (found_keeps asked s now)
-      (if_both P (is_some (course_of call)) (at_call number asked calls (given_up s)) s
-      (at_call_keeps number asked calls (given_up s) (giving_up s now)) now)
-
-  pub begun_keeps : (ask : Ask) (sent : List Sent) (s : Client) → P s → P (begun ask sent s)
-  begun_keeps ask [] s now = at_call_keeps ask.from.number ask.request s.left s now
-  begun_keeps ask (x ∷ sent) s now = now
 
 -- ---- what is asked for is built
 
@@ -90,6 +72,12 @@ given_up_built s (winds ending m ms) built now = now
 given_up_built s compose built now = tt
 given_up_built s (round keys) built now = tt
 
+built_kept : IsKept IsBuiltFor
+built_kept = record {
+  composing = λ s now. composed_built s s.stage now;
+  giving_up = λ s now. given_up_built s s.stage now now;
+}
+
 starting_built : (world : World) (client : ℕ) (line : Option ClientLine) → IsBuiltFor (starting world client line)
 starting_built world client None = tt
 starting_built world client (Some line) = tt
@@ -99,7 +87,7 @@ built world client [] = starting_built world client (slice_get world.setup.clien
 built world client (event.Ask number ask ∷ h) =
     let s : Client = client_after world client h in
     if_both IsBuiltFor (eqb ask.from.client client) (asked (suc (length h)) ask s) s
-    (begun_keeps IsBuiltFor (λ t now. composed_built t t.stage now) (λ t now. given_up_built t t.stage now now) ask s.sent s (built world client h))
+    (kept_begun IsBuiltFor built_kept ask s.sent s (built world client h))
     (built world client h)
 built world client (event.Serve number ask_place given ∷ h) =
     let s : Client = client_after world client h in
@@ -181,10 +169,7 @@ gave_up_lasts = record {
 }
 
 all_gave_up : (calls : List Call) (s : Client) → HasGivenUp s.results → HasGivenUp (all_given_up calls s).results
-all_gave_up [] s gave = gave
-all_gave_up (call ∷ calls) s gave =
-    if_both (λ (t : Client). HasGivenUp t.results) (may_give_up s) (all_given_up calls (given_up s)) s
-    (all_gave_up calls (given_up s) (given_up_lasts (λ t. HasGivenUp t.results) gave_up_lasts s gave)) gave
+all_gave_up calls s gave = kept_all_given_up (λ t. HasGivenUp t.results) (lasts_kept (λ t. HasGivenUp t.results) gave_up_lasts) calls s gave
 
 gave_up_left : (s : Client) (left : List Call) → s.left ≡ left → may_give_up s ≡ true → HasGivenUp (all_given_up left s).results
 gave_up_left s [] is may =

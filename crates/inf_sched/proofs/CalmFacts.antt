@@ -28,7 +28,8 @@ use Rattle.inf_message.specs.declared.reply.Reply.TheVariants as reply
 use Rattle.inf_message.specs.declared.request.Request.{Request}
 use Rattle.inf_message.specs.declared.step.Message.{Message}
 use Rattle.inf_message.specs.History.{Told, or_told, told_reply}
-use Rattle.inf_laws_history.proofs.ClientSteps.{Lasts, begun_lasts, by_answer, if_both, turned_lasts}
+use Rattle.inf_duty.proofs.BegunKept.{if_both}
+use Rattle.inf_laws_history.proofs.ClientSteps.{Lasts, begun_lasts, by_answer, turned_lasts}
 use Rattle.inf_laws_history.proofs.PendingFacts.{goes}
 use Rattle.inf_sched.specs.Laws.{is_no_mem, is_no_memory, wanted}
 use Rattle.inf_sched.specs.Scene.{planned_from}

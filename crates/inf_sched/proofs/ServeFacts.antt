@@ -2,16 +2,16 @@
 use Rattle.std.proofs.Common.{◌≡◌, ℕ, suc, Bool, true, false, List, [], ◌∷◌, length, Option, Some, IsSome, refl, sym, ap, subst, ◌∙◌}
 use Rattle.inf_base.specs.declared.call.Call.{Call}
 use Rattle.inf_flow_dir.specs.Client.{Client, has_place}
-use Rattle.inf_duty.specs.Duty.{given_up}
 use Rattle.inf_flow_dir.specs.Heard.{heard}
-use Rattle.inf_duty.specs.Outcome.{all_given_up, may_give_up}
+use Rattle.inf_duty.specs.Outcome.{all_given_up}
 use Rattle.inf_base.specs.declared.id.Id.{Id}
 use Rattle.inf_core.specs.Core.{IsSameRun, IsServedNext, Running, world_in}
 use Rattle.inf_laws_history.specs.Legal.{Legal, MayServe}
 use Rattle.inf_duty.specs.After.{client_after}
 use Rattle.inf_flow_dir.specs.Turn.{served}
 use Rattle.inf_duty.specs.World.{World}
-use Rattle.inf_laws_history.proofs.ClientSteps.{Lasts, given_up_lasts, if_both, served_apart}
+use Rattle.inf_duty.proofs.BegunKept.{kept_all_given_up}
+use Rattle.inf_laws_history.proofs.ClientSteps.{Lasts, lasts_kept, served_apart}
 use Rattle.inf_laws_history.proofs.DrivenFacts.{idle_stays}
 use Rattle.inf_message.specs.declared.event.Event.{Event}
 use Rattle.inf_message.specs.declared.event.Event.TheVariants as event
@@ -31,10 +31,7 @@ between_lasts = record {
 }
 
 all_between : (left : List Call) (s : Client) → s.sent ≡ [] → (all_given_up left s).sent ≡ []
-all_between [] s between = between
-all_between (next ∷ left) s between =
-    if_both (λ (t : Client). t.sent ≡ []) (may_give_up s) (all_given_up left (given_up s)) s
-    (all_between left (given_up s) (given_up_lasts (λ t. t.sent ≡ []) between_lasts s between)) between
+all_between left s between = kept_all_given_up (λ t. t.sent ≡ []) (lasts_kept (λ t. t.sent ≡ []) between_lasts) left s between
 
 some_there : {A : Type 0} (o : Option A) (x : A) → o ≡ Some x → IsSome o
 some_there o x same = subst (λ p. IsSome p) (sym same) refl

@@ -14,7 +14,8 @@ use Rattle.inf_flow_dir.specs.Client.{Client, Ending, Stage, act, answers, compo
 use Rattle.inf_flow_dir.specs.Flow.{Who, clean_up}
 use Rattle.inf_flow_dir.specs.Heard.{heard}
 use Rattle.inf_flow_dir.specs.Turn.{Turn, goes_on, recorded, served, turn_at, turned, winds_up}
-use Rattle.inf_laws_history.proofs.ClientSteps.{by_answer, if_both, who_after}
+use Rattle.inf_duty.proofs.BegunKept.{IsKept, if_both, kept_begun}
+use Rattle.inf_laws_history.proofs.ClientSteps.{by_answer, who_after}
 use Rattle.inf_message.specs.declared.call_result.CallResult.{CallResult}
 use Rattle.inf_message.specs.declared.event.Event.{Event}
 use Rattle.inf_message.specs.declared.event.Event.TheVariants as event
@@ -23,7 +24,7 @@ use Rattle.inf_message.specs.History.{Told, told_reply}
 use Rattle.inf_order.specs.declared.moves.Move.{Move}
 use Rattle.inf_sched.specs.Endings.{IsLeftOpen}
 use Rattle.inf_sched.specs.Order.{ByOrder}
-use Rattle.inf_sched.proofs.BuiltFacts.{begun_keeps, may_end}
+use Rattle.inf_sched.proofs.BuiltFacts.{may_end}
 use Rattle.inf_sched.proofs.OrderLaws.{is_outcome}
 use Rattle.inf_sched.proofs.TurnFacts.{EndingHas, IsOfReplies, StageHas, TurnHas, composed_has, turn_has}
 
@@ -70,6 +71,12 @@ given_up_answered s (winds ending m ms) before = before
 given_up_answered s compose before = ended_answered answer.NoMemory None s no_memory before.results
 given_up_answered s (round keys) before = ended_answered answer.NoMemory None s no_memory before.results
 
+answered_kept : IsKept AllAnswered
+answered_kept = record {
+  composing = λ s before. record { results = before.results; stage = composed_has IsAnswer s s.stage before.stage };
+  giving_up = λ s before. given_up_answered s s.stage before;
+}
+
 served_answered : (ask_place : ℕ) (told : Told) (s : Client) → AllAnswered s → AllAnswered (served ask_place told s)
 served_answered ask_place told s before =
     by_answer AllAnswered ask_place told s
@@ -88,8 +95,7 @@ answered world client [] = starting_answered world client (slice_get world.setup
 answered world client (event.Ask number ask ∷ h) =
     let s : Client = client_after world client h in
     let begun =
-    begun_keeps AllAnswered (λ t before. record { results = before.results; stage = composed_has IsAnswer t t.stage before.stage })
-    (λ t before. given_up_answered t t.stage before) ask s.sent s (answered world client h) in
+    kept_begun AllAnswered answered_kept ask s.sent s (answered world client h) in
     if_both AllAnswered (eqb ask.from.client client) (asked (suc (length h)) ask s) s
     (record { results = begun.results; stage = begun.stage }) (answered world client h)
 answered world client (event.Serve number ask_place given ∷ h) =
