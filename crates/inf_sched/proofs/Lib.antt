@@ -1,4 +1,3 @@
-pub mod Indexed
 pub mod Kept
 pub mod OrderLaws
 pub mod TurnFacts

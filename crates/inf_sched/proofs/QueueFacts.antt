@@ -1,11 +1,11 @@
 -- Queues of Asks that wait, as events are made and served ones leave.
 use Rattle.std.proofs.Common.{◌≡◌, ◌≢◌, ℕ, zero, suc, ◌+◌, ◌<◌, Bool, true, false, cond, not, ◌&&◌, List, [], ◌∷◌, length, slice_get, drop, Option, None, Some, All, refl, sym, ap, subst, ◌∙◌, arith}
+use Rattle.std.proofs.lemmas.Bool.Decides.{Decides-eqb}
 use Rattle.std.specs.List.{find}
 use Rattle.std.proofs.lemmas.List.Elements.{All-head, All-tail}
 use Rattle.inf_message.specs.declared.event.Event.{Event}
 use Rattle.inf_message.specs.History.{is_served}
 use Rattle.inf_sched.specs.Waiting.{IsFrontLeft, IsWithin, Posting, first_of, is_open, is_to}
-use Rattle.inf_sched.proofs.Indexed.{counted_same, same_counted}
 
 pub front_starts : (h : List Event) (queue : List Posting) → All (IsWithin h) queue → IsFrontLeft h queue queue
 front_starts h queue within = record { finds = λ also. refl; within = within }
@@ -73,7 +73,7 @@ pub found_at : (number i : ℕ) (h : List Event) (ps : List Posting) (p : Postin
     → find (fits number h) (drop i ps) ≡ find (fits number h) ps → slice_get ps i ≡ Some p → p.number ≡ number → is_served p.place h ≡ false
     → Some p ≡ find (fits number h) ps
 found_at number i h ps p before at to waits =
-    let yes_to : is_to number p ≡ true = same_counted p.number number to in
+    let yes_to : is_to number p ≡ true = (Decides-eqb p.number number).1 to in
     let open_yet : is_open h p ≡ true = ap not waits in
     sym (sym before ∙ find_at (fits number h) ps i p at ∙ rw (yes_to, open_yet) refl)
 
@@ -83,14 +83,14 @@ pub passed_server : (number i : ℕ) (h : List Event) (ps : List Posting) (p : P
 passed_server number i h ps p before at unlike = by (is_to number p) refl
   where
     by : (b : Bool) → is_to number p ≡ b → find (fits number h) (drop (i + 1) ps) ≡ find (fits number h) ps
-    by true same = absurd (unlike (counted_same p.number number same))
+    by true same = absurd (unlike ((Decides-eqb p.number number).0 same))
     by false other = next number i h ps ∙ sym (sym before ∙ find_at (fits number h) ps i p at ∙ rw other refl)
 
 pub passed_served : (number i : ℕ) (h : List Event) (ps : List Posting) (p : Posting)
     → find (fits number h) (drop i ps) ≡ find (fits number h) ps → slice_get ps i ≡ Some p → p.number ≡ number → is_served p.place h ≡ true
     → find (fits number h) (drop (i + 1) ps) ≡ find (fits number h) ps
 passed_served number i h ps p before at to served =
-    let yes_to : is_to number p ≡ true = same_counted p.number number to in
+    let yes_to : is_to number p ≡ true = (Decides-eqb p.number number).1 to in
     let closed : is_open h p ≡ false = ap not served in
     next number i h ps ∙ sym (sym before ∙ find_at (fits number h) ps i p at ∙ rw (yes_to, closed) refl)
 

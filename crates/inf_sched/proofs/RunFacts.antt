@@ -1,5 +1,6 @@
 -- What a run keeps as its clients ask and its servers serve.
 use Rattle.std.proofs.Common.{◌≡◌, ◌≢◌, ℕ, zero, suc, ◌+◌, ◌≤◌, ◌<◌, Bool, true, false, cond, eqb, not, ◌&&◌, ◌||◌, List, [], ◌∷◌, ◌++◌, length, map, reverse, slice_get, slice_set, Option, None, Some, IfSome, All, get_or, refl, sym, ap, ap₂, subst, ◌∙◌, arith, inl, inr}
+use Rattle.std.proofs.lemmas.Bool.Decides.{Decides-eqb}
 use Rattle.std.specs.List.{find}
 use Rattle.std.specs.Option.{option_map, option_or}
 use Rattle.std.proofs.lemmas.List.{length-set, map-append, map-set}
@@ -16,7 +17,7 @@ use Rattle.inf_laws_history.specs.Legal.{Legal}
 use Rattle.inf_duty.specs.After.{client_after}
 use Rattle.inf_duty.specs.Outcome.{may_give_up}
 use Rattle.inf_duty.specs.World.{World}
-use Rattle.inf_sched.proofs.Indexed.{counted_same, got_apart, got_set, same_counted}
+use Rattle.inf_core.proofs.ByIndex.{got_apart, got_set}
 use Rattle.inf_laws_history.proofs.DrivenFacts.{others_stay}
 use Rattle.inf_message.specs.declared.ask.Ask.{Ask}
 use Rattle.inf_message.specs.declared.event.Event.{Event}
@@ -121,7 +122,7 @@ unlike_test : (a b : ℕ) → a ≢ b → eqb a b ≡ false
 unlike_test a b unlike = by (eqb a b) refl
   where
     by : (t : Bool) → eqb a b ≡ t → t ≡ false
-    by true same = absurd (unlike (counted_same a b same))
+    by true same = absurd (unlike ((Decides-eqb a b).0 same))
     by false same = refl
 
 set_each : {X : Type 0} (P : ℕ → X → Type 0) (xs : List X) (index : ℕ) (y : X) → index < length xs → P index y
@@ -131,7 +132,7 @@ set_each P xs index y there new old k x at = by (eqb k index) refl
   where
     by : (b : Bool) → eqb k index ≡ b → P k x
     by true same =
-        let here : k ≡ index = counted_same k index same in
+        let here : k ≡ index = (Decides-eqb k index).0 same in
         let got : Some y ≡ Some x = sym (got_set xs index y there) ∙ subst (λ i. slice_get (slice_set xs index y) i ≡ Some x) here at in
         let is : y ≡ x = cc in
         subst (λ i. P i x) (sym here) (subst (λ z. P index z) is new)
@@ -140,7 +141,7 @@ set_each P xs index y there new old k x at = by (eqb k index) refl
         old k x apart (sym (got_apart xs index k y apart) ∙ at)
       where
         differs : (a b : ℕ) → a ≡ b → eqb a b ≡ false → ⊥
-        differs a b same no_more = let yes_more : eqb a b ≡ true = same_counted a b same in absurd (cc)
+        differs a b same no_more = let yes_more : eqb a b ≡ true = (Decides-eqb a b).1 same in absurd (cc)
 
 asked_queues : (fits : ℕ → Posting → Bool) (h : List Event) (many index number : ℕ) (ask : Ask) (queues : List (List Posting)) (queue : List Posting)
     → AreQueues fits h many queues → slice_get queues index ≡ Some queue
@@ -184,7 +185,7 @@ asks_newly : (client number : ℕ) (ask : Ask) (h : List Event) → ask.from.cli
     → asks_shown client (event.Ask number ask ∷ h) ≡ asks_shown client h ++ own_ask (made_ask number ask (suc (length h))) None ∷ []
 asks_newly client number ask h own =
     let new : Own = own_ask (made_ask number ask (suc (length h))) None in
-    ap reverse (ap (λ b. cond b (new ∷ asks_of client h) (asks_of client h)) (same_counted ask.from.client client own)) ∙ reverse-cons new (asks_of client h)
+    ap reverse (ap (λ b. cond b (new ∷ asks_of client h) (asks_of client h)) ((Decides-eqb ask.from.client client).1 own)) ∙ reverse-cons new (asks_of client h)
 
 map_back : (f : Own → Own) (owns : List Own) → map f (reverse owns) ≡ reverse (map f owns)
 map_back f [] = refl
@@ -263,13 +264,13 @@ kept_asked world h after client p actors to by a b q r kept at did at_to at_by =
           subst (λ g. AreQueues is_to g (world.setup.servers + 1) (slice_set to p.number (q ++ p ∷ []))) (sym did.joins)
           (subst (λ x. AreQueues is_to (event.Ask did.number did.ask ∷ h) (world.setup.servers + 1) (slice_set to p.number (q ++ x ∷ []))) (sym is)
           (asked_queues is_to h (world.setup.servers + 1) p.number did.number did.ask to q kept.servers at_to
-          (same_counted did.number p.number (sym number))
+          ((Decides-eqb did.number p.number).1 (sym number))
           (λ k unlike. unlike_test did.number k (λ same. unlike (sym same ∙ sym number)))));
       askers =
           subst (λ g. AreQueues is_by g (length world.setup.clients) (slice_set by client (r ++ p ∷ []))) (sym did.joins)
           (subst (λ x. AreQueues is_by (event.Ask did.number did.ask ∷ h) (length world.setup.clients) (slice_set by client (r ++ x ∷ []))) (sym is)
           (asked_queues is_by h (length world.setup.clients) client did.number did.ask by r kept.askers at_by
-          (same_counted did.ask.from.client client did.own)
+          ((Decides-eqb did.ask.from.client client).1 did.own)
           (λ k unlike. unlike_test did.ask.from.client k (λ same. unlike (sym same ∙ did.own)))));
     }
 

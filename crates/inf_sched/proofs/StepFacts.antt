@@ -1,5 +1,6 @@
 -- What comes of letting a client ask, by what its step told.
 use Rattle.std.proofs.Common.{◌≡◌, ℕ, suc, ◌+◌, ◌≤◌, ◌<◌, ◌^◌, Bool, true, false, cond, not, ◌&&◌, List, [], ◌∷◌, ◌++◌, length, reverse, slice_get, None, Some, All, refl, sym, ap, subst, ◌∙◌, arith, inl, inr}
+use Rattle.std.proofs.lemmas.Bool.Decides.{Decides-eqb}
 use Rattle.std.proofs.lemmas.List.Elements.{All-head, All-nil, All-push, All-tail, All-weaker}
 use mathlib.Core.List.{reverse-cons}
 use Rattle.inf_flow_dir.specs.Client.{Client, placed}
@@ -22,7 +23,6 @@ use Rattle.inf_message.proofs.ClientLaws.{asks_are_own}
 use Rattle.inf_message.proofs.HistoryLaws.{asked_within}
 use Rattle.inf_client.specs.Actor.{Actor, AsksNext, Rests, Steps, actor, wants_to_ask}
 use Rattle.inf_trips.specs.AskLog.{AskLog, IsLater, asked_first, asked_log}
-use Rattle.inf_sched.proofs.Indexed.{same_counted}
 use Rattle.inf_sched.specs.Run.{Asked, Did, IsActor, IsGivenUp, IsStateOf, asks_shown, rested}
 use Rattle.inf_sched.specs.Waiting.{posting}
 
@@ -81,7 +81,7 @@ module _ (world : World) (client number : ℕ) (h : List Event) (ask : Ask) (a b
   follows =
       let s : Client = client_after world client h in
       let own : ask.from.client ≡ client = own_client world client h a ask (here_state s a is next.here) next.own in
-      ap (λ t. cond t (asked (suc (length h)) ask s) s) (same_counted ask.from.client client own) ∙ ap (placed (suc (length h))) (sym begins)
+      ap (λ t. cond t (asked (suc (length h)) ask s) s) ((Decides-eqb ask.from.client client).1 own) ∙ ap (placed (suc (length h))) (sym begins)
 
   pub ready_room : (place : ℕ) → place ≡ suc (length h) → place < 2 ^ 64 → b.state.counts.messages + 1 < 2 ^ 64
   ready_room place newest fits =

@@ -13,7 +13,8 @@ use Rattle.inf_duty.specs.Start.{starting}
 use Rattle.inf_laws_history.specs.Legal.{server_after}
 use Rattle.inf_duty.specs.World.{World}
 use Rattle.inf_laws_history.specs.Sites.{site_of}
-use Rattle.inf_laws_history.proofs.ClientSteps.{Lasts, begun_lasts, if_both, served_lasts}
+use Rattle.inf_duty.proofs.BegunKept.{if_both}
+use Rattle.inf_laws_history.proofs.ClientSteps.{Lasts, begun_lasts, served_lasts}
 use Rattle.inf_message.specs.declared.ask.Ask.{Ask}
 use Rattle.inf_message.specs.declared.event.Event.{Event}
 use Rattle.inf_message.specs.declared.event.Event.TheVariants as event
@@ -26,7 +27,7 @@ use Rattle.inf_sched.specs.Straight.{reply_to, with_ask, with_event, with_next_a
 use Rattle.inf_sched.specs.Waiting.{Posting}
 use Rattle.inf_sched.proofs.BuiltFacts.{false_before, false_behind}
 use Rattle.inf_sched.proofs.CalmFacts.{ShowsNoWant, before_asked, before_served, is_planned}
-use Rattle.inf_sched.proofs.Indexed.{got_set}
+use Rattle.inf_core.proofs.ByIndex.{got_set}
 use Rattle.inf_server.specs.Machine.{Serves, machine}
 use Rattle.inf_server.specs.Response.{Response}
 use Rattle.inf_server.specs.State.{Site, State}
