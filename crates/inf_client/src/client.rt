@@ -25,6 +25,10 @@ use std::alloc::Global;
 use std::collections::VecDeque;
 use std::marker::Model;
 
+/// How many trips of a call find room before a client's list of them has to grow. Most calls make no more: up to two
+/// lookups, and a message or two.
+const USUAL_TRIPS: usize = 4;
+
 /// A client of a run. What it is told takes no memory, nor does what winds a call up.
 #[derive(Drop)]
 pub struct Client<R: IdRule> {
@@ -57,9 +61,11 @@ impl<R: IdRule> Client<R> {
         ensures { IfOk result (λ made. actor_by R.digest_of made
             ≡ actor (start (world_by (R.digest_of rule) setup.now) client) false no_asks false) }
     {
+        let machine = ClientMachine::start(alloc, rule, setup, client)?;
+        let trips = machine.calls_left().saturating_mul(USUAL_TRIPS);
         Ok(Client {
-            machine: ClientMachine::start(alloc, rule, setup, client)?,
-            log: AskLog::new(alloc),
+            machine,
+            log: AskLog::with_capacity(alloc, trips)?,
             outbox: VecDeque::new(alloc),
             has_given_up: false,
             is_handed: false,

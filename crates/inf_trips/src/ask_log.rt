@@ -1,6 +1,6 @@
 //! What a client asked and was answered, and the asks that it is about to make.
 
-ghost use Rattle.std.specs.Prelude.{◌≡◌, ◌<◌, ◌≤◌, true, length, OnOk, OnErr};
+ghost use Rattle.std.specs.Prelude.{◌≡◌, ◌<◌, ◌≤◌, true, length, IfOk, OnOk, OnErr};
 ghost use Rattle.std.specs.List.{AllWithin};
 ghost use Rattle.inf_message.specs.History.{told_reply};
 ghost use Rattle.inf_trips.specs.AskLog.{IsLater, Rise, asked_log, no_asks, places_of, told_log, trip_places, trips_in, waits_at, with_ready, with_room, without_ready};
@@ -37,15 +37,16 @@ impl Model for AskLog {
 }
 
 impl AskLog {
-    pub fn new(alloc: Global) -> Self
-        ensures { result ≡ no_asks }
+    /// A log in which so many trips find room before it has to grow.
+    pub fn with_capacity(alloc: Global, trips: usize) -> Result<Self, NoMemory>
+        ensures { IfOk result (λ log. log ≡ no_asks) }
     {
-        AskLog {
-            trips: Vec::new(alloc),
+        Ok(AskLog {
+            trips: Vec::with_capacity(alloc, trips)?,
             waiting: Vec::new(alloc),
             ready: VecDeque::new(alloc),
             room: 0,
-        }
+        })
     }
 
     /// The Asks that were answered, each with its answer.

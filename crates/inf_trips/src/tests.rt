@@ -74,7 +74,7 @@ fn are_trips(trips: &[Trip], wanted: &[(u32, Place, Place)]) -> bool {
 /// The log of asks to the servers 5, 6 and 7, which stand at 1, 2 and 3.
 #[tactic(auto, using(crate::proofs::TestFacts::none_later))]
 fn three_asked(alloc: Global) -> Result<AskLog, NoMemory> {
-    let mut log = AskLog::new(alloc);
+    let mut log = AskLog::with_capacity(alloc, 2)?;
     log.reserve(3)?;
     keep(&mut log, 5);
     keep(&mut log, 6);
@@ -108,7 +108,7 @@ fn answers_come_in_any_order(rt: HostRuntime) -> Result<(), Fail> {
 
 #[test]
 fn what_is_forgotten_is_not_asked(rt: HostRuntime) -> Result<(), Fail> {
-    let mut log = AskLog::new(rt.alloc());
+    let mut log = AskLog::with_capacity(rt.alloc(), 0)?;
     log.reserve(2)?;
     keep(&mut log, 5);
     log.forget();
