@@ -1,5 +1,5 @@
 -- Texts and what they say, and what holds of every text.
-use Rattle.std.specs.Prelude.{◌≡◌, ℕ, ◌+◌, ◌<◌, ◌≤◌, true, false, List, [], ◌∷◌, ◌++◌, length, take, replicate, codes, Some, None, Ok, Err, IsErrAnd}
+use Rattle.std.specs.Prelude.{◌≡◌, ℕ, ◌+◌, ◌<◌, ◌≤◌, true, false, List, [], ◌∷◌, ◌++◌, length, take, replicate, codes, Some, None, Ok, Err, IsErrAnd, IsOk}
 use Rattle.std.specs.List.{flat_map}
 use Rattle.std.specs.Str.{is_utf8}
 use Rattle.inf_base.specs.declared.call.Call.{Call}
@@ -219,14 +219,18 @@ pub record IsRefusedBy (last : ℕ) (refusal : ScriptRefusal) : Type 0 where
   pub at_latest : refusal.line ≤ last
   pub too_long : refusal.line ≡ last → refusal.why ≡ why.TooLong
 
--- how long a line may be, and how many clients, calls and moves there may be
+-- the limits as numbers: what keeps them is read on, and one more is refused
 pub record LimitsHold : Type 0 where
-  pub long_line : (draft : Draft) (line : List ℕ) → MOST_LINE_BYTES < length line → after_line draft line ≡ Err why.TooLong
-  pub short_line : (draft : Draft) (line : List ℕ) → length line ≤ MOST_LINE_BYTES → is_utf8 line ≡ true → after_line draft line ≡ after_words draft (words_of (without_return line))
-  pub clients : (draft : Draft) (name : List ℕ) → MOST_CLIENTS ≤ length draft.clients → with_client draft name ≡ Err why.TooMany
-  pub calls : (draft : Draft) (client : ℕ) (called : Call) → MOST_CALLS ≤ call_count draft.clients → with_call draft client (Ok called) ≡ Err why.TooMany
-  pub moves : (draft : Draft) (moves : List Move) → MOST_MOVES < length moves → with_moves draft (Ok moves) ≡ Err why.TooMany
+  pub long_line : (draft : Draft) (line : List ℕ) → 32768 < length line → after_line draft line ≡ Err why.TooLong
+  pub longest_line : (draft : Draft) (line : List ℕ) → length line ≤ 32768 → is_utf8 line ≡ true → after_line draft line ≡ after_words draft (words_of (without_return line))
+  pub more_clients : (draft : Draft) (name : List ℕ) → 64 ≤ length draft.clients → with_client draft name ≡ Err why.TooMany
+  pub most_clients : (draft : Draft) (name : List ℕ) → length draft.clients < 64 → IsOk (with_client draft name)
+  pub more_calls : (draft : Draft) (client : ℕ) (called : Call) → 20000 ≤ call_count draft.clients → with_call draft client (Ok called) ≡ Err why.TooMany
+  pub most_calls : (draft : Draft) (client : ℕ) (called : Call) → call_count draft.clients < 20000 → IsOk (with_call draft client (Ok called))
+  pub more_moves : (draft : Draft) (moves : List Move) → 1000000 < length moves → with_moves draft (Ok moves) ≡ Err why.TooMany
+  pub most_moves : (draft : Draft) (moves : List Move) → length moves ≤ 1000000 → IsOk (with_moves draft (Ok moves))
+  pub longest_text : (text : List ℕ) → length text ≤ 67108864 → meaning text ≡ reading text false
 
 -- a text of more bytes than a script may have is refused in the line that holds the byte behind them, or before
 abbrev pub TooLongIsRefused : Type 0
-TooLongIsRefused = (text : List ℕ) → MOST_SCRIPT_BYTES < length text → IsErrAnd (meaning text) (IsRefusedBy (length (lines_of true (take MOST_SCRIPT_BYTES text)) + 1))
+TooLongIsRefused = (text : List ℕ) → 67108864 < length text → IsErrAnd (meaning text) (IsRefusedBy (length (lines_of true (take 67108864 text)) + 1))

@@ -32,7 +32,7 @@ pub fn moves_are_refused()
     ensures { MovesAreRefused }
 {}
 
-/// What is too long a line, and what is too many.
+/// The limits of a script, as numbers: what keeps them, and one more.
 pub fn limits_hold()
     ensures { LimitsHold }
 {}

@@ -1,8 +1,8 @@
 //! Texts and what they say. The expected values follow from the rules of the form.
 
 use super::*;
-use inf_base::{Call, Caller, Calls, ClientLine, Clients, MOST_CALLS, Name, NoMemory, Setup, Text};
-use inf_order::{MOST_MOVES, Move, Moves};
+use inf_base::{Call, Caller, Calls, ClientLine, Clients, Name, NoMemory, Setup, Text};
+use inf_order::{Move, Moves};
 use std::alloc::{AllocError, Global};
 use std::test::Fail;
 
@@ -237,8 +237,8 @@ fn call_lines_are_refused(rt: HostRuntime) -> Result<(), Fail> {
 #[test]
 fn the_most_are_read(rt: HostRuntime) -> Result<(), Fail> {
     for (line, most) in [
-        ("call a create /f 644\n", MOST_CALLS),
-        ("order +a =a s0 s0:a c c:a * +a +a +a\n", MOST_MOVES / 10),
+        ("call a create /f 644\n", 20_000),
+        ("order +a =a s0 s0:a c c:a * +a +a +a\n", 100_000),
     ] {
         for (count, why) in [(most, Why::BadWord), (most + 1, Why::TooMany)] {
             assert_eq!(rt;
