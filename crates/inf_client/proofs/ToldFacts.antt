@@ -3,12 +3,12 @@ use Rattle.std.proofs.Common.{◌≡◌, ◌≢◌, ℕ, ◌<◌, ◌≤◌, Boo
 use Rattle.std.proofs.lemmas.Bool.{eqb-true}
 use Rattle.std.proofs.lemmas.List.{drop_all, length-map}
 use Rattle.std.specs.List.{cons_option, list_all, list_any}
-use Rattle.inf_client.specs.Actor.{IsAtRest, asks_left, group_asks, ready_in}
+use Rattle.inf_client.specs.Client.{IsAtRest, asks_left, group_asks, ready_in}
 use Rattle.inf_client.specs.Group.{IsKept, not_handed}
 use Rattle.inf_client.specs.Room.{room_in, room_needed, room_within}
-use Rattle.inf_client.proofs.ActorFacts.{asks_length, between_in, inside_room, ready_inside}
+use Rattle.inf_client.proofs.ClientFacts.{asks_length, between_in, inside_room, ready_inside}
 use Rattle.inf_client.proofs.TurnRoom.{next_fits, turned_between}
-use Rattle.inf_flow_dir.specs.Client.{Client, Sent, has_place, is_told, told_at}
+use Rattle.inf_flow_dir.specs.Client.{ClientState, Sent, has_place, is_told, told_at}
 use Rattle.inf_flow_dir.specs.Group.{group}
 use Rattle.inf_flow_dir.specs.Turn.{after_record, is_complete, recorded, served, settled, turn_at, turned}
 use Rattle.inf_message.specs.declared.ask.Ask.{Ask}
@@ -49,7 +49,7 @@ told_nothing place told log apart = ap (λ asks. record log { asks = asks }) (sy
 
 -- ---- the client
 
-kept_log : (s : Client) (gone : Bool) (log new : AskLog) (handed : Bool) (outbox : List (ℕ × Ask)) → IsKept s gone log handed outbox
+kept_log : (s : ClientState) (gone : Bool) (log new : AskLog) (handed : Bool) (outbox : List (ℕ × Ask)) → IsKept s gone log handed outbox
     → new.ready ≡ log.ready → new.room ≡ log.room → IsKept s gone new handed outbox
 kept_log s gone log new handed outbox kept ready room = record {
   at_rest = kept.at_rest;
@@ -68,16 +68,16 @@ told_inside : (place : ℕ) (told : Told) (sent : List Sent) → sent ≢ [] →
 told_inside place told [] inside = absurd (inside refl)
 told_inside place told (x ∷ sent) inside = λ none. absurd (cc)
 
-still_here : (s : Client) (gone : Bool) → IsAtRest s gone → s.sent ≢ [] → gone ≡ false
+still_here : (s : ClientState) (gone : Bool) → IsAtRest s gone → s.sent ≢ [] → gone ≡ false
 still_here s true rest inside = absurd (inside rest.0)
 still_here s false rest inside = refl
 
 -- within a group
-ready_within : (handed : Bool) (sent : List Sent) (s : Client) → sent ≢ [] → ready_in handed sent s ≡ asks_left s
+ready_within : (handed : Bool) (sent : List Sent) (s : ClientState) → sent ≢ [] → ready_in handed sent s ≡ asks_left s
 ready_within true sent s inside = refl
 ready_within false sent s inside = ready_inside sent s inside
 
-room_inside : (handed : Bool) (sent : List Sent) (s : Client) → sent ≢ [] → room_in handed sent s ≡ room_within s.stage
+room_inside : (handed : Bool) (sent : List Sent) (s : ClientState) → sent ≢ [] → room_in handed sent s ≡ room_within s.stage
 room_inside true sent s inside = refl
 room_inside false sent s inside = inside_room sent s inside
 
@@ -85,7 +85,7 @@ both_first : (a b : Bool) → (a && b) ≡ true → a ≡ true
 both_first true b e = refl
 both_first false b e = absurd (cc)
 
-module _ (s : Client) (gone : Bool) (log : AskLog) (handed : Bool) (outbox : List (ℕ × Ask)) (place : ℕ) (told : Told) (kept : IsKept s gone log handed outbox)
+module _ (s : ClientState) (gone : Bool) (log : AskLog) (handed : Bool) (outbox : List (ℕ × Ask)) (place : ℕ) (told : Told) (kept : IsKept s gone log handed outbox)
     (inside : s.sent ≢ []) where
   sent_same : length (recorded place told s).sent ≡ length s.sent
   sent_same = length-map s.sent (told_at place told)
@@ -156,12 +156,12 @@ module _ (s : Client) (gone : Bool) (log : AskLog) (handed : Bool) (outbox : Lis
   kept_after : IsKept (after_record (recorded place told s)) gone log handed outbox
   kept_after = kept_settled (is_complete (recorded place told s)) refl
 
-kept_served : (s : Client) (gone : Bool) (log : AskLog) (handed : Bool) (outbox : List (ℕ × Ask)) (place : ℕ) (told : Told) → IsKept s gone log handed outbox
+kept_served : (s : ClientState) (gone : Bool) (log : AskLog) (handed : Bool) (outbox : List (ℕ × Ask)) (place : ℕ) (told : Told) → IsKept s gone log handed outbox
     → (b : Bool) → has_place place s.sent ≡ b → IsKept (cond b (after_record (recorded place told s)) s) gone log handed outbox
 kept_served s gone log handed outbox place told kept true has = kept_after s gone log handed outbox place told kept (has_inside place s.sent has)
 kept_served s gone log handed outbox place told kept false has = kept
 
-pub kept_told : (s : Client) (gone : Bool) (log : AskLog) (handed : Bool) (outbox : List (ℕ × Ask)) (place : ℕ) (told told_log_with : Told)
+pub kept_told : (s : ClientState) (gone : Bool) (log : AskLog) (handed : Bool) (outbox : List (ℕ × Ask)) (place : ℕ) (told told_log_with : Told)
     → IsKept s gone log handed outbox → IsKept (served place told s) gone (told_log place told_log_with log) handed outbox
 kept_told s gone log handed outbox place told answer kept =
     kept_log (served place told s) gone log (told_log place answer log) handed outbox

@@ -6,7 +6,7 @@ use Rattle.inf_base.specs.declared.triple.Triple.{Triple}
 use Rattle.inf_base.specs.declared.triple.Triple.TheVariants as triple
 use Rattle.inf_base.specs.Same.{dir_of}
 use Rattle.inf_client.specs.Room.{room_between, room_within}
-use Rattle.inf_flow_dir.specs.Client.{Client, Ending, Sent, Stage, act, answers, compose, retries, round, winds, wound}
+use Rattle.inf_flow_dir.specs.Client.{ClientState, Ending, Sent, Stage, act, answers, compose, retries, round, winds, wound}
 use Rattle.inf_flow_dir.specs.Flow.{Flow, Who, after_unlink, birth_of, clean_up, finishes, forget_in, last_entry, last_id, links, lives_at, makes, reserves, row_of, seals, unlinks, way_to}
 use Rattle.inf_flow_dir.specs.Group.{Course, next_course}
 use Rattle.inf_flow_dir.specs.Turn.{Next, Turn, act_turn, after_act, after_make, after_round, by_next, fails, follow, from_root, goes_on, is_busy, next_entry, steps, stops, told_entry, turn_at, turned, winds_up}
@@ -106,33 +106,33 @@ sent_fits : (who : Who) (flow : Flow) (sent : List Sent) → TurnFits who 2 (act
 sent_fits who flow [] = omega arith
 sent_fits who flow (x ∷ xs) = told_fits who flow x.place x.told xs
 
-turn_fits : (s : Client) (stage : Stage) → TurnFits s.who (room_within stage) (turn_at s stage)
+turn_fits : (s : ClientState) (stage : Stage) → TurnFits s.who (room_within stage) (turn_at s stage)
 turn_fits s compose = omega arith
 turn_fits s (round keys) = round_fits s.who (next_course s.left) s.sent
 turn_fits s (act flow) = sent_fits s.who flow s.sent
 turn_fits s (winds ending m ms) = omega arith
 
-wound_fits : (ending : Ending) (messages : List Message) (s : Client) (room : ℕ) → length messages ≤ room
+wound_fits : (ending : Ending) (messages : List Message) (s : ClientState) (room : ℕ) → length messages ≤ room
     → room_between (wound ending messages s).who (wound ending messages s).stage ≤ room
 wound_fits (answers given place) [] s room fits = omega arith
 wound_fits retries [] s room fits = omega arith
 wound_fits ending (m ∷ ms) s room fits = omega arith
 
-turned_fits : (turn : Turn) (s : Client) (room : ℕ) → TurnFits s.who room turn → room_between (turned turn s).who (turned turn s).stage ≤ room
+turned_fits : (turn : Turn) (s : ClientState) (room : ℕ) → TurnFits s.who room turn → room_between (turned turn s).who (turned turn s).stage ≤ room
 turned_fits (goes_on stage) s room fits = fits
 turned_fits (winds_up ending messages) s room fits = wound_fits ending messages s room fits
 
 -- there is room between two groups, where there was within the one before
-pub next_fits : (s : Client) (room : ℕ) → room_within s.stage ≤ room → room_between (turned (turn_at s s.stage) s).who (turned (turn_at s s.stage) s).stage ≤ room
+pub next_fits : (s : ClientState) (room : ℕ) → room_within s.stage ≤ room → room_between (turned (turn_at s s.stage) s).who (turned (turn_at s s.stage) s).stage ≤ room
 next_fits s room fits =
     let there = turned_fits (turn_at s s.stage) s (room_within s.stage) (turn_fits s s.stage) in
     omega arith
 
-wound_between : (ending : Ending) (messages : List Message) (s : Client) → (wound ending messages s).sent ≡ []
+wound_between : (ending : Ending) (messages : List Message) (s : ClientState) → (wound ending messages s).sent ≡ []
 wound_between (answers given place) [] s = refl
 wound_between retries [] s = refl
 wound_between ending (m ∷ ms) s = refl
 
-pub turned_between : (turn : Turn) (s : Client) → (turned turn s).sent ≡ []
+pub turned_between : (turn : Turn) (s : ClientState) → (turned turn s).sent ≡ []
 turned_between (goes_on stage) s = refl
 turned_between (winds_up ending messages) s = wound_between ending messages s

@@ -3,7 +3,7 @@
 ghost use Rattle.std.specs.Prelude.{◌≡◌, ◌+◌, ◌<◌, ◌≤◌, ◌^◌, true, false, length, IfOk};
 ghost use Rattle.inf_base.specs.declared.limits.TheConstants.{MOST_CALLS};
 ghost use Rattle.inf_base.specs.Setup.{call_count};
-ghost use Rattle.inf_client.specs.Actor.{Steps, actor, trips_of_actor};
+ghost use Rattle.inf_client.specs.Client.{Steps, client_with, trips_of_client};
 ghost use Rattle.inf_client.specs.ActorBy.{actor_by};
 ghost use Rattle.inf_duty.specs.ClientBy.{client_by};
 ghost use Rattle.inf_duty.specs.Outcome.{results_of};
@@ -59,7 +59,7 @@ impl<R: IdRule> Client<R> {
         requires some_servers { 1 ≤ setup.now.servers }
         requires few_calls { call_count setup.now.clients ≤ MOST_CALLS }
         ensures { IfOk result (λ made. actor_by R.digest_of made
-            ≡ actor (start (world_by (R.digest_of rule) setup.now) client) false no_asks false) }
+            ≡ client_with (start (world_by (R.digest_of rule) setup.now) client) false no_asks false) }
     {
         let machine = ClientMachine::start(alloc, rule, setup, client)?;
         let trips = machine.calls_left().saturating_mul(USUAL_TRIPS);
@@ -73,7 +73,7 @@ impl<R: IdRule> Client<R> {
     }
 
     /// What to do next. Where memory is wanting for a group, its call is given up, and the next one tried.
-    #[tactic(auto, using(crate::proofs::ActorFacts::rests_gone, crate::proofs::ActorFacts::rests_unbuilt, crate::proofs::ActorFacts::full, crate::proofs::ActorFacts::none_ready, crate::proofs::ActorFacts::room_ready))]
+    #[tactic(auto, using(crate::proofs::ClientFacts::rests_gone, crate::proofs::ClientFacts::rests_unbuilt, crate::proofs::ClientFacts::full, crate::proofs::ClientFacts::none_ready, crate::proofs::ClientFacts::room_ready))]
     pub fn step(&mut self, alloc: Global) -> ClientStep
         requires { self.old.handed ≡ false }
         ensures { Steps (actor_by R.digest_of self.old) result (actor_by R.digest_of self.new) }
@@ -110,13 +110,13 @@ impl<R: IdRule> Client<R> {
     }
 
     /// The ask that was handed out was made, and stands at this place.
-    #[tactic(auto, using(crate::proofs::ActorFacts::ready_some, crate::proofs::ActorFacts::kept_asked))]
+    #[tactic(auto, using(crate::proofs::ClientFacts::ready_some, crate::proofs::ClientFacts::kept_asked))]
     pub fn asked(&mut self, place: Place)
         requires handed { self.old.handed ≡ true }
         requires later { IsLater place self.old.log.asks }
         requires room { self.old.state.counts.messages + 1 < 2 ^ 64 }
         ensures { actor_by R.digest_of self.new
-            ≡ actor (placed place (client_by R.digest_of self.old.state)) false (asked_log place self.old.log) false }
+            ≡ client_with (placed place (client_by R.digest_of self.old.state)) false (asked_log place self.old.log) false }
     {
         self.machine.place_ask(place);
         self.log.asked(place);
@@ -127,7 +127,7 @@ impl<R: IdRule> Client<R> {
     #[tactic(auto, using(crate::proofs::ToldFacts::kept_told))]
     pub fn told(&mut self, ask_place: Place, serve_place: Place, reply: Reply)
         ensures { actor_by R.digest_of self.new
-            ≡ actor (served ask_place (told_reply serve_place (heard reply)) (client_by R.digest_of self.old.state))
+            ≡ client_with (served ask_place (told_reply serve_place (heard reply)) (client_by R.digest_of self.old.state))
             self.old.gone (told_log ask_place (told_reply serve_place reply) self.old.log) self.old.handed }
     {
         self.machine.told(ask_place, serve_place, &reply);
@@ -136,7 +136,7 @@ impl<R: IdRule> Client<R> {
 
     /// Its own Asks that were answered, each with its answer and both places, in the order of asking.
     pub fn trips(&self) -> &[Trip]
-        ensures { result.now ≡ trips_of_actor (actor_by R.digest_of self.now) }
+        ensures { result.now ≡ trips_of_client (actor_by R.digest_of self.now) }
     {
         self.log.trips()
     }

@@ -6,7 +6,7 @@ use Rattle.std.specs.List.{list_all}
 use Rattle.inf_duty.specs.Kept.{AloneOrFits}
 use Rattle.inf_duty.specs.Messages.{has_one_message}
 use Rattle.inf_duty.specs.Tally.{with_serve}
-use Rattle.inf_flow_dir.specs.Client.{Client, Ending, Sent, Stage, act, answers, compose, has_place, is_round, is_told, retries, round, told_at, winds}
+use Rattle.inf_flow_dir.specs.Client.{ClientState, Ending, Sent, Stage, act, answers, compose, has_place, is_round, is_told, retries, round, told_at, winds}
 use Rattle.inf_flow_dir.specs.Flow.{Flow, Who, finishes, links, makes, reserves, seals, unlinks}
 use Rattle.inf_flow_dir.specs.Group.{group}
 use Rattle.inf_flow_dir.specs.Heard.{heard}
@@ -19,7 +19,7 @@ use Rattle.inf_message.specs.declared.step.Message.{Message}
 use Rattle.inf_message.specs.History.{Told, or_told}
 
 -- what a turn leaves does not rest on the group that is over
-pub turned_afresh : (t : Turn) (s : Client) (x y : Stage) (xs ys : List Sent)
+pub turned_afresh : (t : Turn) (s : ClientState) (x y : Stage) (xs ys : List Sent)
     → turned t (record s { stage = x; sent = xs }) ≡ turned t (record s { stage = y; sent = ys })
 turned_afresh (goes_on next) s x y xs ys = refl
 turned_afresh (winds_up (answers given place) []) s x y xs ys = refl
@@ -104,19 +104,19 @@ same_nat : (n m : ℕ) → n ≡ m → eqb n m ≡ true
 same_nat n m same = grind (arith, nat_tests)
 
 -- and ends the group
-pub alone_complete : (place : ℕ) (told : Told) (s : Client) → length s.sent ≡ 1 → has_place place s.sent ≡ true → has_one_message s.stage ≡ true → is_complete (recorded place told s) ≡ true
+pub alone_complete : (place : ℕ) (told : Told) (s : ClientState) → length s.sent ≡ 1 → has_place place s.sent ≡ true → has_one_message s.stage ≡ true → is_complete (recorded place told s) ≡ true
 alone_complete place told s alone here one =
     both (eqb (length (map (told_at place told) s.sent)) (length (group s.who s.stage))) (list_all is_told (map (told_at place told) s.sent))
     (same_nat _ _ (length-map s.sent (told_at place told) ∙ alone ∙ sym (size_one s.who s.stage one)))
     (one_told place told s.sent alone here)
 
-pub served_alone : (place : ℕ) (told : Told) (s : Client) → length s.sent ≡ 1 → has_place place s.sent ≡ true → has_one_message s.stage ≡ true
+pub served_alone : (place : ℕ) (told : Told) (s : ClientState) → length s.sent ≡ 1 → has_place place s.sent ≡ true → has_one_message s.stage ≡ true
     → served place told s ≡ turned (turn_at (recorded place told s) s.stage) (recorded place told s)
 served_alone place told s alone here one =
     ap (λ b. if b then settled (is_complete (recorded place told s)) (recorded place told s) else s) here
     ∙ ap (λ b. settled b (recorded place told s)) (alone_complete place told s alone here one)
 
-pub alone_ends : (s mid new : Client) (t : Turn) (place : ℕ) (told : Told) → length s.sent ≡ 1 → has_place place s.sent ≡ true → has_one_message s.stage ≡ true
+pub alone_ends : (s mid new : ClientState) (t : Turn) (place : ℕ) (told : Told) → length s.sent ≡ 1 → has_place place s.sent ≡ true → has_one_message s.stage ≡ true
     → t ≡ turn_at (recorded place told s) s.stage → mid ≡ record s { stage = compose; sent = []; counts = with_serve told.serve_place s.counts }
     → new ≡ turned t mid → new ≡ served place told s
 alone_ends s mid new t place told alone here one turn between after =
@@ -135,7 +135,7 @@ first_of true b is = refl
 first_of false b is = absurd (cc)
 
 -- a group that is over, and is not one message, is a round
-pub complete_round : (s : Client) → is_complete s ≡ true → 0 < length s.sent → (has_one_message s.stage && eqb (length s.sent) 1) ≡ false → is_round s.stage ≡ true
+pub complete_round : (s : ClientState) → is_complete s ≡ true → 0 < length s.sent → (has_one_message s.stage && eqb (length s.sent) 1) ≡ false → is_round s.stage ≡ true
 complete_round s complete some more = by s.stage (first_of (eqb (length s.sent) (length (group s.who s.stage))) _ complete) more
   where
     by : (next : Stage) → eqb (length s.sent) (length (group s.who next)) ≡ true → (has_one_message next && eqb (length s.sent) 1) ≡ false → is_round next ≡ true

@@ -1,12 +1,11 @@
 pub mod CleanUp
-pub mod Client
+pub mod ClientState
 pub mod DirFlow
 pub mod Draft
 pub mod Ending
 pub mod Flow
 pub mod Group
 pub mod Heard
-pub mod Party
 pub mod Path
 pub mod Round
 pub mod Sending

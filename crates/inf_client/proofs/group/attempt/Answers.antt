@@ -4,7 +4,7 @@ use Rattle.inf_client.proofs.GroupFacts.{given_up_found}
 use Rattle.inf_duty.specs.ClientBy.{client_by}
 use Rattle.inf_duty.specs.Duty.{given_up, next_step}
 use Rattle.inf_duty.specs.Messages.{is_winding}
-use Rattle.inf_flow_dir.specs.Client.{Client}
+use Rattle.inf_flow_dir.specs.Client.{ClientState}
 use Rattle.inf_client.proofs.group.attempt.Goals as goal
 
 pub returns-then-is_winding-2-clause-found : goal.returns-then-is_winding-2-clause-found
@@ -17,5 +17,5 @@ returns-then-is_winding-2-clause-found g c =
     let winding : is_winding now.stage ≡ true = search rules in
     subst (IsFound group.ask old) (sym is)
     (given_up_found old group.number group.ask going
-    (ap (λ (t : Client). is_winding t.stage) (sym is) ∙ winding)
+    (ap (λ (t : ClientState). is_winding t.stage) (sym is) ∙ winding)
     (ap next_step (sym is) ∙ c.winding_group-then-is_winding-2.ensures.next))

@@ -1,5 +1,5 @@
 use Rattle.std.proofs.Common.{◌≡◌, ◌≤◌, length}
-use Rattle.inf_client.specs.Actor.{IsOnTheWay}
+use Rattle.inf_client.specs.Client.{IsOnTheWay}
 use Rattle.inf_client.specs.Room.{room_between}
 use Rattle.inf_duty.specs.ClientBy.{client_by}
 use Rattle.inf_client.proofs.group.next_group.Given as goal

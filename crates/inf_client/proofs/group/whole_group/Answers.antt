@@ -5,7 +5,7 @@ use Rattle.inf_duty.specs.ClientBy.{client_by}
 use Rattle.inf_duty.specs.ClientStep.{is_ask}
 use Rattle.inf_duty.specs.Duty.{next_step}
 use Rattle.inf_duty.specs.Messages.{is_winding}
-use Rattle.inf_flow_dir.specs.Client.{Client}
+use Rattle.inf_flow_dir.specs.Client.{ClientState}
 use Rattle.inf_flow_dir.specs.Group.{composed}
 use Rattle.inf_trips.specs.AskLog.{with_room}
 use Rattle.inf_client.proofs.group.whole_group.Goals as goal
@@ -18,9 +18,9 @@ returns-clause-readied g c =
     let reserved : c.reserve.new.self ≡ with_room (length c.in_ok-kept.kept.items + 2) c.args.log.now = search rules in
     whole_readied s c.from_vec-others.result.items c.in_ok-kept.kept.items c.pop_front.new.self.items c.in-Some.number c.in-Some.ask
     c.args.log.now c.keep_all.new.log
-    (ap (λ (t : Client). t.sent) took ∙ c.requires.between)
-    (ap (λ (t : Client). is_ask (next_step t)) took ∙ c.requires.asking)
-    (ap (λ (t : Client). is_winding t.stage) took ∙ composed_goes old c.requires.going)
+    (ap (λ (t : ClientState). t.sent) took ∙ c.requires.between)
+    (ap (λ (t : ClientState). is_ask (next_step t)) took ∙ c.requires.asking)
+    (ap (λ (t : ClientState). is_winding t.stage) took ∙ composed_goes old c.requires.going)
     c.requires.none
     (c.from_vec-others.ensures.items ∙ c.in_ok-asks.ensures)
     c.in_ok-kept.ensures

@@ -1,8 +1,8 @@
 use Rattle.std.proofs.Common.{◌≡◌, ◌≢◌, true, false, [], is_some, sym, ap, subst, ◌∙◌, rules}
-use Rattle.inf_client.specs.Actor.{AsksNext, Steps, actor}
+use Rattle.inf_client.specs.Client.{AsksNext, Steps, client_with}
 use Rattle.inf_client.specs.ActorBy.{ActorBy, actor_by}
 use Rattle.inf_client.specs.Group.{IsKept}
-use Rattle.inf_client.proofs.ActorFacts.{asks_inside, full, rests_given_up, rests_inside}
+use Rattle.inf_client.proofs.ClientFacts.{asks_inside, full, rests_given_up, rests_inside}
 use Rattle.inf_client.proofs.WayFacts.{was_free}
 use Rattle.inf_duty.specs.ClientBy.{client_by}
 use Rattle.inf_duty.specs.Outcome.{all_given_up}
@@ -19,9 +19,9 @@ returns-in-Some g c =
     subst (λ gone. IsKept s gone i.log false i.outbox.items) here
     (subst (λ handed. IsKept s i.has_given_up i.log handed i.outbox.items) quiet c.self.invariant) in
     let next = asks_inside s i.log i.outbox.items c.pop_front.new.self.items c.in-Some.number c.in-Some.ask kept c.in-Some.ensures.items in
-    subst (λ (a : ActorBy _). AsksNext c.in-Some.number c.in-Some.ask (actor_by g.R.IdRule.digest_of a) (actor s i.has_given_up i.log true)) c.self.view_is
-    (subst (λ gone. AsksNext c.in-Some.number c.in-Some.ask (actor s gone i.log i.is_handed) (actor s gone i.log true)) (sym here)
-    (subst (λ handed. AsksNext c.in-Some.number c.in-Some.ask (actor s false i.log handed) (actor s false i.log true)) (sym quiet) next))
+    subst (λ (a : ActorBy _). AsksNext c.in-Some.number c.in-Some.ask (actor_by g.R.IdRule.digest_of a) (client_with s i.has_given_up i.log true)) c.self.view_is
+    (subst (λ gone. AsksNext c.in-Some.number c.in-Some.ask (client_with s gone i.log i.is_handed) (client_with s gone i.log true)) (sym here)
+    (subst (λ handed. AsksNext c.in-Some.number c.in-Some.ask (client_with s false i.log handed) (client_with s false i.log true)) (sym quiet) next))
 
 pub returns-then-not-is_between : goal.returns-then-not-is_between
 returns-then-not-is_between g c =
@@ -36,9 +36,9 @@ returns-then-not-is_between g c =
     let none : i.outbox.items ≡ [] = search rules in
     let rests = rests_inside s i.log told inside c.rest-then-not-is_between.ensures.quiet
     (c.rest-then-not-is_between.ensures.inside (full s i.has_given_up i.log i.outbox.items kept none inside)) in
-    subst (λ (a : ActorBy _). Steps (actor_by g.R.IdRule.digest_of a) told (actor s i.has_given_up i.log i.is_handed)) c.self.view_is
-    (subst (λ gone. Steps (actor s gone i.log i.is_handed) told (actor s gone i.log i.is_handed)) (sym here)
-    (subst (λ handed. Steps (actor s false i.log handed) told (actor s false i.log handed)) (sym quiet) rests))
+    subst (λ (a : ActorBy _). Steps (actor_by g.R.IdRule.digest_of a) told (client_with s i.has_given_up i.log i.is_handed)) c.self.view_is
+    (subst (λ gone. Steps (client_with s gone i.log i.is_handed) told (client_with s gone i.log i.is_handed)) (sym here)
+    (subst (λ handed. Steps (client_with s false i.log handed) told (client_with s false i.log handed)) (sym quiet) rests))
 
 pub returns-in-None : goal.returns-in-None
 returns-in-None g c =
@@ -58,6 +58,6 @@ returns-in-None g c =
     let same : log ≡ i.log = search rules in
     let rests = rests_given_up s now i.log log told between (c.is_built.ensures.asking between is_built) (was_free s now built all unbuilt) all stays same
     c.rest-in-None.ensures.quiet (c.rest-in-None.ensures.unbuilt unbuilt) in
-    subst (λ (a : ActorBy _). Steps (actor_by g.R.IdRule.digest_of a) told (actor now true log i.is_handed)) c.self.view_is
-    (subst (λ gone. Steps (actor s gone i.log i.is_handed) told (actor now true log i.is_handed)) (sym here)
-    (subst (λ handed. Steps (actor s false i.log handed) told (actor now true log handed)) (sym quiet) rests))
+    subst (λ (a : ActorBy _). Steps (actor_by g.R.IdRule.digest_of a) told (client_with now true log i.is_handed)) c.self.view_is
+    (subst (λ gone. Steps (client_with s gone i.log i.is_handed) told (client_with now true log i.is_handed)) (sym here)
+    (subst (λ handed. Steps (client_with s false i.log handed) told (client_with now true log handed)) (sym quiet) rests))

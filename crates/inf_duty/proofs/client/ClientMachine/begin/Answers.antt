@@ -1,14 +1,14 @@
 use Rattle.std.proofs.Common.{◌≡◌, ◌≢◌, [], refl, ap, sym, ◌∙◌, rules}
 use Rattle.inf_duty.specs.ClientBy.{client_by}
-use Rattle.inf_flow_dir.specs.Client.{Client}
+use Rattle.inf_flow_dir.specs.Client.{ClientState}
 use Rattle.inf_duty.proofs.BeginFacts.{begun_over, begun_stopped}
 use Rattle.inf_duty.proofs.client.ClientMachine.begin.Goals.{then-is_empty-via-then-is_empty, then-is_empty-via-else-is_empty+then-self-ask}
 use Rattle.inf_duty.proofs.client.ClientMachine.begin.Goals as goal
 
 pub returns-then-is_empty : goal.returns-then-is_empty
 returns-then-is_empty g c =
-    let before : Client = client_by g.R.IdRule.digest_of c.args.self.now in
-    let after : Client = client_by g.R.IdRule.digest_of c.pass_to.new.self in
+    let before : ClientState = client_by g.R.IdRule.digest_of c.args.self.now in
+    let after : ClientState = client_by g.R.IdRule.digest_of c.pass_to.new.self in
     let none : before.sent ≡ [] = c.if-not-is_between.ensures.0 refl in
     elim c.then-is_empty.branch [
       | then-is_empty-via-then-is_empty w ↦

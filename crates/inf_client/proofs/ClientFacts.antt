@@ -3,7 +3,7 @@ use Rattle.std.proofs.Common.{◌≡◌, ◌≢◌, ℕ, zero, suc, ◌+◌, ◌
 use Rattle.std.proofs.lemmas.List.{drop-drop, length-drop, length-map}
 use Rattle.std.proofs.lemmas.Option.{slice_get_within}
 use Rattle.inf_base.specs.declared.call.Call.{Call}
-use Rattle.inf_client.specs.Actor.{Actor, AsksNext, IsAtRest, Rests, Steps, actor, asks_left, group_asks, ready_in}
+use Rattle.inf_client.specs.Client.{Client, AsksNext, IsAtRest, Rests, Steps, client_with, asks_left, group_asks, ready_in}
 use Rattle.inf_client.specs.Group.{IsKept, IsReadied, posted_of}
 use Rattle.inf_client.specs.Planned.{planned, planned_from}
 use Rattle.inf_client.specs.Room.{room_between, room_in, room_within}
@@ -12,22 +12,22 @@ use Rattle.inf_duty.specs.Duty.{asks, begun, next_in, next_of, next_step}
 use Rattle.inf_duty.specs.Outcome.{all_given_up, may_give_up}
 use Rattle.inf_duty.specs.declared.client_step.ClientStep.{ClientStep}
 use Rattle.inf_duty.specs.declared.client_step.ClientStep.TheVariants as step
-use Rattle.inf_flow_dir.specs.Client.{Client, Sent, call_ref, placed}
+use Rattle.inf_flow_dir.specs.Client.{ClientState, Sent, call_ref, placed}
 use Rattle.inf_flow_dir.specs.Group.{composed, group, next_course}
 use Rattle.inf_message.specs.declared.ask.Ask.{Ask}
 use Rattle.inf_message.specs.declared.step.Message.{Message}
 use Rattle.inf_message.specs.History.{Posted, posted_ask}
 use Rattle.inf_trips.specs.AskLog.{AskLog, asked_first, asked_log}
 
-planned_between : (sent : List Sent) (s : Client) → sent ≡ [] → planned_from sent s ≡ composed s
+planned_between : (sent : List Sent) (s : ClientState) → sent ≡ [] → planned_from sent s ≡ composed s
 planned_between [] s between = refl
 planned_between (x ∷ sent) s between = absurd (cc)
 
-planned_inside : (sent : List Sent) (s : Client) → sent ≢ [] → planned_from sent s ≡ s
+planned_inside : (sent : List Sent) (s : ClientState) → sent ≢ [] → planned_from sent s ≡ s
 planned_inside [] s inside = absurd (inside refl)
 planned_inside (x ∷ sent) s inside = refl
 
-rests : (old new : Actor) (told : ClientStep) → Rests old new → IsQuiet told → next_step (planned new.state) ≡ next_as told → Steps old told new
+rests : (old new : Client) (told : ClientStep) → Rests old new → IsQuiet told → next_step (planned new.state) ≡ next_as told → Steps old told new
 rests old new (step.Ask number ask) how quiet next = absurd quiet
 rests old new step.Waiting how quiet next = (how, next)
 rests old new step.Finished how quiet next = (how, next)
@@ -37,33 +37,33 @@ no_ask (step.Ask number ask) quiet = absurd quiet
 no_ask step.Waiting quiet = refl
 no_ask step.Finished quiet = refl
 
-pub rests_gone : (state : Client) (log : AskLog) (told : ClientStep) → state.sent ≡ [] → IsQuiet told → next_step (composed state) ≡ next_as told
-    → Steps (actor state true log false) told (actor state true log false)
+pub rests_gone : (state : ClientState) (log : AskLog) (told : ClientStep) → state.sent ≡ [] → IsQuiet told → next_step (composed state) ≡ next_as told
+    → Steps (client_with state true log false) told (client_with state true log false)
 rests_gone state log told between quiet next =
-    rests (actor state true log false) (actor state true log false) told (inl (record { idle = refl; same = refl })) quiet
+    rests (client_with state true log false) (client_with state true log false) told (inl (record { idle = refl; same = refl })) quiet
     (ap next_step (planned_between state.sent state between) ∙ next)
 
-idle : (state : Client) (log : AskLog) (told : ClientStep) → IsQuiet told → next_step (planned state) ≡ next_as told
-    → Steps (actor state false log false) told (actor state false log false)
+idle : (state : ClientState) (log : AskLog) (told : ClientStep) → IsQuiet told → next_step (planned state) ≡ next_as told
+    → Steps (client_with state false log false) told (client_with state false log false)
 idle state log told quiet next =
-    rests (actor state false log false) (actor state false log false) told
+    rests (client_with state false log false) (client_with state false log false) told
     (inl (record { idle = ap is_ask next ∙ no_ask told quiet; same = refl })) quiet next
 
-pub rests_inside : (state : Client) (log : AskLog) (told : ClientStep) → state.sent ≢ [] → IsQuiet told → next_step state ≡ next_as told
-    → Steps (actor state false log false) told (actor state false log false)
+pub rests_inside : (state : ClientState) (log : AskLog) (told : ClientStep) → state.sent ≢ [] → IsQuiet told → next_step state ≡ next_as told
+    → Steps (client_with state false log false) told (client_with state false log false)
 rests_inside state log told inside quiet next =
     idle state log told quiet (ap next_step (planned_inside state.sent state inside) ∙ next)
 
-pub rests_unbuilt : (state : Client) (log : AskLog) (told : ClientStep) → state.sent ≡ [] → IsQuiet told → next_step (composed state) ≡ next_as told
-    → Steps (actor state false log false) told (actor state false log false)
+pub rests_unbuilt : (state : ClientState) (log : AskLog) (told : ClientStep) → state.sent ≡ [] → IsQuiet told → next_step (composed state) ≡ next_as told
+    → Steps (client_with state false log false) told (client_with state false log false)
 rests_unbuilt state log told between quiet next =
     idle state log told quiet (ap next_step (planned_between state.sent state between) ∙ next)
 
-pub rests_given_up : (state now : Client) (log new : AskLog) (told : ClientStep) → state.sent ≡ [] → is_ask (next_step (composed state)) ≡ true
+pub rests_given_up : (state now : ClientState) (log new : AskLog) (told : ClientStep) → state.sent ≡ [] → is_ask (next_step (composed state)) ≡ true
     → may_give_up state ≡ true → now ≡ all_given_up state.left state → now.sent ≡ [] → new ≡ log → IsQuiet told → next_step (composed now) ≡ next_as told
-    → Steps (actor state false log false) told (actor now true new false)
+    → Steps (client_with state false log false) told (client_with now true new false)
 rests_given_up state now log new told between asking free all stays same quiet next =
-    rests (actor state false log false) (actor now true new false) told
+    rests (client_with state false log false) (client_with now true new false) told
     (inr (record {
       asking = ap (λ s. is_ask (next_step s)) (planned_between state.sent state between) ∙ asking;
       between = between;
@@ -77,7 +77,7 @@ rests_given_up state now log new told between asking free all stays same quiet n
 
 -- ---- the asks that are left
 
-pub asks_length : (s : Client) → length (group_asks s) ≡ length (group s.who s.stage)
+pub asks_length : (s : ClientState) → length (group_asks s) ≡ length (group s.who s.stage)
 asks_length s = length-map (group s.who s.stage) (λ (m : Message). posted_ask m.number (record { from = call_ref s; caller = s.who.caller; request = m.request }))
 
 -- an ask that is left, by its message
@@ -94,33 +94,33 @@ left_at f (x ∷ xs) (suc n) first others is =
     let later = left_at f xs n first others is in
     record { x = later.x; at = later.at; is = later.is }
 
-inside_ready : (sent : List Sent) (s : Client) (first : Posted) (others : List Posted) → ready_in false sent s ≡ first ∷ others
+inside_ready : (sent : List Sent) (s : ClientState) (first : Posted) (others : List Posted) → ready_in false sent s ≡ first ∷ others
     → (sent ≢ []) × (ready_in false sent s ≡ asks_left s)
 inside_ready [] s first others is = absurd (cc)
 inside_ready (x ∷ sent) s first others is = ((λ none. absurd (cc)), refl)
 
-pub inside_room : (sent : List Sent) (s : Client) → sent ≢ [] → room_in false sent s ≡ room_within s.stage
+pub inside_room : (sent : List Sent) (s : ClientState) → sent ≢ [] → room_in false sent s ≡ room_within s.stage
 inside_room [] s inside = absurd (inside refl)
 inside_room (x ∷ sent) s inside = refl
 
-pub ready_inside : (sent : List Sent) (s : Client) → sent ≢ [] → ready_in false sent s ≡ asks_left s
+pub ready_inside : (sent : List Sent) (s : ClientState) → sent ≢ [] → ready_in false sent s ≡ asks_left s
 ready_inside [] s inside = absurd (inside refl)
 ready_inside (x ∷ sent) s inside = refl
 
-begun_inside : (ask : Ask) (sent : List Sent) (s : Client) → sent ≢ [] → begun ask sent s ≡ s
+begun_inside : (ask : Ask) (sent : List Sent) (s : ClientState) → sent ≢ [] → begun ask sent s ≡ s
 begun_inside ask [] s inside = absurd (inside refl)
 begun_inside ask (x ∷ sent) s inside = refl
 
-next_at : (s : Client) (left : List Call) (message : Message) → 0 < length left → slice_get (group s.who s.stage) (length s.sent) ≡ Some message
+next_at : (s : ClientState) (left : List Call) (message : Message) → 0 < length left → slice_get (group s.who s.stage) (length s.sent) ≡ Some message
     → next_in s left ≡ next_of s (Some message)
 next_at s [] message some at = absurd (omega arith)
 next_at s (call ∷ left) message some at = ap (next_of s) at
 
-left_some : (s : Client) (left : List Call) (number : ℕ) (ask : Ask) → next_in s left ≡ asks number ask → 0 < length left
+left_some : (s : ClientState) (left : List Call) (number : ℕ) (ask : Ask) → next_in s left ≡ asks number ask → 0 < length left
 left_some s [] number ask is = absurd (cc)
 left_some s (call ∷ left) number ask is = omega arith
 
-module _ (s : Client) (log : AskLog) (outbox others : List (ℕ × Ask)) (number : ℕ) (ask : Ask) (kept : IsKept s false log false outbox)
+module _ (s : ClientState) (log : AskLog) (outbox others : List (ℕ × Ask)) (number : ℕ) (ask : Ask) (kept : IsKept s false log false outbox)
     (first : outbox ≡ (number, ask) ∷ others) where
   all_ready : log.ready ≡ posted_ask number ask ∷ map posted_of others
   all_ready = sym kept.posts ∙ ap (map posted_of) first
@@ -140,7 +140,7 @@ module _ (s : Client) (log : AskLog) (outbox others : List (ℕ × Ask)) (number
       next_at s s.left message_left.x (kept.calls (subst (λ (ready : List Posted). 0 < length ready) (sym all_ready) (omega arith))) message_left.at
       ∙ ap (λ (p : Posted). asks p.number p.ask) message_left.is
 
-  pub asks_inside : AsksNext number ask (actor s false log false) (actor s false log true)
+  pub asks_inside : AsksNext number ask (client_with s false log false) (client_with s false log true)
   asks_inside = record {
     here = refl;
     duty = ap next_step (begun_inside ask s.sent s inside.0) ∙ next_inside;
@@ -163,7 +163,7 @@ module _ (s : Client) (log : AskLog) (outbox others : List (ℕ × Ask)) (number
     room = subst (λ (room : ℕ). room ≤ log.room) (inside_room s.sent s inside.0) kept.room;
   }
 
-pub full : (s : Client) (gone : Bool) (log : AskLog) (outbox : List (ℕ × Ask)) → IsKept s gone log false outbox → outbox ≡ [] → s.sent ≢ []
+pub full : (s : ClientState) (gone : Bool) (log : AskLog) (outbox : List (ℕ × Ask)) → IsKept s gone log false outbox → outbox ≡ [] → s.sent ≢ []
     → length (group s.who s.stage) ≤ length s.sent
 full s gone log outbox kept none inside =
     let all : asks_left s ≡ [] = sym (ready_inside s.sent s inside) ∙ sym kept.in_step.ready ∙ sym kept.posts ∙ ap (map posted_of) none in
@@ -171,24 +171,24 @@ full s gone log outbox kept none inside =
     let many = asks_length s in
     omega arith
 
-pub between_in : (sent : List Sent) (s : Client) → sent ≡ [] → ready_in false sent s ≡ []
+pub between_in : (sent : List Sent) (s : ClientState) → sent ≡ [] → ready_in false sent s ≡ []
 between_in [] s between = refl
 between_in (x ∷ sent) s between = absurd (cc)
 
-pub none_ready : (s : Client) (gone : Bool) (log : AskLog) (outbox : List (ℕ × Ask)) → IsKept s gone log false outbox → s.sent ≡ [] → log.ready ≡ []
+pub none_ready : (s : ClientState) (gone : Bool) (log : AskLog) (outbox : List (ℕ × Ask)) → IsKept s gone log false outbox → s.sent ≡ [] → log.ready ≡ []
 none_ready s gone log outbox kept between = kept.in_step.ready ∙ between_in s.sent s between
 
-pub room_ready : (s : Client) (gone : Bool) (log : AskLog) (outbox : List (ℕ × Ask)) → IsKept s gone log false outbox → s.sent ≡ []
+pub room_ready : (s : ClientState) (gone : Bool) (log : AskLog) (outbox : List (ℕ × Ask)) → IsKept s gone log false outbox → s.sent ≡ []
     → room_between s.who s.stage ≤ log.room
 room_ready s gone log outbox kept between = subst (λ (room : ℕ). room ≤ log.room) (ap (λ sent. room_in false sent s) between) kept.room
 
 -- ---- a new group
 
-module _ (s now : Client) (number : ℕ) (ask : Ask) (others : List (ℕ × Ask)) (log new : AskLog) (readied : IsReadied number ask others now log new) where
+module _ (s now : ClientState) (number : ℕ) (ask : Ask) (others : List (ℕ × Ask)) (log new : AskLog) (readied : IsReadied number ask others now log new) where
   ready_first : new.ready ≡ posted_ask number ask ∷ map posted_of others
   ready_first = readied.ready ∙ sym readied.posts
 
-  pub asks_first : now ≡ begun ask s.sent s → ask.from.client ≡ s.who.client → AsksNext number ask (actor s false log false) (actor now false new true)
+  pub asks_first : now ≡ begun ask s.sent s → ask.from.client ≡ s.who.client → AsksNext number ask (client_with s false log false) (client_with now false new true)
   asks_first is own = record {
     here = refl;
     duty = ap next_step (sym is) ∙ readied.next;
@@ -218,7 +218,7 @@ module _ (s now : Client) (number : ℕ) (ask : Ask) (others : List (ℕ × Ask)
     room = readied.room;
   }
 
-pub kept_gone : (s now : Client) (log new : AskLog) (outbox : List (ℕ × Ask)) → IsKept s false log false outbox → outbox ≡ [] → s.sent ≡ []
+pub kept_gone : (s now : ClientState) (log new : AskLog) (outbox : List (ℕ × Ask)) → IsKept s false log false outbox → outbox ≡ [] → s.sent ≡ []
     → now.sent ≡ [] → is_some (next_course now.left) ≡ false → new ≡ log → room_between now.who now.stage ≤ new.room → IsKept now true new false outbox
 kept_gone s now log new outbox kept none before between unbuilt same room =
     let empty : new.ready ≡ [] = ap (λ (l : AskLog). l.ready) same ∙ none_ready s false log outbox kept before in
@@ -242,10 +242,10 @@ begins : (ready : List Posted) → 0 < length ready → Begins ready
 begins [] some = absurd (omega arith)
 begins (first ∷ others) some = record { first = first; others = others; is = refl }
 
-handed_ready : (s : Client) (gone : Bool) (log : AskLog) (outbox : List (ℕ × Ask)) → IsKept s gone log true outbox → log.ready ≡ asks_left s
+handed_ready : (s : ClientState) (gone : Bool) (log : AskLog) (outbox : List (ℕ × Ask)) → IsKept s gone log true outbox → log.ready ≡ asks_left s
 handed_ready s gone log outbox kept = kept.in_step.ready
 
-pub ready_some : (s : Client) (gone : Bool) (log : AskLog) (outbox : List (ℕ × Ask)) → IsKept s gone log true outbox → 0 < length log.ready
+pub ready_some : (s : ClientState) (gone : Bool) (log : AskLog) (outbox : List (ℕ × Ask)) → IsKept s gone log true outbox → 0 < length log.ready
 ready_some s gone log outbox kept =
     let there : length s.sent < length (group s.who s.stage) = kept.in_step.first refl in
     let many = asks_length s in
@@ -257,7 +257,7 @@ pushed_inside : (sent : List Sent) (x : Sent) → (sent ++ x ∷ []) ≢ []
 pushed_inside [] x = λ none. absurd (cc)
 pushed_inside (y ∷ sent) x = λ none. absurd (cc)
 
-pub kept_asked : (place : ℕ) (s : Client) (gone : Bool) (log : AskLog) (outbox : List (ℕ × Ask)) → IsKept s gone log true outbox
+pub kept_asked : (place : ℕ) (s : ClientState) (gone : Bool) (log : AskLog) (outbox : List (ℕ × Ask)) → IsKept s gone log true outbox
     → IsKept (placed place s) gone (asked_log place log) false outbox
 kept_asked place s gone log outbox kept =
     let some = begins log.ready (ready_some s gone log outbox kept) in
