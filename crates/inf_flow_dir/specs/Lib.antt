@@ -1,5 +1,5 @@
 pub mod CleanUp
-pub mod ClientState
+pub mod Client
 pub mod DirFlow
 pub mod Draft
 pub mod Ending
