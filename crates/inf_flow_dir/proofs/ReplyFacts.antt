@@ -1,5 +1,5 @@
 -- Where a reply is not the one that is hoped for, a step fails.
-use Rattle.std.proofs.Common.{◌≡◌, ℕ, List, refl}
+use Rattle.std.proofs.Common.{◌≡◌, ℕ, List, refl, sym, ap, ◌∙◌}
 use Rattle.inf_base.specs.declared.directory.DirRef.{DirRef}
 use Rattle.inf_base.specs.declared.entry.Entry.{Entry}
 use Rattle.inf_base.specs.declared.file.FileMeta.{FileMeta}
@@ -9,8 +9,10 @@ use Rattle.inf_base.specs.declared.triple.Triple.{Triple}
 use Rattle.inf_message.specs.declared.op.Op.TheVariants as op
 use Rattle.inf_message.specs.declared.reply.Reply.{Reply}
 use Rattle.inf_message.specs.declared.reply.Reply.TheVariants as reply
-use Rattle.inf_flow_dir.specs.Flow.{Who, finishes, links, makes, reserves, seals, unlinks}
-use Rattle.inf_flow_dir.specs.Turn.{after_act, fails}
+use Rattle.inf_flow_dir.specs.declared.phase.Phase.{Phase}
+use Rattle.inf_flow_dir.specs.DirFlow.{flow_of}
+use Rattle.inf_flow_dir.specs.Flow.{Flow, Who, finishes, links, makes, reserves, seals, unlinks}
+use Rattle.inf_flow_dir.specs.Turn.{Turn, after_act, fails}
 
 pub unless_created : (digest : List ℕ → Id) (who : Who) (chain : List Entry) (name : List ℕ) (mode asked place : ℕ) (given : Reply) → (given ≡ reply.Fine → ⊥) → fails who (finishes chain (op.Create name mode)) place given ≡ after_act digest who (finishes chain (op.Create name mode)) asked place given
 unless_created digest who chain name mode asked place reply.Fine other = absurd (other refl)
@@ -40,3 +42,7 @@ unless_sealed digest who chain asked place given other = refl
 pub unless_unlinked : (digest : List ℕ → Id) (who : Who) (chain : List Entry) (asked place : ℕ) (given : Reply) → (given ≡ reply.Fine → ⊥) → fails who (unlinks chain) place given ≡ after_act digest who (unlinks chain) asked place given
 unless_unlinked digest who chain asked place reply.Fine other = absurd (other refl)
 unless_unlinked digest who chain asked place given other = refl
+
+-- a flow, as its field says
+pub at_phase : (digest : List ℕ → Id) (who : Who) (f : Flow) (was now : Phase) (asked place : ℕ) (given : Reply) (turn : Turn) → flow_of was ≡ f → was ≡ now → turn ≡ after_act digest who (flow_of now) asked place given → turn ≡ after_act digest who f asked place given
+at_phase digest who f was now asked place given turn view_is was_is is = is ∙ ap (λ (x : Flow). after_act digest who x asked place given) (sym (ap flow_of was_is) ∙ view_is)

@@ -1,7 +1,8 @@
 //! The messages of a flow.
 
-ghost use Rattle.std.specs.Prelude.{◌≡◌, ℕ, IfOk};
-ghost use Rattle.inf_flow_dir.specs.Flow.{birth_of, finishes, links, makes, message_of, reserves, seals, unlinks};
+ghost use Rattle.std.specs.Prelude.{◌≡◌, IfOk};
+ghost use Rattle.inf_message.specs.declared.request.Request.TheVariants as request;
+ghost use Rattle.inf_flow_dir.specs.Flow.{birth_of, finishes, last_id, makes, message_of, reserves, seals, to, unlinks};
 
 use super::DirFlow;
 use crate::chain::way_to;
@@ -78,8 +79,8 @@ fn make(alloc: Global, who: &Who, new: &NewDir, version: u64, id: &Id) -> Result
 }
 
 fn link(alloc: Global, who: &Who, new: &NewDir, dir: &DirRef) -> Result<Message, NoMemory>
-    ensures { (version : ℕ) → IfOk result (λ made. made
-        ≡ message_of who.now (links new.now.chain new.now.name new.now.mode version dir.now)) }
+    ensures { IfOk result (λ made.
+        made ≡ to who.now (last_id who.now new.now.chain) (request.Link new.now.chain new.now.name dir.now new.now.mode)) }
 {
     Ok(Message {
         number: who.server(&who.last_id(new.chain.as_slice())),
