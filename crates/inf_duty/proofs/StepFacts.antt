@@ -1,6 +1,7 @@
 -- What a client has still to send.
 use Rattle.std.proofs.Common.{◌≡◌, ◌≢◌, ℕ, zero, suc, ◌<◌, ◌≤◌, Bool, true, false, List, [], ◌∷◌, length, map, slice_get, Option, Some, None, is_some, Decides, refl, sym, ap, ◌∙◌, arith}
 use Rattle.std.proofs.lemmas.Bool.Decides.{Decides-like}
+use Rattle.inf_base.specs.declared.id.Id.{Id}
 use Rattle.inf_base.specs.declared.call.Call.{Call}
 use Rattle.inf_base.specs.declared.key.LookKey.{LookKey}
 use Rattle.inf_duty.specs.ClientStep.{is_ask}
@@ -30,24 +31,24 @@ first_key : (who : Who) (keys : List LookKey) → 0 < length keys → slice_get 
 first_key who [] some none = omega arith
 first_key who (key ∷ keys) some none = cc
 
-first_of_course : (who : Who) (course : Option Course) → is_some course ≡ true → slice_get (group who (keys_of who course)) 0 ≡ None → ⊥
-first_of_course who None built none = cc
-first_of_course who (Some course) built none = cc
+first_of_course : (digest : List ℕ → Id) (who : Who) (course : Option Course) → is_some course ≡ true → slice_get (group who (keys_of digest who course)) 0 ≡ None → ⊥
+first_of_course digest who None built none = cc
+first_of_course digest who (Some course) built none = cc
 
-composed_there : (s : ClientState) (stands : Standing) → IsOf s.left stands → is_some (next_course s.left) ≡ true
-    → slice_get (group s.who (composed_stage s (stage_of stands))) 0 ≡ None → ⊥
-composed_there s standing.Compose is built none = first_of_course s.who (next_course s.left) built none
-composed_there s (standing.Round keys draft) is built none = first_key s.who keys is.1 none
-composed_there s (standing.Act flow) is built none = cc
-composed_there s (standing.Winds ending first rest) is built none = cc
+composed_there : (digest : List ℕ → Id) (s : ClientState) (stands : Standing) → IsOf s.left stands → is_some (next_course s.left) ≡ true
+    → slice_get (group s.who (composed_stage digest s (stage_of stands))) 0 ≡ None → ⊥
+composed_there digest s standing.Compose is built none = first_of_course digest s.who (next_course s.left) built none
+composed_there digest s (standing.Round keys draft) is built none = first_key s.who keys is.1 none
+composed_there digest s (standing.Act flow) is built none = cc
+composed_there digest s (standing.Winds ending first rest) is built none = cc
 
 -- between two groups there is an ask to make for a call that is built
-pub built_asks : (s : ClientState) (stands : Standing) → s.stage ≡ stage_of stands → IsOf s.left stands → s.sent ≡ [] → is_some (next_course s.left) ≡ true → is_ask (next_step (composed s)) ≡ true
-built_asks s stands at is between built =
-    ap is_ask (next_in_some (composed s) s.left (built_left s.left built)
-    ∙ ap (λ sent. next_of (composed s) (slice_get (group s.who (composed_stage s s.stage)) (length sent))) between)
-    ∙ some_ask (composed s) (slice_get (group s.who (composed_stage s s.stage)) 0)
-    (λ none. composed_there s stands is built (ap (λ x. slice_get (group s.who (composed_stage s x)) 0) (sym at) ∙ none))
+pub built_asks : (digest : List ℕ → Id) (s : ClientState) (stands : Standing) → s.stage ≡ stage_of stands → IsOf s.left stands → s.sent ≡ [] → is_some (next_course s.left) ≡ true → is_ask (next_step (composed digest s)) ≡ true
+built_asks digest s stands at is between built =
+    ap is_ask (next_in_some (composed digest s) s.left (built_left s.left built)
+    ∙ ap (λ sent. next_of (composed digest s) (slice_get (group s.who (composed_stage digest s s.stage)) (length sent))) between)
+    ∙ some_ask (composed digest s) (slice_get (group s.who (composed_stage digest s s.stage)) 0)
+    (λ none. composed_there digest s stands is built (ap (λ x. slice_get (group s.who (composed_stage digest s x)) 0) (sym at) ∙ none))
 
 pub over_next : (s : ClientState) → s.left ≡ [] → next_step s ≡ is_over
 over_next s over = ap (next_in s) over
@@ -65,26 +66,26 @@ not_built : (course : Option Course) → is_some course ≡ false → course ≡
 not_built None none = refl
 not_built (Some course) none = absurd (cc)
 
-unbuilt_stage : (s : ClientState) (stands : Standing) → IsOf s.left stands → is_some (next_course s.left) ≡ false → composed_stage s (stage_of stands) ≡ compose
-unbuilt_stage s standing.Compose is none = ap (keys_of s.who) (not_built (next_course s.left) none)
-unbuilt_stage s (standing.Round keys draft) is none = let some : next_course s.left ≡ Some (course_with draft) = is.0 in absurd (cc)
-unbuilt_stage s (standing.Act flow) is none = let some : is_some (next_course s.left) ≡ true = is in absurd (cc)
-unbuilt_stage s (standing.Winds ending first rest) is none = let some : is_some (next_course s.left) ≡ true = is in absurd (cc)
+unbuilt_stage : (digest : List ℕ → Id) (s : ClientState) (stands : Standing) → IsOf s.left stands → is_some (next_course s.left) ≡ false → composed_stage digest s (stage_of stands) ≡ compose
+unbuilt_stage digest s standing.Compose is none = ap (keys_of digest s.who) (not_built (next_course s.left) none)
+unbuilt_stage digest s (standing.Round keys draft) is none = let some : next_course s.left ≡ Some (course_with draft) = is.0 in absurd (cc)
+unbuilt_stage digest s (standing.Act flow) is none = let some : is_some (next_course s.left) ≡ true = is in absurd (cc)
+unbuilt_stage digest s (standing.Winds ending first rest) is none = let some : is_some (next_course s.left) ≡ true = is in absurd (cc)
 
 -- so does one that has come to a call that is not built
-pub waits_unbuilt : (s : ClientState) (stands : Standing) → s.stage ≡ stage_of stands → IsOf s.left stands → is_some (next_course s.left) ≡ false → 0 < length s.left → next_step (composed s) ≡ waits
-waits_unbuilt s stands at is none left =
-    next_in_some (composed s) s.left left
-    ∙ ap (λ (next : Stage). next_of (composed s) (slice_get (group s.who next) (length s.sent))) (ap (composed_stage s) at ∙ unbuilt_stage s stands is none)
+pub waits_unbuilt : (digest : List ℕ → Id) (s : ClientState) (stands : Standing) → s.stage ≡ stage_of stands → IsOf s.left stands → is_some (next_course s.left) ≡ false → 0 < length s.left → next_step (composed digest s) ≡ waits
+waits_unbuilt digest s stands at is none left =
+    next_in_some (composed digest s) s.left left
+    ∙ ap (λ (next : Stage). next_of (composed digest s) (slice_get (group s.who next) (length s.sent))) (ap (composed_stage digest s) at ∙ unbuilt_stage digest s stands is none)
 
 -- what is settled for a call that is built has a message
-pub composed_settled : (s : ClientState) (next : Stage) → is_some (next_course s.left) ≡ true → is_compose (composed_stage s next) ≡ false
-composed_settled s (round keys) built = refl
-composed_settled s (act flow) built = refl
-composed_settled s (winds ending m ms) built = refl
-composed_settled s compose built = by (next_course s.left) built
+pub composed_settled : (digest : List ℕ → Id) (s : ClientState) (next : Stage) → is_some (next_course s.left) ≡ true → is_compose (composed_stage digest s next) ≡ false
+composed_settled digest s (round keys) built = refl
+composed_settled digest s (act flow) built = refl
+composed_settled digest s (winds ending m ms) built = refl
+composed_settled digest s compose built = by (next_course s.left) built
   where
-    by : (course : Option Course) → is_some course ≡ true → is_compose (keys_of s.who course) ≡ false
+    by : (course : Option Course) → is_some course ≡ true → is_compose (keys_of digest s.who course) ≡ false
     by None some = absurd (cc)
     by (Some course) some = refl
 

@@ -4,12 +4,10 @@ ghost use Rattle.std.specs.Prelude.{◌≡◌, ◌+◌, ◌<◌, ◌≤◌, ◌�
 ghost use Rattle.std.specs.Option.{option_copied};
 ghost use Rattle.inf_base.specs.declared.limits.TheConstants.{MOST_CALLS};
 ghost use Rattle.inf_base.specs.Setup.{call_count};
-ghost use Rattle.inf_duty.specs.ClientBy.{client_by};
 ghost use Rattle.inf_duty.specs.Kept.{ended_result};
 ghost use Rattle.inf_duty.specs.Start.{start};
 ghost use Rattle.inf_duty.specs.World.{world_by};
 ghost use Rattle.inf_flow_dir.specs.Client.{ended, idle};
-ghost use Rattle.inf_flow_dir.specs.Party.{who_of};
 
 mod allowing;
 mod asking;
@@ -20,7 +18,7 @@ use crate::standing::Standing;
 use crate::tally::Tally;
 use inf_base::{Answer, Call, CallRef, Caller, ClientLine, NoMemory, Place, Setup, TryClone};
 use inf_birth::IdRule;
-use inf_flow_dir::{Party, ReplyRoom, Sending};
+use inf_flow_dir::{ReplyRoom, Sending, Who};
 use inf_message::CallResult;
 use std::alloc::Global;
 use std::collections::VecDeque;
@@ -29,8 +27,8 @@ use std::marker::Model;
 /// A client of a script, which asks for one call after another. Its answers take no memory: what they need was made
 /// ready before the Asks.
 #[derive(Drop)]
-pub struct ClientMachine<R: IdRule> {
-    party: Party<R>,
+pub struct ClientState {
+    who: Who,
     number: u32,
     left: VecDeque<Call>,
     stands: Standing,
@@ -41,17 +39,16 @@ pub struct ClientMachine<R: IdRule> {
     results: Vec<CallResult>,
 }
 
-impl<R: IdRule> Model for ClientMachine<R> {
+impl Model for ClientState {
     ghost use Rattle.std.specs.Prelude.{vec_len, vec_capacity};
-    ghost use Rattle.inf_duty.specs.ClientBy.{ClientBy};
     ghost use Rattle.inf_duty.specs.Kept.{IsKept};
     ghost use Rattle.inf_duty.specs.Standing.{stage_of};
-    ghost use Rattle.inf_flow_dir.specs.Party.{who_of};
+    ghost use Rattle.inf_flow_dir.specs.Client.{ClientState};
 
-    ghost Value = { ClientBy R };
+    ghost Value = { ClientState };
 
     ghost view = { λ c. record {
-      who = c.party;
+      who = c.who;
       number = c.number;
       left = c.left.items;
       stage = stage_of c.stands;
@@ -60,41 +57,42 @@ impl<R: IdRule> Model for ClientMachine<R> {
       results = c.results.items;
     } };
 
-    ghost invariant = { λ c. IsKept (who_of R.digest_of c.party) c.number c.left.items c.stands c.sent.items
+    ghost invariant = { λ c. IsKept c.number c.left.items c.stands c.sent.items
         (vec_capacity c.sent) (vec_len c.rooms) (vec_len c.results) (vec_capacity c.results) };
 }
 
-impl<R: IdRule> ClientMachine<R> {
+impl ClientState {
     /// The client of this number before its first Ask. A client that the setup does not have calls nothing.
-    pub fn start(alloc: Global, rule: R, setup: &Setup, client: u32) -> Result<Self, NoMemory>
+    pub fn start<R: IdRule>(
+        alloc: Global,
+        rule: &R,
+        setup: &Setup,
+        client: u32,
+    ) -> Result<Self, NoMemory>
         requires some_servers { 1 ≤ setup.now.servers }
         requires few_calls { call_count setup.now.clients ≤ MOST_CALLS }
         ensures { IfOk result (λ made.
-            client_by R.digest_of made ≡ start (world_by (R.digest_of rule) setup.now) client) }
+            made ≡ start (world_by (R.digest_of rule.now) setup.now) client) }
     {
         match line_of(setup, client) {
-            Some(line) => ClientMachine::idle(
+            Some(line) => ClientState::idle(
                 alloc,
-                Party::new(rule, client, line.caller, setup.servers),
+                Who::new(rule, client, line.caller, setup.servers),
                 line.calls.as_slice(),
             ),
-            None => ClientMachine::idle(
-                alloc,
-                Party::new(rule, client, NOBODY, setup.servers),
-                &[],
-            ),
+            None => ClientState::idle(alloc, Who::new(rule, client, NOBODY, setup.servers), &[]),
         }
     }
 
-    fn idle(alloc: Global, party: Party<R>, calls: &[Call]) -> Result<Self, NoMemory>
+    fn idle(alloc: Global, who: Who, calls: &[Call]) -> Result<Self, NoMemory>
         requires { length calls.now ≤ MOST_CALLS }
-        ensures { IfOk result (λ made. client_by R.digest_of made ≡ idle (who_of R.digest_of party) calls.now) }
+        ensures { IfOk result (λ made. made ≡ idle who calls.now) }
     {
         let left = copied(alloc, calls)?;
         let sent = Vec::with_capacity(alloc, 1)?;
         let results = Vec::with_capacity(alloc, calls.len())?;
-        Ok(ClientMachine {
-            party,
+        Ok(ClientState {
+            who,
             number: 1,
             left,
             stands: Standing::Compose,
@@ -107,11 +105,11 @@ impl<R: IdRule> ClientMachine<R> {
 
     /// The result of the call under way, were it to end so.
     fn result_of(&self, answer: Answer, place: Option<Place>) -> CallResult
-        ensures { result ≡ ended_result answer place (client_by R.digest_of self.now) }
+        ensures { result ≡ ended_result answer place self.now }
     {
         CallResult {
             call: CallRef {
-                client: self.party.client(),
+                client: self.who.client(),
                 number: self.number,
             },
             answer,
@@ -127,7 +125,7 @@ impl<R: IdRule> ClientMachine<R> {
     /// The call under way ends with this answer, and the next one is under way.
     fn end(&mut self, answer: Answer, place: Option<Place>)
         requires { 0 < length self.old.left }
-        ensures { client_by R.digest_of self.new ≡ ended answer place (client_by R.digest_of self.old) }
+        ensures { self.new ≡ ended answer place self.old }
     {
         let result = self.result_of(answer, place);
         self.results.push_reserved(result);

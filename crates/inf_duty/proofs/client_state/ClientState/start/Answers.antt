@@ -1,6 +1,6 @@
 use Rattle.std.proofs.Common.{sym, arith}
 use Rattle.inf_duty.proofs.StartFacts.{calls_within}
-use Rattle.inf_duty.proofs.client.ClientMachine.start.Goals as goal
+use Rattle.inf_duty.proofs.client_state.ClientState.start.Goals as goal
 
 pub idle-requires : goal.idle-requires
 idle-requires g c =

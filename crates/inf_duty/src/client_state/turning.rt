@@ -1,19 +1,17 @@
 //! What a client makes of what it is told.
 
-ghost use Rattle.std.specs.Prelude.{◌≡◌, ◌==◌, ◌&&◌, ◌<◌, [], true, false, length, is_some};
+ghost use Rattle.std.specs.Prelude.{ℕ, List, ◌≡◌, ◌==◌, ◌&&◌, ◌<◌, [], true, false, length, is_some};
+ghost use Rattle.inf_base.specs.declared.id.Id.{Id};
 ghost use Rattle.inf_duty.specs.Messages.{has_one_message};
-ghost use Rattle.inf_duty.specs.ClientBy.{client_by};
 ghost use Rattle.inf_flow_dir.specs.Client.{act, begins_again, compose, finished, has_place, is_round, wound};
-ghost use Rattle.inf_flow_dir.specs.DirFlow.{IsMadeFor};
-ghost use Rattle.inf_flow_dir.specs.Party.{who_of};
 ghost use Rattle.inf_flow_dir.specs.Ending.{ending_of};
 ghost use Rattle.inf_flow_dir.specs.Group.{next_course};
 ghost use Rattle.inf_flow_dir.specs.Heard.{heard};
 ghost use Rattle.inf_flow_dir.specs.Turn.{goes_on, is_complete, recorded, served, settled, turn_at, turned};
-ghost use Rattle.inf_flow_dir.specs.TurnOf.{TurnIsMadeFor, turn_of};
+ghost use Rattle.inf_flow_dir.specs.TurnOf.{turn_of};
 ghost use Rattle.inf_message.specs.History.{told_reply};
 
-use super::ClientMachine;
+use super::ClientState;
 use crate::group::{group_size, has_one_message};
 use crate::recording::record_answer;
 use crate::standing::Standing;
@@ -23,10 +21,10 @@ use inf_flow_dir::{CleanUps, DirFlow, Ending, Turn, after_round, are_told, has_p
 use inf_message::Reply;
 use std::mem;
 
-impl<R: IdRule> ClientMachine<R> {
+impl ClientState {
     /// The next attempt at the call.
     fn begin_again(&mut self)
-        ensures { client_by R.digest_of self.new ≡ begins_again (client_by R.digest_of self.old) }
+        ensures { self.new ≡ begins_again self.old }
     {
         self.stands = Standing::Compose;
         self.sent.clear();
@@ -36,7 +34,7 @@ impl<R: IdRule> ClientMachine<R> {
     /// The call has come to its end, or the attempt.
     fn finish(&mut self, ending: Ending)
         requires { 0 < length self.old.left }
-        ensures { client_by R.digest_of self.new ≡ finished (ending_of ending) (client_by R.digest_of self.old) }
+        ensures { self.new ≡ finished (ending_of ending) self.old }
     {
         match ending {
             Ending::Answers(answer, place) => self.end(answer, place),
@@ -47,7 +45,7 @@ impl<R: IdRule> ClientMachine<R> {
     /// The messages that are left, and then the end.
     pub(super) fn wind(&mut self, ending: Ending, more: CleanUps)
         requires { is_some (next_course self.old.left) ≡ true }
-        ensures { client_by R.digest_of self.new ≡ wound (ending_of ending) more (client_by R.digest_of self.old) }
+        ensures { self.new ≡ wound (ending_of ending) more self.old }
     {
         match more.take_first() {
             None => self.finish(ending),
@@ -60,20 +58,16 @@ impl<R: IdRule> ClientMachine<R> {
 
     /// The next message of the attempt.
     fn go_on(&mut self, flow: DirFlow)
-        requires call { is_some (next_course self.old.left) ≡ true }
-        requires made { IsMadeFor (who_of R.digest_of self.old.who) flow }
-        ensures { client_by R.digest_of self.new ≡ turned (goes_on (act flow.flow)) (client_by R.digest_of self.old) }
+        requires { is_some (next_course self.old.left) ≡ true }
+        ensures { self.new ≡ turned (goes_on (act flow)) self.old }
     {
-        let mut flow = flow;
-        flow.prepare(&self.party);
         self.stands = Standing::Act(flow);
         self.sent.clear();
     }
 
     fn follow(&mut self, turn: Turn)
-        requires made { TurnIsMadeFor (who_of R.digest_of self.old.who) turn }
-        requires call { is_some (next_course self.old.left) ≡ true }
-        ensures { client_by R.digest_of self.new ≡ turned (turn_of turn) (client_by R.digest_of self.old) }
+        requires { is_some (next_course self.old.left) ≡ true }
+        ensures { self.new ≡ turned (turn_of turn) self.old }
     {
         match turn {
             Turn::GoesOn(flow) => self.go_on(flow),
@@ -84,8 +78,7 @@ impl<R: IdRule> ClientMachine<R> {
     /// What comes of the answers to a round, which is over.
     fn take_round(&mut self) -> Turn
         requires round { is_round self.old.stage ≡ true }
-        ensures turn { turn_of result ≡ turn_at (client_by R.digest_of self.old) self.old.stage }
-        ensures made { TurnIsMadeFor (who_of R.digest_of self.old.who) result }
+        ensures turn { (digest : List ℕ → Id) → turn_of result ≡ turn_at digest self.old self.old.stage }
         ensures after { self.new ≡ record self.old { stage = compose; sent = [] } }
         ensures call { is_some (next_course self.old.left) ≡ true }
     {
@@ -97,19 +90,24 @@ impl<R: IdRule> ClientMachine<R> {
 
     /// What comes of the answer to the one message of a group that is no round.
     #[tactic(auto, using(crate::proofs::TurnFacts::alone_turn, crate::proofs::TurnFacts::heard_act))]
-    fn take_answer(&mut self, ask_place: Place, serve_place: Place, reply: &Reply) -> Turn
+    fn take_answer<R: IdRule>(
+        &mut self,
+        rule: &R,
+        ask_place: Place,
+        serve_place: Place,
+        reply: &Reply,
+    ) -> Turn
         requires alone { length self.old.sent ≡ 1 }
         requires here { has_place ask_place self.old.sent ≡ true }
         requires stage { has_one_message self.old.stage ≡ true }
         ensures turn { turn_of result
-            ≡ turn_at (recorded ask_place (told_reply serve_place (heard reply.now)) (client_by R.digest_of self.old)) self.old.stage }
-        ensures made { TurnIsMadeFor (who_of R.digest_of self.old.who) result }
+            ≡ turn_at (R.digest_of rule.now) (recorded ask_place (told_reply serve_place (heard reply.now)) self.old) self.old.stage }
         ensures after { self.new ≡ record self.old { stage = compose; sent = [] } }
         ensures call { is_some (next_course self.old.left) ≡ true }
     {
         self.sent.clear();
         match mem::replace(&mut self.stands, Standing::Compose) {
-            Standing::Act(flow) => flow.next(&self.party, ask_place, serve_place, reply),
+            Standing::Act(flow) => flow.next(rule, &self.who, ask_place, serve_place, reply),
             Standing::Winds(ending, _, rest) => Turn::WindsUp(ending, rest),
             _ => unreachable!(),
         }
@@ -123,7 +121,7 @@ impl<R: IdRule> ClientMachine<R> {
     }
 
     fn is_complete(&self) -> bool
-        ensures { result ≡ is_complete (client_by R.digest_of self.now) }
+        ensures { result ≡ is_complete self.now }
     {
         self.sent.len() == group_size(&self.stands) && are_told(self.sent.as_slice())
     }
@@ -131,8 +129,8 @@ impl<R: IdRule> ClientMachine<R> {
     /// Keeps the answer of the Ask at this place.
     fn record(&mut self, ask_place: Place, serve_place: Place, reply: &Reply)
         requires { (has_one_message self.old.stage && length self.old.sent == 1) ≡ false }
-        ensures { client_by R.digest_of self.new
-            ≡ recorded ask_place (told_reply serve_place (heard reply.now)) (client_by R.digest_of self.old) }
+        ensures { self.new
+            ≡ recorded ask_place (told_reply serve_place (heard reply.now)) self.old }
     {
         self.counts.count_serve(serve_place);
         record_answer(
@@ -146,14 +144,20 @@ impl<R: IdRule> ClientMachine<R> {
 
     /// The answer to the one message of a group that is no round ends the group.
     #[tactic(auto, using(crate::proofs::TurnFacts::alone_ends))]
-    fn end_alone(&mut self, ask_place: Place, serve_place: Place, reply: &Reply)
+    fn end_alone<R: IdRule>(
+        &mut self,
+        rule: &R,
+        ask_place: Place,
+        serve_place: Place,
+        reply: &Reply,
+    )
         requires alone { length self.old.sent ≡ 1 }
         requires here { has_place ask_place self.old.sent ≡ true }
         requires stage { has_one_message self.old.stage ≡ true }
-        ensures { client_by R.digest_of self.new
-            ≡ served ask_place (told_reply serve_place (heard reply.now)) (client_by R.digest_of self.old) }
+        ensures { self.new
+            ≡ served (R.digest_of rule.now) ask_place (told_reply serve_place (heard reply.now)) self.old }
     {
-        let turn = self.take_answer(ask_place, serve_place, reply);
+        let turn = self.take_answer(rule, ask_place, serve_place, reply);
         self.counts.count_serve(serve_place);
         self.follow(turn);
     }
@@ -161,7 +165,7 @@ impl<R: IdRule> ClientMachine<R> {
     #[tactic(auto, using(crate::proofs::TurnFacts::turned_afresh))]
     fn end_round(&mut self)
         requires { is_round self.old.stage ≡ true }
-        ensures { client_by R.digest_of self.new ≡ settled true (client_by R.digest_of self.old) }
+        ensures { (digest : List ℕ → Id) → self.new ≡ settled digest true self.old }
     {
         let turn = self.take_round();
         self.follow(turn);
@@ -169,15 +173,15 @@ impl<R: IdRule> ClientMachine<R> {
 
     /// The Ask at a place was served. Only an Ask of the present group is waited for.
     #[tactic(auto, using(crate::proofs::TurnFacts::complete_round, crate::proofs::TurnFacts::some_sent))]
-    pub fn told(&mut self, ask_place: Place, serve_place: Place, reply: &Reply)
-        ensures { client_by R.digest_of self.new
-            ≡ served ask_place (told_reply serve_place (heard reply.now)) (client_by R.digest_of self.old) }
+    pub fn told<R: IdRule>(&mut self, rule: &R, ask_place: Place, serve_place: Place, reply: &Reply)
+        ensures { self.new
+            ≡ served (R.digest_of rule.now) ask_place (told_reply serve_place (heard reply.now)) self.old }
     {
         if !has_place(self.sent.as_slice(), ask_place) {
             return;
         }
         if self.is_alone() {
-            self.end_alone(ask_place, serve_place, reply);
+            self.end_alone(rule, ask_place, serve_place, reply);
             return;
         }
         self.record(ask_place, serve_place, reply);

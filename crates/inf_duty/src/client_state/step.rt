@@ -1,7 +1,7 @@
 //! A client that is driven: what it is to do next, and the steps that it takes.
 
-ghost use Rattle.std.specs.Prelude.{◌≡◌, ◌↔◌, ◌+◌, ◌<◌, ◌≤◌, ◌∷◌, ◌^◌, [], length, map, is_some, true, false, None, IfOk, IsTrue};
-ghost use Rattle.inf_duty.specs.ClientBy.{client_by};
+ghost use Rattle.std.specs.Prelude.{ℕ, List, ◌≡◌, ◌↔◌, ◌+◌, ◌<◌, ◌≤◌, ◌∷◌, ◌^◌, [], length, map, is_some, true, false, None, IfOk, IsTrue};
+ghost use Rattle.inf_base.specs.declared.id.Id.{Id};
 ghost use Rattle.inf_duty.specs.ClientStep.{IsQuiet, is_ask, next_as};
 ghost use Rattle.inf_duty.specs.Duty.{asks, given_up, next_step};
 ghost use Rattle.inf_duty.specs.Kept.{unserved};
@@ -10,22 +10,21 @@ ghost use Rattle.inf_duty.specs.Outcome.{results_of, so_far};
 ghost use Rattle.inf_flow_dir.specs.Client.{compose, placed, result_of};
 ghost use Rattle.inf_flow_dir.specs.Group.{composed, group, lookup_of, next_course};
 
-use super::ClientMachine;
+use super::ClientState;
 use crate::client_step::ClientStep;
 use crate::group::{is_round, is_winding};
 use crate::standing::Standing;
 use inf_base::{Answer, CallRef, LookKey, NoMemory, Place};
-use inf_birth::IdRule;
 use inf_flow_dir::{Ending, Sending, has_course};
 use inf_message::{Ask, CallResult, Message};
 use std::alloc::Global;
 use std::mem;
 
-impl<R: IdRule> ClientMachine<R> {
+impl ClientState {
     pub fn client(&self) -> u32
         ensures { result ≡ self.now.who.client }
     {
-        self.party.client()
+        self.who.client()
     }
 
     /// Whether each call has ended.
@@ -53,8 +52,8 @@ impl<R: IdRule> ClientMachine<R> {
     #[tactic(auto, using(crate::proofs::StepFacts::built_asks))]
     pub fn is_built(&self) -> bool
         ensures value { result ≡ is_some (next_course self.now.left) }
-        ensures asking { self.now.sent ≡ [] → result ≡ true
-            → is_ask (next_step (composed (client_by R.digest_of self.now))) ≡ true }
+        ensures asking { (digest : List ℕ → Id) → self.now.sent ≡ [] → result ≡ true
+            → is_ask (next_step (composed digest self.now)) ≡ true }
     {
         let _ = &self.stands;
         match self.first_call() {
@@ -72,15 +71,15 @@ impl<R: IdRule> ClientMachine<R> {
 
     /// The ask that sends this message, and the server that it is for.
     pub(super) fn posted(&self, message: Message) -> (u32, Ask)
-        ensures { result ≡ post_of (client_by R.digest_of self.now) message }
+        ensures { result ≡ post_of self.now message }
     {
         let Message { number, request } = message;
         let ask = Ask {
             from: CallRef {
-                client: self.party.client(),
+                client: self.who.client(),
                 number: self.number,
             },
-            caller: self.party.caller(),
+            caller: self.who.caller(),
             request,
         };
         (number, ask)
@@ -88,18 +87,18 @@ impl<R: IdRule> ClientMachine<R> {
 
     fn lookups(&self, alloc: Global, keys: &[LookKey]) -> Result<Vec<(u32, Ask)>, NoMemory>
         ensures { IfOk result (λ posts. posts.items
-            ≡ map (post_of (client_by R.digest_of self.now)) (map (lookup_of (client_by R.digest_of self.now).who) keys.now)) }
+            ≡ map (post_of self.now) (map (lookup_of self.now.who) keys.now)) }
     {
         let mut posts = Vec::with_capacity(alloc, keys.len())?;
         for key in keys {
-            let message = self.party.lookup(alloc, key)?;
+            let message = self.who.lookup(alloc, key)?;
             posts.push(self.posted(message))?;
         }
         Ok(posts)
     }
 
     fn alone(&self, alloc: Global, message: Message) -> Result<Vec<(u32, Ask)>, NoMemory>
-        ensures { IfOk result (λ posts. posts.items ≡ post_of (client_by R.digest_of self.now) message ∷ []) }
+        ensures { IfOk result (λ posts. posts.items ≡ post_of self.now message ∷ []) }
     {
         let mut posts = Vec::with_capacity(alloc, 1)?;
         posts.push(self.posted(message))?;
@@ -109,12 +108,12 @@ impl<R: IdRule> ClientMachine<R> {
     /// The asks of the group that is settled, in their order, each with the server that it is for.
     pub fn asks(&self, alloc: Global) -> Result<Vec<(u32, Ask)>, NoMemory>
         ensures { IfOk result (λ posts. posts.items
-            ≡ map (post_of (client_by R.digest_of self.now)) (group (client_by R.digest_of self.now).who self.now.stage)) }
+            ≡ map (post_of self.now) (group self.now.who self.now.stage)) }
     {
         match &self.stands {
             Standing::Compose => Ok(Vec::new(alloc)),
             Standing::Round(keys, _) => self.lookups(alloc, keys.as_slice()),
-            Standing::Act(flow) => self.alone(alloc, flow.message(alloc, &self.party)?),
+            Standing::Act(flow) => self.alone(alloc, flow.message(alloc, &self.who)?),
             Standing::Winds(_, first, _) => self.alone(alloc, first.message()),
         }
     }
@@ -123,7 +122,7 @@ impl<R: IdRule> ClientMachine<R> {
     pub fn winding_ask(&self) -> (u32, Ask)
         requires winding { is_winding self.now.stage ≡ true }
         requires between { self.now.sent ≡ [] }
-        ensures { next_step (client_by R.digest_of self.now) ≡ asks result.0 result.1 }
+        ensures { next_step self.now ≡ asks result.0 result.1 }
     {
         match &self.stands {
             Standing::Winds(_, first, _) => self.posted(first.message()),
@@ -135,10 +134,10 @@ impl<R: IdRule> ClientMachine<R> {
     #[tactic(auto, using(crate::proofs::StepFacts::over_next, crate::proofs::StepFacts::waits_inside, crate::proofs::StepFacts::waits_unbuilt))]
     pub fn rest(&self) -> ClientStep
         ensures quiet { IsQuiet result }
-        ensures inside { length (group (client_by R.digest_of self.now).who self.now.stage) ≤ length self.now.sent
-            → next_step (client_by R.digest_of self.now) ≡ next_as result }
-        ensures unbuilt { is_some (next_course self.now.left) ≡ false
-            → next_step (composed (client_by R.digest_of self.now)) ≡ next_as result }
+        ensures inside { length (group self.now.who self.now.stage) ≤ length self.now.sent
+            → next_step self.now ≡ next_as result }
+        ensures unbuilt { (digest : List ℕ → Id) → is_some (next_course self.now.left) ≡ false
+            → next_step (composed digest self.now) ≡ next_as result }
     {
         if self.left.is_empty() {
             ClientStep::Finished
@@ -149,9 +148,9 @@ impl<R: IdRule> ClientMachine<R> {
 
     /// An Ask more, which takes no memory.
     pub fn place_ask(&mut self, place: Place)
-        requires next { length self.old.sent < length (group (client_by R.digest_of self.old).who self.old.stage) }
+        requires next { length self.old.sent < length (group self.old.who self.old.stage) }
         requires room { self.old.counts.messages + 1 < 2 ^ 64 }
-        ensures { client_by R.digest_of self.new ≡ placed place (client_by R.digest_of self.old) }
+        ensures { self.new ≡ placed place self.old }
     {
         let begins_round = is_round(&self.stands) && self.sent.is_empty();
         self.sent.push_reserved(Sending::new(place));
@@ -163,13 +162,13 @@ impl<R: IdRule> ClientMachine<R> {
     pub fn give_up_call(&mut self)
         requires call { 0 < length self.old.left }
         requires going { is_winding self.old.stage ≡ false }
-        ensures { client_by R.digest_of self.new ≡ given_up (client_by R.digest_of self.old) }
+        ensures { self.new ≡ given_up self.old }
     {
         let ending = Ending::Answers(Answer::NoMemory, None);
         self.sent.clear();
         match mem::replace(&mut self.stands, Standing::Compose) {
             Standing::Act(flow) => {
-                let clean_ups = flow.clean_up(&self.party);
+                let clean_ups = flow.clean_up(&self.who);
                 self.wind(ending, clean_ups);
             }
             Standing::Compose => self.end(Answer::NoMemory, None),
@@ -180,15 +179,15 @@ impl<R: IdRule> ClientMachine<R> {
 
     /// Only a call that has ended has a last Serve.
     fn forget_serves(&mut self)
-        ensures { client_by R.digest_of self.new ≡ unserved (client_by R.digest_of self.old) }
+        ensures { self.new ≡ unserved self.old }
     {
         self.counts.forget_serves();
     }
 
     /// What the call under way has come to.
     fn take_so_far(&mut self) -> (Answer, Option<Place>)
-        ensures so_far { so_far self.old.stage (client_by R.digest_of self.old)
-            ≡ result_of result.0 result.1 None (client_by R.digest_of self.old) }
+        ensures so_far { so_far self.old.stage self.old
+            ≡ result_of result.0 result.1 None self.old }
         ensures after { self.new ≡ record self.old { stage = compose; sent = [] } }
     {
         self.sent.clear();
@@ -207,7 +206,7 @@ impl<R: IdRule> ClientMachine<R> {
     #[tactic(auto, using(crate::proofs::ResultFacts::ended_one))]
     fn end_so_far(&mut self)
         requires { self.old.counts.last ≡ None }
-        ensures results { results_of (client_by R.digest_of self.new) ≡ results_of (client_by R.digest_of self.old) }
+        ensures results { results_of self.new ≡ results_of self.old }
         ensures stage { 0 < length self.new.left → self.new.stage ≡ compose }
         ensures last { self.new.counts.last ≡ None }
     {
@@ -221,15 +220,15 @@ impl<R: IdRule> ClientMachine<R> {
     /// One result for each call; those that have no answer yet are unanswered.
     #[tactic(auto, using(crate::proofs::ResultFacts::unserved_results, crate::proofs::ResultFacts::ended_next, crate::proofs::ResultFacts::all_results))]
     pub fn into_results(self) -> Vec<CallResult>
-        ensures { result.items ≡ results_of (client_by R.digest_of self) }
+        ensures { result.items ≡ results_of self }
     {
-        let mut machine = self;
-        machine.forget_serves();
-        machine.end_so_far();
-        while !machine.is_over() {
-            machine.end(Answer::Unanswered, None);
+        let mut state = self;
+        state.forget_serves();
+        state.end_so_far();
+        while !state.is_over() {
+            state.end(Answer::Unanswered, None);
         }
-        let ClientMachine { results, .. } = machine;
+        let ClientState { results, .. } = state;
         results
     }
 }
