@@ -2,6 +2,7 @@
 use Rattle.std.proofs.Common.{◌≡◌, ◌≢◌, ℕ, zero, suc, ◌+◌, ◌-◌, ◌<◌, ◌≤◌, Bool, true, false, List, [], ◌∷◌, ◌++◌, length, map, drop, slice_get, Some, is_some, refl, sym, ap, subst, ◌∙◌, inl, inr, arith, length-append}
 use Rattle.std.proofs.lemmas.List.{drop-drop, length-drop, length-map}
 use Rattle.std.proofs.lemmas.Option.{slice_get_within}
+use Rattle.inf_base.specs.declared.id.Id.{Id}
 use Rattle.inf_base.specs.declared.call.Call.{Call}
 use Rattle.inf_client.specs.Client.{Client, AsksNext, IsAtRest, Rests, Steps, client_with, asks_left, group_asks, ready_in}
 use Rattle.inf_client.specs.Group.{IsKept, IsReadied, posted_of}
@@ -19,53 +20,53 @@ use Rattle.inf_message.specs.declared.step.Message.{Message}
 use Rattle.inf_message.specs.History.{Posted, posted_ask}
 use Rattle.inf_trips.specs.AskLog.{AskLog, asked_first, asked_log}
 
-planned_between : (sent : List Sent) (s : ClientState) → sent ≡ [] → planned_from sent s ≡ composed s
-planned_between [] s between = refl
-planned_between (x ∷ sent) s between = absurd (cc)
+planned_between : (digest : List ℕ → Id) (sent : List Sent) (s : ClientState) → sent ≡ [] → planned_from digest sent s ≡ composed digest s
+planned_between digest [] s between = refl
+planned_between digest (x ∷ sent) s between = absurd (cc)
 
-planned_inside : (sent : List Sent) (s : ClientState) → sent ≢ [] → planned_from sent s ≡ s
-planned_inside [] s inside = absurd (inside refl)
-planned_inside (x ∷ sent) s inside = refl
+planned_inside : (digest : List ℕ → Id) (sent : List Sent) (s : ClientState) → sent ≢ [] → planned_from digest sent s ≡ s
+planned_inside digest [] s inside = absurd (inside refl)
+planned_inside digest (x ∷ sent) s inside = refl
 
-rests : (old new : Client) (told : ClientStep) → Rests old new → IsQuiet told → next_step (planned new.state) ≡ next_as told → Steps old told new
-rests old new (step.Ask number ask) how quiet next = absurd quiet
-rests old new step.Waiting how quiet next = (how, next)
-rests old new step.Finished how quiet next = (how, next)
+rests : (digest : List ℕ → Id) (old new : Client) (told : ClientStep) → Rests digest old new → IsQuiet told → next_step (planned digest new.state) ≡ next_as told → Steps digest old told new
+rests digest old new (step.Ask number ask) how quiet next = absurd quiet
+rests digest old new step.Waiting how quiet next = (how, next)
+rests digest old new step.Finished how quiet next = (how, next)
 
 no_ask : (told : ClientStep) → IsQuiet told → is_ask (next_as told) ≡ false
 no_ask (step.Ask number ask) quiet = absurd quiet
 no_ask step.Waiting quiet = refl
 no_ask step.Finished quiet = refl
 
-pub rests_gone : (state : ClientState) (log : AskLog) (told : ClientStep) → state.sent ≡ [] → IsQuiet told → next_step (composed state) ≡ next_as told
-    → Steps (client_with state true log false) told (client_with state true log false)
-rests_gone state log told between quiet next =
-    rests (client_with state true log false) (client_with state true log false) told (inl (record { idle = refl; same = refl })) quiet
-    (ap next_step (planned_between state.sent state between) ∙ next)
+pub rests_gone : (digest : List ℕ → Id) (state : ClientState) (log : AskLog) (told : ClientStep) → state.sent ≡ [] → IsQuiet told → next_step (composed digest state) ≡ next_as told
+    → Steps digest (client_with state true log false) told (client_with state true log false)
+rests_gone digest state log told between quiet next =
+    rests digest (client_with state true log false) (client_with state true log false) told (inl (record { idle = refl; same = refl })) quiet
+    (ap next_step (planned_between digest state.sent state between) ∙ next)
 
-idle : (state : ClientState) (log : AskLog) (told : ClientStep) → IsQuiet told → next_step (planned state) ≡ next_as told
-    → Steps (client_with state false log false) told (client_with state false log false)
-idle state log told quiet next =
-    rests (client_with state false log false) (client_with state false log false) told
+idle : (digest : List ℕ → Id) (state : ClientState) (log : AskLog) (told : ClientStep) → IsQuiet told → next_step (planned digest state) ≡ next_as told
+    → Steps digest (client_with state false log false) told (client_with state false log false)
+idle digest state log told quiet next =
+    rests digest (client_with state false log false) (client_with state false log false) told
     (inl (record { idle = ap is_ask next ∙ no_ask told quiet; same = refl })) quiet next
 
-pub rests_inside : (state : ClientState) (log : AskLog) (told : ClientStep) → state.sent ≢ [] → IsQuiet told → next_step state ≡ next_as told
-    → Steps (client_with state false log false) told (client_with state false log false)
-rests_inside state log told inside quiet next =
-    idle state log told quiet (ap next_step (planned_inside state.sent state inside) ∙ next)
+pub rests_inside : (digest : List ℕ → Id) (state : ClientState) (log : AskLog) (told : ClientStep) → state.sent ≢ [] → IsQuiet told → next_step state ≡ next_as told
+    → Steps digest (client_with state false log false) told (client_with state false log false)
+rests_inside digest state log told inside quiet next =
+    idle digest state log told quiet (ap next_step (planned_inside digest state.sent state inside) ∙ next)
 
-pub rests_unbuilt : (state : ClientState) (log : AskLog) (told : ClientStep) → state.sent ≡ [] → IsQuiet told → next_step (composed state) ≡ next_as told
-    → Steps (client_with state false log false) told (client_with state false log false)
-rests_unbuilt state log told between quiet next =
-    idle state log told quiet (ap next_step (planned_between state.sent state between) ∙ next)
+pub rests_unbuilt : (digest : List ℕ → Id) (state : ClientState) (log : AskLog) (told : ClientStep) → state.sent ≡ [] → IsQuiet told → next_step (composed digest state) ≡ next_as told
+    → Steps digest (client_with state false log false) told (client_with state false log false)
+rests_unbuilt digest state log told between quiet next =
+    idle digest state log told quiet (ap next_step (planned_between digest state.sent state between) ∙ next)
 
-pub rests_given_up : (state now : ClientState) (log new : AskLog) (told : ClientStep) → state.sent ≡ [] → is_ask (next_step (composed state)) ≡ true
-    → may_give_up state ≡ true → now ≡ all_given_up state.left state → now.sent ≡ [] → new ≡ log → IsQuiet told → next_step (composed now) ≡ next_as told
-    → Steps (client_with state false log false) told (client_with now true new false)
-rests_given_up state now log new told between asking free all stays same quiet next =
-    rests (client_with state false log false) (client_with now true new false) told
+pub rests_given_up : (digest : List ℕ → Id) (state now : ClientState) (log new : AskLog) (told : ClientStep) → state.sent ≡ [] → is_ask (next_step (composed digest state)) ≡ true
+    → may_give_up state ≡ true → now ≡ all_given_up state.left state → now.sent ≡ [] → new ≡ log → IsQuiet told → next_step (composed digest now) ≡ next_as told
+    → Steps digest (client_with state false log false) told (client_with now true new false)
+rests_given_up digest state now log new told between asking free all stays same quiet next =
+    rests digest (client_with state false log false) (client_with now true new false) told
     (inr (record {
-      asking = ap (λ s. is_ask (next_step s)) (planned_between state.sent state between) ∙ asking;
+      asking = ap (λ s. is_ask (next_step s)) (planned_between digest state.sent state between) ∙ asking;
       between = between;
       free = free;
       state = all;
@@ -73,7 +74,7 @@ rests_given_up state now log new told between asking free all stays same quiet n
       asks = ap (λ (l : AskLog). l.asks) same;
       handed = refl;
     })) quiet
-    (ap next_step (planned_between now.sent now stays) ∙ next)
+    (ap next_step (planned_between digest now.sent now stays) ∙ next)
 
 -- ---- the asks that are left
 
@@ -107,9 +108,9 @@ pub ready_inside : (sent : List Sent) (s : ClientState) → sent ≢ [] → read
 ready_inside [] s inside = absurd (inside refl)
 ready_inside (x ∷ sent) s inside = refl
 
-begun_inside : (ask : Ask) (sent : List Sent) (s : ClientState) → sent ≢ [] → begun ask sent s ≡ s
-begun_inside ask [] s inside = absurd (inside refl)
-begun_inside ask (x ∷ sent) s inside = refl
+begun_inside : (digest : List ℕ → Id) (ask : Ask) (sent : List Sent) (s : ClientState) → sent ≢ [] → begun digest ask sent s ≡ s
+begun_inside digest ask [] s inside = absurd (inside refl)
+begun_inside digest ask (x ∷ sent) s inside = refl
 
 next_at : (s : ClientState) (left : List Call) (message : Message) → 0 < length left → slice_get (group s.who s.stage) (length s.sent) ≡ Some message
     → next_in s left ≡ next_of s (Some message)
@@ -140,12 +141,12 @@ module _ (s : ClientState) (log : AskLog) (outbox others : List (ℕ × Ask)) (n
       next_at s s.left message_left.x (kept.calls (subst (λ (ready : List Posted). 0 < length ready) (sym all_ready) (omega arith))) message_left.at
       ∙ ap (λ (p : Posted). asks p.number p.ask) message_left.is
 
-  pub asks_inside : AsksNext number ask (client_with s false log false) (client_with s false log true)
-  asks_inside = record {
+  pub asks_inside : (digest : List ℕ → Id) → AsksNext digest number ask (client_with s false log false) (client_with s false log true)
+  asks_inside digest = record {
     here = refl;
-    duty = ap next_step (begun_inside ask s.sent s inside.0) ∙ next_inside;
+    duty = ap next_step (begun_inside digest ask s.sent s inside.0) ∙ next_inside;
     own = sym (ap (λ (p : Posted). p.ask.from.client) message_left.is);
-    state = sym (begun_inside ask s.sent s inside.0);
+    state = sym (begun_inside digest ask s.sent s inside.0);
     still_here = refl;
     asks = refl;
     ready = left_ready;
@@ -188,8 +189,8 @@ module _ (s now : ClientState) (number : ℕ) (ask : Ask) (others : List (ℕ ×
   ready_first : new.ready ≡ posted_ask number ask ∷ map posted_of others
   ready_first = readied.ready ∙ sym readied.posts
 
-  pub asks_first : now ≡ begun ask s.sent s → ask.from.client ≡ s.who.client → AsksNext number ask (client_with s false log false) (client_with now false new true)
-  asks_first is own = record {
+  pub asks_first : (digest : List ℕ → Id) → now ≡ begun digest ask s.sent s → ask.from.client ≡ s.who.client → AsksNext digest number ask (client_with s false log false) (client_with now false new true)
+  asks_first digest is own = record {
     here = refl;
     duty = ap next_step (sym is) ∙ readied.next;
     own = own;

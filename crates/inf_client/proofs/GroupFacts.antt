@@ -1,6 +1,7 @@
 -- The asks of a group as they are kept and handed out, and how they find the client.
 use Rattle.std.proofs.Common.{◌≡◌, ℕ, ◌+◌, ◌-◌, ◌<◌, ◌≤◌, Bool, true, false, List, [], ◌∷◌, ◌++◌, length, map, slice_get, Option, Some, None, cond, is_some, refl, sym, ap, subst, ◌∙◌, arith}
 use Rattle.std.proofs.lemmas.List.{append-nil, append_assoc}
+use Rattle.inf_base.specs.declared.id.Id.{Id}
 use Rattle.inf_base.specs.declared.answer.Answer.TheVariants as answer
 use Rattle.inf_base.specs.declared.call.Call.{Call}
 use Rattle.inf_base.specs.declared.key.LookKey.{LookKey}
@@ -170,20 +171,20 @@ winding_readied s number number_kept ask ask_kept others before log winding betw
 
 -- ---- how the asks find the client
 
-same_winding : (s : ClientState) (stage : Stage) (asked : Request) → s.stage ≡ stage → is_winding stage ≡ true → s ≡ found_at asked s
-same_winding s compose asked at winding = absurd (cc)
-same_winding s (round keys) asked at winding = absurd (cc)
-same_winding s (act flow) asked at winding = absurd (cc)
-same_winding s (winds ending m ms) asked at winding = by (lifts asked)
+same_winding : (digest : List ℕ → Id) (s : ClientState) (stage : Stage) (asked : Request) → s.stage ≡ stage → is_winding stage ≡ true → s ≡ found_at digest asked s
+same_winding digest s compose asked at winding = absurd (cc)
+same_winding digest s (round keys) asked at winding = absurd (cc)
+same_winding digest s (act flow) asked at winding = absurd (cc)
+same_winding digest s (winds ending m ms) asked at winding = by (lifts asked)
   where
-    by : (b : Bool) → s ≡ cond b (cond (is_acting s.stage) (given_up s) s) (composed s)
+    by : (b : Bool) → s ≡ cond b (cond (is_acting s.stage) (given_up s) s) (composed digest s)
     by true = rw at refl
     by false = ap (λ stage. record s { stage = stage }) (rw at refl)
 
-pub winding_found : (s : ClientState) (number : ℕ) (ask : Ask) → is_winding s.stage ≡ true → next_step s ≡ asks number ask → IsFound ask s s
-winding_found s number ask winding next = record {
+pub winding_found : (digest : List ℕ → Id) (s : ClientState) (number : ℕ) (ask : Ask) → is_winding s.stage ≡ true → next_step s ≡ asks number ask → IsFound digest ask s s
+winding_found digest s number ask winding next = record {
   here = from_is s number ask next;
-  state = same_winding s s.stage ask.request refl winding;
+  state = same_winding digest s s.stage ask.request refl winding;
 }
 
 -- a group that does not wind its call up lifts nothing
@@ -197,8 +198,8 @@ keys_lift who (key ∷ keys) index message first at =
 flow_lifts : (who : Who) (flow : Flow) → lifts (message_of who flow).request ≡ false
 flow_lifts who (finishes chain asked) = refl
 flow_lifts who (reserves chain name mode) = refl
-flow_lifts who (makes chain name mode version) = refl
-flow_lifts who (links chain name mode version born) = refl
+flow_lifts who (makes chain name mode version id) = refl
+flow_lifts who (links chain name mode version dir) = refl
 flow_lifts who (seals chain) = refl
 flow_lifts who (unlinks chain) = refl
 
@@ -211,51 +212,51 @@ going_lifts who (act flow) message going at =
     ap (λ (m : Message). lifts m.request) (sym one) ∙ flow_lifts who flow
 going_lifts who (winds ending m ms) message going at = absurd (cc)
 
-keys_go : (who : Who) (course : Option Course) → is_winding (keys_of who course) ≡ false
-keys_go who None = refl
-keys_go who (Some course) = refl
+keys_go : (digest : List ℕ → Id) (who : Who) (course : Option Course) → is_winding (keys_of digest who course) ≡ false
+keys_go digest who None = refl
+keys_go digest who (Some course) = refl
 
-composed_goes_in : (s : ClientState) (stage : Stage) → is_winding stage ≡ false → is_winding (composed_stage s stage) ≡ false
-composed_goes_in s compose going = keys_go s.who (next_course s.left)
-composed_goes_in s (round keys) going = refl
-composed_goes_in s (act flow) going = refl
-composed_goes_in s (winds ending m ms) going = going
+composed_goes_in : (digest : List ℕ → Id) (s : ClientState) (stage : Stage) → is_winding stage ≡ false → is_winding (composed_stage digest s stage) ≡ false
+composed_goes_in digest s compose going = keys_go digest s.who (next_course s.left)
+composed_goes_in digest s (round keys) going = refl
+composed_goes_in digest s (act flow) going = refl
+composed_goes_in digest s (winds ending m ms) going = going
 
-pub composed_goes : (s : ClientState) → is_winding s.stage ≡ false → is_winding (composed s).stage ≡ false
-composed_goes s going = composed_goes_in s s.stage going
+pub composed_goes : (digest : List ℕ → Id) (s : ClientState) → is_winding s.stage ≡ false → is_winding (composed digest s).stage ≡ false
+composed_goes digest s going = composed_goes_in digest s s.stage going
 
-pub composed_found : (s : ClientState) (number : ℕ) (ask : Ask) → is_winding s.stage ≡ false → s.sent ≡ [] → next_step (composed s) ≡ asks number ask
-    → IsFound ask s (composed s)
-composed_found s number ask going between next =
-    let sent = sends (composed s) number ask next in
-    let at : slice_get (group s.who (composed s).stage) 0 ≡ Some sent.message =
-    ap (λ (index : ℕ). slice_get (group s.who (composed s).stage) index) (sym (ap length between)) ∙ sent.at in
+pub composed_found : (digest : List ℕ → Id) (s : ClientState) (number : ℕ) (ask : Ask) → is_winding s.stage ≡ false → s.sent ≡ [] → next_step (composed digest s) ≡ asks number ask
+    → IsFound digest ask s (composed digest s)
+composed_found digest s number ask going between next =
+    let sent = sends (composed digest s) number ask next in
+    let at : slice_get (group s.who (composed digest s).stage) 0 ≡ Some sent.message =
+    ap (λ (index : ℕ). slice_get (group s.who (composed digest s).stage) index) (sym (ap length between)) ∙ sent.at in
     let other : lifts ask.request ≡ false =
-    ap lifts (request_is (composed s) number ask sent) ∙ going_lifts s.who (composed s).stage sent.message (composed_goes s going) at in
+    ap lifts (request_is (composed digest s) number ask sent) ∙ going_lifts s.who (composed digest s).stage sent.message (composed_goes digest s going) at in
     record {
-      here = from_is (composed s) number ask next;
-      state = sym (ap (λ b. cond b (cond (is_acting s.stage) (given_up s) s) (composed s)) other);
+      here = from_is (composed digest s) number ask next;
+      state = sym (ap (λ b. cond b (cond (is_acting s.stage) (given_up s) s) (composed digest s)) other);
     }
 
 -- ---- giving a call up
 
-given_composed_in : (s : ClientState) (stage : Stage) → s.stage ≡ stage → given_up_in (composed s) (composed_stage s stage) ≡ given_up_in s stage
-given_composed_in s compose at = by (next_course s.left)
+given_composed_in : (digest : List ℕ → Id) (s : ClientState) (stage : Stage) → s.stage ≡ stage → given_up_in (composed digest s) (composed_stage digest s stage) ≡ given_up_in s stage
+given_composed_in digest s compose at = by (next_course s.left)
   where
-    by : (course : Option Course) → given_up_in (composed s) (keys_of s.who course) ≡ given_up_in s compose
+    by : (course : Option Course) → given_up_in (composed digest s) (keys_of digest s.who course) ≡ given_up_in s compose
     by None = refl
     by (Some course) = refl
-given_composed_in s (round keys) at = refl
-given_composed_in s (act flow) at = by (clean_up s.who flow)
+given_composed_in digest s (round keys) at = refl
+given_composed_in digest s (act flow) at = by (clean_up s.who flow)
   where
-    by : (messages : List Message) → wound (answers answer.NoMemory None) messages (composed s) ≡ wound (answers answer.NoMemory None) messages s
+    by : (messages : List Message) → wound (answers answer.NoMemory None) messages (composed digest s) ≡ wound (answers answer.NoMemory None) messages s
     by [] = refl
     by (m ∷ ms) = refl
-given_composed_in s (winds ending m ms) at = ap (λ stage. record s { stage = stage }) (rw at refl)
+given_composed_in digest s (winds ending m ms) at = ap (λ stage. record s { stage = stage }) (rw at refl)
 
 -- what is settled does not matter where the call is given up
-pub given_composed : (s : ClientState) → given_up (composed s) ≡ given_up s
-given_composed s = given_composed_in s s.stage refl
+pub given_composed : (digest : List ℕ → Id) (s : ClientState) → given_up (composed digest s) ≡ given_up s
+given_composed digest s = given_composed_in digest s s.stage refl
 
 given_room_in : (s : ClientState) (stage : Stage) → is_winding stage ≡ false
     → room_between (given_up_in s stage).who (given_up_in s stage).stage ≤ room_between s.who stage
@@ -300,8 +301,8 @@ first_lifts (m ∷ messages) = lifts m.request
 clean_up_lifts : (who : Who) (flow : Flow) → first_lifts (clean_up who flow) ≡ true
 clean_up_lifts who (finishes chain asked) = refl
 clean_up_lifts who (reserves chain name mode) = refl
-clean_up_lifts who (makes chain name mode version) = refl
-clean_up_lifts who (links chain name mode version born) = refl
+clean_up_lifts who (makes chain name mode version id) = refl
+clean_up_lifts who (links chain name mode version dir) = refl
 clean_up_lifts who (seals chain) = refl
 clean_up_lifts who (unlinks chain) = refl
 
@@ -337,9 +338,9 @@ who_in s (act flow) = by (clean_up s.who flow)
 who_in s (winds ending m ms) = refl
 
 -- the clean-up of a call that is given up finds it
-pub given_up_found : (s : ClientState) (number : ℕ) (ask : Ask) → is_winding s.stage ≡ false → is_winding (given_up s).stage ≡ true
-    → next_step (given_up s) ≡ asks number ask → IsFound ask s (given_up s)
-given_up_found s number ask going winding next =
+pub given_up_found : (digest : List ℕ → Id) (s : ClientState) (number : ℕ) (ask : Ask) → is_winding s.stage ≡ false → is_winding (given_up s).stage ≡ true
+    → next_step (given_up s) ≡ asks number ask → IsFound digest ask s (given_up s)
+given_up_found digest s number ask going winding next =
     let sent = sends (given_up s) number ask next in
     let at : slice_get (group s.who (given_up s).stage) 0 ≡ Some sent.message =
     ap (λ (who : Who). slice_get (group who (given_up s).stage) 0) (sym (who_in s s.stage))
@@ -348,7 +349,7 @@ given_up_found s number ask going winding next =
     let lifted : lifts ask.request ≡ true = ap lifts (request_is (given_up s) number ask sent) ∙ up.lifted in
     record {
       here = from_is (given_up s) number ask next ∙ up.here;
-      state = sym (ap (λ b. cond b (cond (is_acting s.stage) (given_up s) s) (composed s)) lifted ∙ ap (λ b. cond b (given_up s) s) up.acting);
+      state = sym (ap (λ b. cond b (cond (is_acting s.stage) (given_up s) s) (composed digest s)) lifted ∙ ap (λ b. cond b (given_up s) s) up.acting);
     }
 
 passes_in : (s : ClientState) (stage : Stage) → s.stage ≡ stage → is_winding stage ≡ false → is_winding (given_up_in s stage).stage ≡ false → is_free s.who stage ≡ true

@@ -1,5 +1,6 @@
 -- What the steps of a test leave.
 use Rattle.std.proofs.Common.{◌≡◌, ℕ, ◌+◌, ◌≤◌, Bool, true, false, cond, eqb, List, [], ◌∷◌, Option, Some, None, is_some, slice_get, subst, sym, ap, ◌∙◌, refl, arith}
+use Rattle.inf_base.specs.declared.id.Id.{Id}
 use Rattle.inf_base.specs.declared.answer.Answer.TheVariants as answer
 use Rattle.inf_base.specs.declared.call.Call.{Call}
 use Rattle.inf_base.specs.declared.setup.ClientLine.{ClientLine}
@@ -38,37 +39,37 @@ given_few s (act flow) = by (clean_up s.who flow)
     by (m ∷ ms) = omega arith
 given_few s (winds ending m ms) = omega arith
 
-found_few : (asked : Request) (s : ClientState) → (found_at asked s).counts.messages ≤ s.counts.messages
-found_few asked s = by (lifts asked) (is_acting s.stage)
+found_few : (digest : List ℕ → Id) (asked : Request) (s : ClientState) → (found_at digest asked s).counts.messages ≤ s.counts.messages
+found_few digest asked s = by (lifts asked) (is_acting s.stage)
   where
-    by : (b c : Bool) → (cond b (cond c (given_up s) s) (composed s)).counts.messages ≤ s.counts.messages
+    by : (b c : Bool) → (cond b (cond c (given_up s) s) (composed digest s)).counts.messages ≤ s.counts.messages
     by true true = given_few s s.stage
     by true false = omega arith
     by false c = omega arith
 
-call_few : (number : ℕ) (asked : Request) (left : List Call) (s : ClientState) → (at_call number asked left s).counts.messages ≤ s.counts.messages
-call_few number asked [] s = omega arith
-call_few number asked (call ∷ left) s = by (eqb number s.number) (is_some (course_of call)) (call_few number asked left (given_up s))
+call_few : (digest : List ℕ → Id) (number : ℕ) (asked : Request) (left : List Call) (s : ClientState) → (at_call digest number asked left s).counts.messages ≤ s.counts.messages
+call_few digest number asked [] s = omega arith
+call_few digest number asked (call ∷ left) s = by (eqb number s.number) (is_some (course_of call)) (call_few digest number asked left (given_up s))
   where
-    by : (b c : Bool) → (at_call number asked left (given_up s)).counts.messages ≤ (given_up s).counts.messages
-        → (cond b (found_at asked s) (cond c (at_call number asked left (given_up s)) s)).counts.messages ≤ s.counts.messages
-    by true c later = found_few asked s
+    by : (b c : Bool) → (at_call digest number asked left (given_up s)).counts.messages ≤ (given_up s).counts.messages
+        → (cond b (found_at digest asked s) (cond c (at_call digest number asked left (given_up s)) s)).counts.messages ≤ s.counts.messages
+    by true c later = found_few digest asked s
     by false true later = let less = given_few s s.stage in omega arith
     by false false later = omega arith
 
-begun_few : (ask : Ask) (sent : List Sent) (s : ClientState) → (begun ask sent s).counts.messages ≤ s.counts.messages
-begun_few ask [] s = call_few ask.from.number ask.request s.left s
-begun_few ask (x ∷ sent) s = omega arith
+begun_few : (digest : List ℕ → Id) (ask : Ask) (sent : List Sent) (s : ClientState) → (begun digest ask sent s).counts.messages ≤ s.counts.messages
+begun_few digest ask [] s = call_few digest ask.from.number ask.request s.left s
+begun_few digest ask (x ∷ sent) s = omega arith
 
 -- to take up an ask counts no message
-pub asks_few : (number : ℕ) (ask : Ask) (old new : Client) → AsksNext number ask old new → new.state.counts.messages ≤ old.state.counts.messages
-asks_few number ask old new next =
-    let few = begun_few ask old.state.sent old.state in
-    let same : new.state.counts.messages ≡ (begun ask old.state.sent old.state).counts.messages = ap (λ (s : ClientState). s.counts.messages) next.state in
+pub asks_few : (digest : List ℕ → Id) (number : ℕ) (ask : Ask) (old new : Client) → AsksNext digest number ask old new → new.state.counts.messages ≤ old.state.counts.messages
+asks_few digest number ask old new next =
+    let few = begun_few digest ask old.state.sent old.state in
+    let same : new.state.counts.messages ≡ (begun digest ask old.state.sent old.state).counts.messages = ap (λ (s : ClientState). s.counts.messages) next.state in
     omega arith
 
-pub asks_later : (place number : ℕ) (ask : Ask) (old new : Client) → AsksNext number ask old new → IsLater place old.log.asks → IsLater place new.log.asks
-asks_later place number ask old new next later = subst (IsLater place) (sym next.asks) later
+pub asks_later : (digest : List ℕ → Id) (place number : ℕ) (ask : Ask) (old new : Client) → AsksNext digest number ask old new → IsLater place old.log.asks → IsLater place new.log.asks
+asks_later digest place number ask old new next later = subst (IsLater place) (sym next.asks) later
 
 pub placed_later : (place : ℕ) (old : AskLog) (new : Client) (state : ClientState) → new ≡ client_with (placed place state) false (asked_log place old) false
     → IsLater place old.asks → IsLater (place + 1) new.log.asks
