@@ -1,5 +1,6 @@
 -- A call is unanswered only where the order ended before it was decided.
 use Rattle.std.proofs.Common.{◌≡◌, ◌≢◌, ℕ, suc, ◌+◌, ◌≤◌, Bool, true, false, cond, eqb, List, [], ◌∷◌, length, slice_get, Option, None, Some, All, refl, sym, ap, subst, ◌∙◌, ⊎_elim, arith}
+use Rattle.inf_base.specs.declared.id.Id.{Id}
 use Rattle.std.proofs.lemmas.List.Elements.{All-append, All-cons, All-nil, All-push}
 use Rattle.inf_base.specs.declared.answer.Answer.{Answer}
 use Rattle.inf_base.specs.declared.answer.Answer.TheVariants as answer
@@ -10,7 +11,7 @@ use Rattle.inf_duty.specs.Duty.{asked, given_up, given_up_in}
 use Rattle.inf_duty.specs.Outcome.{Agrees, OutcomeFrom, all_given_up, may_give_up, results_of, so_far, unanswered}
 use Rattle.inf_duty.specs.Start.{starting}
 use Rattle.inf_duty.specs.World.{World}
-use Rattle.inf_flow_dir.specs.Client.{Client, Ending, Stage, act, answers, compose, ended, rest_of, result_of, retries, round, winds, wound}
+use Rattle.inf_flow_dir.specs.Client.{ClientState, Ending, Stage, act, answers, compose, ended, rest_of, result_of, retries, round, winds, wound}
 use Rattle.inf_flow_dir.specs.Flow.{Who, clean_up}
 use Rattle.inf_flow_dir.specs.Heard.{heard}
 use Rattle.inf_flow_dir.specs.Turn.{Turn, goes_on, recorded, served, turn_at, turned, winds_up}
@@ -37,7 +38,7 @@ abbrev IsAnswered : CallResult → Type 0
 IsAnswered result = IsAnswer result.answer
 
 -- and one that winds up is, once it has ended
-record AllAnswered (s : Client) : Type 0 where
+record AllAnswered (s : ClientState) : Type 0 where
   results : All IsAnswered s.results
   stage : StageHas IsAnswer s.stage
 
@@ -53,38 +54,38 @@ of_replies = record {
 no_memory : IsAnswer answer.NoMemory
 no_memory e = absurd (cc)
 
-ended_answered : (given : Answer) (place : Option ℕ) (s : Client) → IsAnswer given → All IsAnswered s.results → AllAnswered (ended given place s)
+ended_answered : (given : Answer) (place : Option ℕ) (s : ClientState) → IsAnswer given → All IsAnswered s.results → AllAnswered (ended given place s)
 ended_answered given place s is before = record { results = All-push IsAnswered s.results (result_of given place s.counts.last s) before is; stage = tt }
 
-wound_answered : (ending : Ending) (more : List Message) (s : Client) → EndingHas IsAnswer ending → All IsAnswered s.results → AllAnswered (wound ending more s)
+wound_answered : (ending : Ending) (more : List Message) (s : ClientState) → EndingHas IsAnswer ending → All IsAnswered s.results → AllAnswered (wound ending more s)
 wound_answered (answers given place) [] s is before = ended_answered given place s is before
 wound_answered retries [] s is before = record { results = before; stage = tt }
 wound_answered ending (m ∷ ms) s is before = record { results = before; stage = is }
 
-turned_answered : (turn : Turn) (s : Client) → TurnHas IsAnswer turn → All IsAnswered s.results → AllAnswered (turned turn s)
+turned_answered : (turn : Turn) (s : ClientState) → TurnHas IsAnswer turn → All IsAnswered s.results → AllAnswered (turned turn s)
 turned_answered (goes_on next) s is before = record { results = before; stage = is }
 turned_answered (winds_up ending more) s is before = wound_answered ending more s is before
 
-given_up_answered : (s : Client) (stage : Stage) → AllAnswered s → AllAnswered (given_up_in s stage)
+given_up_answered : (s : ClientState) (stage : Stage) → AllAnswered s → AllAnswered (given_up_in s stage)
 given_up_answered s (act flow) before = wound_answered (answers answer.NoMemory None) (clean_up s.who flow) s no_memory before.results
 given_up_answered s (winds ending m ms) before = before
 given_up_answered s compose before = ended_answered answer.NoMemory None s no_memory before.results
 given_up_answered s (round keys) before = ended_answered answer.NoMemory None s no_memory before.results
 
-answered_kept : IsKept AllAnswered
-answered_kept = record {
-  composing = λ s before. record { results = before.results; stage = composed_has IsAnswer s s.stage before.stage };
+answered_kept : (digest : List ℕ → Id) → IsKept digest AllAnswered
+answered_kept digest = record {
+  composing = λ s before. record { results = before.results; stage = composed_has digest IsAnswer s s.stage before.stage };
   giving_up = λ s before. given_up_answered s s.stage before;
 }
 
-served_answered : (ask_place : ℕ) (told : Told) (s : Client) → AllAnswered s → AllAnswered (served ask_place told s)
-served_answered ask_place told s before =
-    by_answer AllAnswered ask_place told s
+served_answered : (digest : List ℕ → Id) (ask_place : ℕ) (told : Told) (s : ClientState) → AllAnswered s → AllAnswered (served digest ask_place told s)
+served_answered digest ask_place told s before =
+    by_answer digest AllAnswered ask_place told s
     (λ apart. before)
     (λ here going. record { results = before.results; stage = before.stage })
     (λ here over.
-    turned_answered (turn_at (recorded ask_place told s) s.stage) (recorded ask_place told s)
-    (turn_has IsAnswer of_replies (recorded ask_place told s) s.stage before.stage (λ wants. no_memory)) before.results)
+    turned_answered (turn_at digest (recorded ask_place told s) s.stage) (recorded ask_place told s)
+    (turn_has digest IsAnswer of_replies (recorded ask_place told s) s.stage before.stage (λ wants. no_memory)) before.results)
 
 starting_answered : (world : World) (client : ℕ) (line : Option ClientLine) → AllAnswered (starting world client line)
 starting_answered world client None = record { results = All-nil IsAnswered; stage = tt }
@@ -93,24 +94,24 @@ starting_answered world client (Some line) = record { results = All-nil IsAnswer
 answered : (world : World) (client : ℕ) (h : List Event) → AllAnswered (client_after world client h)
 answered world client [] = starting_answered world client (slice_get world.setup.clients client)
 answered world client (event.Ask number ask ∷ h) =
-    let s : Client = client_after world client h in
+    let s : ClientState = client_after world client h in
     let begun =
-    kept_begun AllAnswered answered_kept ask s.sent s (answered world client h) in
-    if_both AllAnswered (eqb ask.from.client client) (asked (suc (length h)) ask s) s
+    kept_begun world.digest AllAnswered (answered_kept world.digest) ask s.sent s (answered world client h) in
+    if_both AllAnswered (eqb ask.from.client client) (asked world.digest (suc (length h)) ask s) s
     (record { results = begun.results; stage = begun.stage }) (answered world client h)
 answered world client (event.Serve number ask_place given ∷ h) =
-    served_answered ask_place (told_reply (suc (length h)) (heard given)) (client_after world client h) (answered world client h)
+    served_answered world.digest ask_place (told_reply (suc (length h)) (heard given)) (client_after world client h) (answered world client h)
 
 -- ---- a call that has not ended is left
 
 -- the client has so many calls of those that were left to it after the history, the first one behind so many others
-record IsFrom (world : World) (h : List Event) (client before count : ℕ) (s : Client) : Type 0 where
+record IsFrom (world : World) (h : List Event) (client before count : ℕ) (s : ClientState) : Type 0 where
   own : s.who.client ≡ client
   number : s.number ≡ (client_after world client h).number + before
   room : before + count ≤ length (client_after world client h).left
 
 -- the same, of the calls that it has
-record IsWithin (world : World) (h : List Event) (client : ℕ) (s : Client) : Type 0 where
+record IsWithin (world : World) (h : List Event) (client : ℕ) (s : ClientState) : Type 0 where
   before : ℕ
   from : IsFrom world h client before (length s.left) s
   answered : AllAnswered s
@@ -125,7 +126,7 @@ from_after world h client = record {
   room = omega arith;
 }
 
-given_up_within : (world : World) (h : List Event) (client before : ℕ) (calls : List Call) (s : Client) → s.left ≡ calls → AllAnswered s → IsFrom world h client before (length calls) s → IsWithin world h client (all_given_up calls s)
+given_up_within : (world : World) (h : List Event) (client before : ℕ) (calls : List Call) (s : ClientState) → s.left ≡ calls → AllAnswered s → IsFrom world h client before (length calls) s → IsWithin world h client (all_given_up calls s)
 given_up_within world h client before [] s same known from = record {
   before = before;
   from = record { own = from.own; number = from.number; room = omega (arith, from.room, ap length same) };
@@ -143,7 +144,7 @@ given_up_within world h client before (next ∷ calls) s same known from = by (m
       answered = known;
     }
 
-left_open : (world : World) (h : List Event) (client before count : ℕ) (s : Client) → IsFrom world h client before (count + 1) s → IsLeftOpen world h (result_of answer.Unanswered None None s)
+left_open : (world : World) (h : List Event) (client before count : ℕ) (s : ClientState) → IsFrom world h client before (count + 1) s → IsLeftOpen world h (result_of answer.Unanswered None None s)
 left_open world h client before count s from = record {
   before = before;
   numbered = from.number ∙ ap (λ c. (client_after world c h).number + before) (sym from.own);
@@ -152,14 +153,14 @@ left_open world h client before count s from = record {
 }
 
 -- a call that winds up is answered already
-so_far_open : (world : World) (h : List Event) (client before count : ℕ) (s : Client) (stage : Stage) → StageHas IsAnswer stage → IsFrom world h client before (count + 1) s → OnlyOpen world h (so_far stage s)
+so_far_open : (world : World) (h : List Event) (client before count : ℕ) (s : ClientState) (stage : Stage) → StageHas IsAnswer stage → IsFrom world h client before (count + 1) s → OnlyOpen world h (so_far stage s)
 so_far_open world h client before count s (winds (answers given place) m ms) is from = λ e. absurd (is e)
 so_far_open world h client before count s (winds retries m ms) is from = λ e. left_open world h client before count s from
 so_far_open world h client before count s compose is from = λ e. left_open world h client before count s from
 so_far_open world h client before count s (round keys) is from = λ e. left_open world h client before count s from
 so_far_open world h client before count s (act flow) is from = λ e. left_open world h client before count s from
 
-unanswered_open : (world : World) (h : List Event) (client before : ℕ) (calls : List Call) (s : Client) → StageHas IsAnswer s.stage → IsFrom world h client before (length calls) s → All (OnlyOpen world h) (unanswered calls s)
+unanswered_open : (world : World) (h : List Event) (client before : ℕ) (calls : List Call) (s : ClientState) → StageHas IsAnswer s.stage → IsFrom world h client before (length calls) s → All (OnlyOpen world h) (unanswered calls s)
 unanswered_open world h client before [] s is from = All-nil (OnlyOpen world h)
 unanswered_open world h client before (next ∷ calls) s is from =
     All-cons (OnlyOpen world h) (so_far s.stage s) (unanswered calls (ended answer.Unanswered None s))
@@ -169,7 +170,7 @@ unanswered_open world h client before (next ∷ calls) s is from =
 
 -- ---- the results of all clients
 
-results_open : (world : World) (h : List Event) (client : ℕ) (s : Client) → IsWithin world h client s → All (OnlyOpen world h) (results_of s)
+results_open : (world : World) (h : List Event) (client : ℕ) (s : ClientState) → IsWithin world h client s → All (OnlyOpen world h) (results_of s)
 results_open world h client s is =
     All-append (OnlyOpen world h) s.results (unanswered s.left s)
     (λ k d within e. absurd (is.answered.results k d within e))
@@ -177,7 +178,7 @@ results_open world h client s is =
 
 agreeing_open : (world : World) (h : List Event) (client : ℕ) (mine : List CallResult) → Agrees (client_after world client h) mine → All (OnlyOpen world h) mine
 agreeing_open world h client mine agrees =
-    let s : Client = client_after world client h in
+    let s : ClientState = client_after world client h in
     ⊎_elim
     (λ (same : mine ≡ results_of s).
     subst (All (OnlyOpen world h)) (sym same)
