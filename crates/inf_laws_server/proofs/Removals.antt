@@ -28,7 +28,7 @@ use Rattle.inf_laws_server.specs.Denied.{IsFull}
 use Rattle.inf_laws_server.specs.Passed.{IsAsked}
 use Rattle.inf_laws_server.specs.Replies.{Fails}
 use Rattle.inf_laws_server.proofs.Asked.{at_directory, at_name, found_directory}
-use Rattle.inf_laws_server.proofs.Lookups.{Came, Did}
+use Rattle.inf_laws_server.proofs.Came.{Came, Did}
 use Rattle.inf_base.proofs.Same.{same_dir}
 use Rattle.inf_laws_server.proofs.Walking.{behind_check, behind_some, behind_unit}
 

@@ -18,7 +18,12 @@ use Rattle.inf_laws_server.specs.Denied.{Denies}
 use Rattle.inf_laws_server.specs.Replies.{Fails, Succeeds, is_failure}
 use Rattle.inf_laws_server.proofs.Births.{cancel_comes, link_comes, make_comes, reserve_comes}
 use Rattle.inf_laws_server.proofs.Files.{op_comes}
-use Rattle.inf_laws_server.proofs.Lookups.{Came, Did, lookup_comes}
+use Rattle.inf_content.specs.Order.{AreInOrder}
+use Rattle.inf_laws_server.specs.Changes.{Change, changed}
+use Rattle.inf_laws_server.specs.Done.{change_of}
+use Rattle.inf_laws_server.proofs.ChangeFacts.{TellsNoChange, changed_in_order, changed_top, quiet_changes_none}
+use Rattle.inf_laws_server.proofs.Came.{Came, Did}
+use Rattle.inf_laws_server.proofs.Lookups.{lookup_comes}
 use Rattle.inf_laws_server.proofs.Removals.{drop_comes, forget_comes, seal_comes, unlink_comes, unseal_comes}
 use Rattle.inf_laws_server.proofs.Walking.{Comes}
 
@@ -149,3 +154,34 @@ module _ (site : Site) (old : State) (ask : Ask) (asked : Request) where
   refused error (inl succeeds) = absurd succeeds
   refused error (inr (inl denies)) = denies
   refused error (inr (inr wants)) = absurd (let is = wants.0 in cc)
+
+-- ---- what any Serve keeps
+
+module _ (site : Site) (old : State) (place : ℕ) (ask : Ask) (given : Reply) (new : State) where
+  pub done_in_order : (asked : Request) → IsDone site old place ask asked given new → AreInOrder old.contents → AreInOrder new.contents
+  done_in_order asked is ordered =
+      subst (λ (s : State). AreInOrder s.contents) (sym is.did) (changed_in_order (change_of site old place ask asked is.passed) old ordered)
+
+  module _ (serves : Serves site old place ask given new) where
+    pub served_in_order : AreInOrder old.contents → AreInOrder new.contents
+    served_in_order ordered = by (left_or_done site old place ask given new serves)
+      where
+        by : (new ≡ old) ⊎ IsDone site old place ask ask.request given new → AreInOrder new.contents
+        by (inl same) = subst (λ (s : State). AreInOrder s.contents) (sym same) ordered
+        by (inr is) = done_in_order ask.request is ordered
+
+    pub top_kept : new.top ≡ old.top
+    top_kept = by (left_or_done site old place ask given new serves)
+      where
+        by : (new ≡ old) ⊎ IsDone site old place ask ask.request given new → new.top ≡ old.top
+        by (inl same) = ap (λ (s : State). s.top) same
+        by (inr is) = ap (λ (s : State). s.top) is.did ∙ changed_top (change_of site old place ask ask.request is.passed) old
+
+    -- what tells of no change leaves the state
+    pub quiet_leaves : TellsNoChange given → new ≡ old
+    quiet_leaves quiet = by (left_or_done site old place ask given new serves)
+      where
+        by : (new ≡ old) ⊎ IsDone site old place ask ask.request given new → new ≡ old
+        by (inl same) = same
+        by (inr is) = is.did ∙ ap (λ (with : Change). changed with old)
+            (quiet_changes_none site old place ask ask.request is.passed (subst TellsNoChange is.said quiet))
