@@ -25,6 +25,7 @@ use Rattle.inf_laws_server.specs.Changes.{Change, changed}
 use Rattle.inf_laws_server.specs.Done.{answer_of, answer_of_op, change_of, change_of_op}
 use Rattle.inf_laws_server.specs.Edits as edit
 use Rattle.inf_laws_server.specs.Edits.{Edit, edited}
+use Rattle.inf_laws_server.specs.Replies.{TellsOfNoChange}
 use Rattle.inf_laws_server.specs.Passed.{IsAsked, Passed, PassedOp}
 
 -- ---- what a change keeps
@@ -102,20 +103,15 @@ module _ (site : Site) (state : State) (place : ℕ) (ask : Ask) where
   }
   change_is_of other_request passed = tt
 
--- ---- what tells of no change: where something changed, it is said that all went well, or which version was reserved
-
-abbrev pub TellsNoChange : Reply → Type 0
-TellsNoChange reply.Fine = ⊥
-TellsNoChange (reply.Reserved version) = ⊥
-TellsNoChange other_reply = Unit {0}
+-- ---- what tells of no change
 
 module _ (site : Site) (state : State) (place : ℕ) (ask : Ask) where
-  quiet_op : (chain : List Entry) (with : Op) (passed : PassedOp site state ask chain with) → TellsNoChange (answer_of_op site state ask chain with passed)
+  quiet_op : (chain : List Entry) (with : Op) (passed : PassedOp site state ask chain with) → TellsOfNoChange (answer_of_op site state ask chain with passed)
       → change_of_op site state ask chain with passed ≡ change.none
   quiet_op chain (op.Create name mode) passed quiet = absurd quiet
   quiet_op chain other_op passed quiet = refl
 
-  pub quiet_changes_none : (asked : Request) (passed : Passed site state ask asked) → TellsNoChange (answer_of site state ask asked passed)
+  pub quiet_changes_none : (asked : Request) (passed : Passed site state ask asked) → TellsOfNoChange (answer_of site state ask asked passed)
       → change_of site state place ask asked passed ≡ change.none
   quiet_changes_none (request.Lookup sought) passed quiet = refl
   quiet_changes_none (request.Finish chain with) passed quiet = quiet_op chain with passed quiet
