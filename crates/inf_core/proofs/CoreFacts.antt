@@ -18,7 +18,7 @@ use Rattle.inf_message.specs.History.{Posted, Served, asked_at, event_at, is_ser
 use Rattle.inf_message.proofs.HistoryLaws.{IsPlaceOf, asked_is_event, asked_within, other, serves_apart, serves_own}
 use Rattle.inf_message.proofs.OldestFirst.{event_is_indexed}
 use Rattle.inf_core.proofs.ByIndex.{got_apart, got_before, got_pushed, got_set}
-use Rattle.inf_core.proofs.LeavingReplies.{serves_leaves}
+use Rattle.inf_laws_server.proofs.Serves.{quiet_leaves}
 use Rattle.inf_core.proofs.Posted.{posted_known}
 use Rattle.inf_server.specs.Machine.{Serves, state_after}
 use Rattle.inf_server.specs.Response.{Response}
@@ -247,7 +247,7 @@ module _ {R : Type 0} (digest_of : R → List ℕ → Id) (setup : Setup) (rule 
   untold_kept : (h : List Event) (ask_place : ℕ) (posted : Posted) (given : Reply) (servers after : List (Standing R)) (served : List Bool) → asked_at ask_place h ≡ Some posted → TellsOfNoChange given → Joined h ask_place posted given servers after → IsKept here rule servers h served → IsKept here rule after h served
   untold_kept h ask_place posted given servers after served made tells by is =
       let there : posted.number < setup.servers = (posted_known here ask_place posted h is.legal made).there is.some_servers in
-      let state : by.after.state ≡ server_after here posted.number h = serves_leaves (site_of here posted.number) (server_after here posted.number h) by.after.state ask_place posted.ask given tells by.serves in
+      let state : by.after.state ≡ server_after here posted.number h = quiet_leaves (site_of here posted.number) (server_after here posted.number h) ask_place posted.ask given by.after.state by.serves tells in
       let same : by.after ≡ standing here rule h posted.number = same_standing by.after (standing here rule h posted.number) by.same.rule by.same.number by.same.servers state in
       let put : AreStanding here rule h (setup.servers + 1) (slice_set servers posted.number by.after) =
       standing_put h h (setup.servers + 1) posted.number servers by.after (omega arith) same (λ other apart. refl) is.standing in

@@ -8,10 +8,10 @@ use Rattle.inf_message.specs.declared.ask.Ask.{Ask}
 use Rattle.inf_message.specs.declared.event.Event.{Event}
 use Rattle.inf_message.specs.declared.event.Event.TheVariants as event
 use Rattle.inf_message.specs.declared.reply.Reply.{Reply}
-use Rattle.inf_message.specs.declared.reply.Reply.TheVariants as reply
 use Rattle.inf_message.specs.History.{is_served}
 use Rattle.inf_server.specs.Machine.{Serves}
 use Rattle.inf_server.specs.Server.{IsSameServer, Standing, site_of}
+pub use Rattle.inf_laws_server.specs.Replies.{TellsOfNoChange}
 
 -- a core by its rule of identifiers, its setup, and the events so far, the newest first
 pub record Running (R : Type 0) : Type 0 where
@@ -33,12 +33,6 @@ pub record IsServedNext (world : World) (old new : List Event) (ask_place : ℕ)
   pub number : ℕ
   pub may : MayServe world old number ask_place given
   pub joins : new ≡ event.Serve number ask_place given ∷ old
-
--- it tells of no change of the server: any other reply may go with one
-abbrev pub TellsOfNoChange : Reply → Type 0
-TellsOfNoChange reply.Fine = ⊥
-TellsOfNoChange (reply.Reserved version) = ⊥
-TellsOfNoChange other_reply = Unit {0}
 
 -- ---- what the core keeps
 

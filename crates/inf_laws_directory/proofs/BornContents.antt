@@ -1,35 +1,36 @@
 -- A content object that comes with a Serve was born at its Ask.
-use Rattle.std.proofs.Common.{◌≡◌, ◌⊎◌, inl, inr, ℕ, ◌==◌, ◌&&◌, Bool, true, false, cond, List, [], ◌∷◌, Option, Some, None, is_some, Result, Ok, refl, sym, ap, ◌∙◌, subst}
+use Rattle.std.proofs.Common.{⊎_elim, ◌≡◌, ◌⊎◌, inl, inr, ℕ, ◌==◌, ◌&&◌, Bool, true, false, cond, List, [], ◌∷◌, Option, Some, None, is_some, refl, sym, ap, ◌∙◌, subst}
 use Rattle.std.specs.Option.{option_map}
 use Rattle.inf_base.specs.declared.caller.CallRef.{CallRef}
 use Rattle.inf_base.specs.declared.directory.DirRef.{DirRef}
-use Rattle.inf_base.specs.declared.entry.Entry.{Entry}
 use Rattle.inf_base.specs.declared.id.Id.{Id}
 use Rattle.inf_base.specs.declared.triple.Triple.{Triple}
 use Rattle.inf_base.specs.Content.{Content}
-use Rattle.inf_base.specs.Identity.{identity}
-use Rattle.inf_base.specs.Same.{dir_of, is_same_id}
+use Rattle.inf_base.specs.Same.{is_same_id}
 use Rattle.inf_content.specs.Contents.{changed_at, content_at, content_of_id, dropped_at, empty_content, if_born, made_at, may_drop, may_drop_found, placed, with_new, with_slots_at}
 use Rattle.inf_content.specs.Order.{AreInOrder, IdentifiersRise}
 use Rattle.inf_message.specs.declared.ask.Ask.{Ask}
-use Rattle.inf_message.specs.declared.op.Op.{Op}
-use Rattle.inf_message.specs.declared.op.Op.TheVariants as op
 use Rattle.inf_message.specs.declared.reply.Reply.{Reply}
 use Rattle.inf_message.specs.declared.request.Request.{Request}
 use Rattle.inf_message.specs.declared.request.Request.TheVariants as request
-use Rattle.inf_server.specs.Births.{make}
-use Rattle.inf_server.specs.Machine.{Serves, on_change, on_op, on_request}
-use Rattle.inf_server.specs.Response.{Response}
+use Rattle.inf_server.specs.Machine.{Serves}
 use Rattle.inf_server.specs.State.{Site, State}
+use Rattle.inf_laws_server.specs.CameTo.{IsDone}
+use Rattle.inf_laws_server.specs.Changes as change
+use Rattle.inf_laws_server.specs.Changes.{Change, changed}
+use Rattle.inf_laws_server.specs.Done.{change_of}
+use Rattle.inf_laws_server.specs.Edits.{Slots, edited}
+use Rattle.inf_laws_server.proofs.ChangeFacts.{IsOf, change_is_of}
+use Rattle.inf_laws_server.proofs.Serves.{left_or_done}
 use Rattle.inf_laws_directory.specs.Born.{IsBornBy}
 use Rattle.inf_laws_directory.specs.Objects.{Objects, Service, content_in, site_in, with_state}
 use Rattle.inf_laws_directory.proofs.ContentFacts.{changed_apart, changed_here, dropped_apart, with_changed}
 use Rattle.inf_laws_directory.proofs.Kept.{dropped_here, each_content, each_dir, placed_elsewhere}
-use Rattle.inf_laws_directory.proofs.Outcomes.{Comes, IsFine, Nothing, make_comes}
-use Rattle.inf_laws_directory.proofs.PassedRequests.{cancelled, created, dropped, has_linked, has_sealed, has_unlinked, made, reserved_name, unsealed}
-use Rattle.inf_laws_directory.proofs.ServedOrder.{forgot, looked_up, never_removed, never_walked, stat_told}
-use Rattle.inf_laws_directory.proofs.ServedReplies.{left_or_done}
-use Rattle.inf_laws_directory.proofs.ServiceFacts.{Slots}
+
+-- a request to make a directory
+record IsMade (asked : Request) : Type 0 where
+  birth : Triple
+  is_make : asked ≡ request.Make birth
 
 -- a directory whose content object is there now had one before
 abbrev BringNone : List Content → List Content → Type 0
@@ -94,72 +95,23 @@ made_brings id born asked by contents dir = by_kept (content_of_id id contents) 
         (λ other apart there. inl (sym (ap is_some (placed_elsewhere content contents none other apart)) ∙ there)) dir
     by_kept (Some kept) is = λ there. inl there
 
--- what comes where a request is done
-module _ (site : Site) (state : State) (ask : Ask) (end : Response) (ordered : AreInOrder state.contents) where
-  abbrev IsNoneNew : Type 0
-  IsNoneNew = BringNone state.contents end.state.contents
+-- what a change brings
+module _ (site : Site) (state : State) (place : ℕ) (ask : Ask) (asked : Request) (ordered : AreInOrder state.contents) where
+  -- it was there, or is born at this place, of a request to make it
+  abbrev Brings : Change → DirRef → Type 0
+  Brings with dir = is_some (content_at dir (changed with state).contents) ≡ true
+      → (is_some (content_at dir state.contents) ≡ true) ⊎ ((dir.born ≡ place) × IsMade asked)
 
-  none_new : (contents : List Content) → end.state.contents ≡ contents → BringNone state.contents contents → IsNoneNew
-  none_new contents is none = subst (λ (cs : List Content). BringNone state.contents cs) (sym is) none
-
-  same_left : end.state.contents ≡ state.contents → IsNoneNew
-  same_left is = none_new state.contents is (λ dir there. there)
-
-  op_brings : (chain : List Entry) (with : Op) → on_op site state ask chain with ≡ Ok end → IsNoneNew
-  op_brings chain (op.Create name mode) is =
-      let put = created site state ask chain name end mode is in
-      none_new _ put.has.contents (slots_bring_none (dir_of put.entry.access) _ state.contents)
-  op_brings chain (op.Stat name) is = same_left (stat_told site state ask end chain name is)
-  op_brings chain (op.Walk name) is = absurd (never_walked site state ask end chain name is)
-  op_brings chain (op.RmdirName name) is = absurd (never_removed site state ask end chain name is)
-  op_brings chain other_op is = cc
-
-  change_brings : (asked : Request) → on_change site state ask asked ≡ Ok end → IsNoneNew
-  change_brings (request.Link chain name dir mode) is =
-      let put = has_linked site state ask end chain dir mode is in
-      none_new _ put.has.contents (slots_bring_none (dir_of put.entry.access) _ state.contents)
-  change_brings (request.Cancel dir) is = none_new _ (cancelled site state ask end dir is).contents (slots_bring_none dir _ state.contents)
-  change_brings (request.Drop dir) is = none_new _ (dropped site state ask end dir is) (dropped_bring_none dir ask.from state.contents ordered.identifiers)
-  change_brings (request.Seal chain) is =
-      let seals = has_sealed site state ask end chain is in
-      none_new _ seals.contents (changed_bring_none (dir_of seals.entry.access) _ (λ c. refl) state.contents)
-  change_brings (request.Unseal dir) is = none_new _ (unsealed site state ask end dir is) (changed_bring_none dir _ (λ c. refl) state.contents)
-  change_brings (request.Unlink chain) is =
-      let taken = has_unlinked site state ask end chain is in
-      none_new _ taken.has.contents (slots_bring_none (dir_of taken.entry.access) _ state.contents)
-  change_brings (request.Forget parent dir) is = same_left (forgot site state ask end parent dir is)
-  change_brings other_request is = cc
-
-  -- it was there, or is born at this place, of this request
-  abbrev Brings : ℕ → Request → DirRef → Type 0
-  Brings place asked dir = is_some (content_at dir end.state.contents) ≡ true
-      → (is_some (content_at dir state.contents) ≡ true) ⊎ ((dir.born ≡ place) × IsBornBy asked end.reply)
-
-  make_brings : (place : ℕ) (birth : Triple) (dir : DirRef) → make site state place ask birth ≡ Ok end → Brings place (request.Make birth) dir
-  make_brings place birth dir is there =
-      by (made_brings (identity site.digest birth) place birth ask.from state.contents dir
-      (subst (λ (cs : List Content). is_some (content_at dir cs) ≡ true) (made site state ask end place birth is) there))
-    where
-      by : (is_some (content_at dir state.contents) ≡ true) ⊎ (dir.born ≡ place)
-          → (is_some (content_at dir state.contents) ≡ true) ⊎ ((dir.born ≡ place) × IsBornBy (request.Make birth) end.reply)
-      by (inl was) = inl was
-      by (inr born) = inr (
-        born,
-        record {
-          birth = birth;
-          is_make = refl;
-          is_done = subst (λ (r : Result Response Reply). Comes Nothing IsFine r) is (make_comes site state place ask birth);
-        },
-      )
-
-  brings : (place : ℕ) (asked : Request) (dir : DirRef) → on_request site state place ask asked ≡ Ok end → Brings place asked dir
-  brings place (request.Lookup key) dir is there = inl (same_left (looked_up site state ask end key is) dir there)
-  brings place (request.Finish chain with) dir is there = inl (op_brings chain with is dir there)
-  brings place (request.Reserve chain name) dir is there =
-      let put = reserved_name site state ask chain name end is in
-      inl (none_new _ put.has.contents (slots_bring_none (dir_of put.entry.access) _ state.contents) dir there)
-  brings place (request.Make birth) dir is there = make_brings place birth dir is there
-  brings place other_request dir is there = inl (change_brings other_request is dir there)
+  change_brings : (with : Change) → IsOf site state place ask asked with → (dir : DirRef) → Brings with dir
+  change_brings change.none is dir there = inl there
+  change_brings (change.slots at with) is dir there = inl (slots_bring_none at (edited with) state.contents dir there)
+  change_brings (change.comes id born birth by) is dir there =
+      ⊎_elim inl (λ at_birth. inr (at_birth ∙ is.at_place, record { birth = birth; is_make = is.is_make }))
+      (made_brings id born birth by state.contents dir there)
+  change_brings (change.goes at by) is dir there = inl (dropped_bring_none at by state.contents ordered.identifiers dir there)
+  change_brings (change.seals at by) is dir there = inl (changed_bring_none at _ (λ c. refl) state.contents dir there)
+  change_brings (change.unseals at by) is dir there = inl (changed_bring_none at _ (λ c. refl) state.contents dir there)
+  change_brings (change.forgets parent at) is dir there = inl there
 
 module _ (service : Service) (objects : Objects) (number place : ℕ) (ask : Ask) (given : Reply) (new : State)
     (ordered : AreInOrder (objects number).contents) (serves : Serves (site_in service number) (objects number) place ask given new) where
@@ -169,13 +121,25 @@ module _ (service : Service) (objects : Objects) (number place : ℕ) (ask : Ask
   abbrev IsBornHere : DirRef → Type 0
   IsBornHere dir = (dir.born ≡ place) × IsBornBy ask.request given
 
+  -- a Make that is done says so
+  born_by : (asked : Request) → IsDone site (objects number) place ask asked given new → IsMade asked → IsBornBy asked given
+  born_by asked is made = record {
+    birth = made.birth;
+    is_make = made.is_make;
+    is_done = (subst (λ (r : Request). IsDone site (objects number) place ask r given new) made.is_make is).said;
+  }
+
   born_at : (dir : DirRef) → is_some (content_at dir new.contents) ≡ true → (is_some (content_at dir (objects number).contents) ≡ true) ⊎ IsBornHere dir
   born_at dir there = by (left_or_done site (objects number) place ask given new serves)
     where
-      by : (new ≡ objects number) ⊎ (on_request site (objects number) place ask ask.request ≡ Ok (record { reply = given; state = new }))
+      by : (new ≡ objects number) ⊎ IsDone site (objects number) place ask ask.request given new
           → (is_some (content_at dir (objects number).contents) ≡ true) ⊎ IsBornHere dir
       by (inl same) = inl (subst (λ (s : State). is_some (content_at dir s.contents) ≡ true) same there)
-      by (inr is) = brings site (objects number) ask (record { reply = given; state = new }) ordered place ask.request dir is there
+      by (inr is) =
+          ⊎_elim inl (λ made. inr (made.0, born_by ask.request is made.1))
+          (change_brings site (objects number) place ask ask.request ordered (change_of site (objects number) place ask ask.request is.passed)
+          (change_is_of site (objects number) place ask ask.request is.passed) dir
+          (subst (λ (s : State). is_some (content_at dir s.contents) ≡ true) is.did there))
 
   pub born_at_the_ask : (dir : DirRef) → is_some (content_in service (with_state number new objects) dir) ≡ true
       → (is_some (content_in service objects dir) ≡ true) ⊎ IsBornHere dir

@@ -1,27 +1,27 @@
 -- What a lookup is told stands where it is told to stand.
-use Rattle.std.proofs.Common.{◌≡◌, ℕ, List, Option, Some, None, Ok, ok_or, inl, sym, ap, ◌∙◌, subst}
+use Rattle.std.proofs.Common.{List, None, Ok, Option, Some, ap, inl, subst, sym, true, ℕ, ◌∙◌, ◌≡◌}
 use Rattle.inf_base.specs.declared.access.Access.{Access}
 use Rattle.inf_base.specs.declared.directory.DirRef.{DirRef}
 use Rattle.inf_base.specs.declared.id.Id.{Id}
 use Rattle.inf_base.specs.declared.key.Key.{Key}
 use Rattle.inf_base.specs.declared.key.Key.TheVariants as key
-use Rattle.inf_base.specs.Checks.{check}
 use Rattle.inf_base.specs.Content.{Slot, reserved, file, directory}
-use Rattle.inf_content.specs.Contents.{born_of, content_at, content_of_id, seal_of, slots_at}
-use Rattle.inf_content.specs.Slot.{holder}
+use Rattle.inf_content.specs.Contents.{slots_at}
 use Rattle.inf_content.specs.Slots.{slot_in}
 use Rattle.inf_message.specs.declared.reply.Reply.{Reply}
 use Rattle.inf_message.specs.declared.reply.Reply.TheVariants as reply
-use Rattle.inf_server.specs.Lookups.{lookup_at, lookup_top, told_of, unheld, unless_sealed}
-use Rattle.inf_server.specs.Response.{Response}
-use Rattle.inf_server.specs.State.{is_here, root_id}
+use Rattle.inf_server.specs.Lookups.{told_of}
+use Rattle.inf_server.specs.State.{Site, State, is_here}
+use Rattle.inf_laws_server.specs.CameTo.{IsDone}
 use Rattle.inf_laws_directory.specs.Objects.{Objects, Service, directories_of, site_in}
 use Rattle.inf_laws_directory.specs.Owned.{Links}
 use Rattle.inf_laws_directory.specs.Phases.{Phases}
 use Rattle.inf_laws_directory.specs.Things.{a_dir, thing_in}
 use Rattle.inf_laws_directory.specs.Told.{IsToldAs, RootStandsAt}
-use Rattle.inf_laws_directory.proofs.PassedChecks.{after, gave, passed, reply_done, was_some}
 use Rattle.inf_laws_directory.proofs.ServiceFacts.{slots_here}
+use Rattle.inf_message.specs.declared.ask.Ask.{Ask}
+use Rattle.inf_message.specs.declared.request.Request.TheVariants as request
+use Rattle.inf_base.specs.declared.key.LookKey.TheVariants as look
 
 -- the directory that is told of stands in the slot, and its key names it
 record IsFound (dir : DirRef) (name : List ℕ) (slot : Option Slot) (told : Key) (access : Access) : Type 0 where
@@ -44,32 +44,29 @@ abbrev pub IsThere : Service → Objects → Access → Key → Access → Type 
 IsThere service objects root key.Top access = access ≡ root
 IsThere service objects root (key.At dir name) access = Links (directories_of service objects) dir name access
 
-module _ (service : Service) (objects : Objects) (number : ℕ) (root : Access) (told : Key) (access : Access) (end : Response) where
-  pub there_by_name : (id : Id) (name : List ℕ) → lookup_at (site_in service number) (objects number) id name ≡ Ok end → end.reply ≡ reply.Found told access
+-- a lookup that was done tells of what is there
+module _ (service : Service) (objects : Objects) (number place : ℕ) (root : Access) (ask : Ask) (told : Key) (access : Access) (given : Reply) (new : State)
+    (found : given ≡ reply.Found told access) where
+  abbrev site : Site
+  site = site_in service number
+
+  pub there_by_name : (id : Id) (name : List ℕ) → IsDone site (objects number) place ask (request.Lookup (look.At id name)) given new
       → IsThere service objects root told access
-  there_by_name id name is found =
+  there_by_name id name is =
       let state = objects number in
-      let here = passed (is_here (site_in service number) id) reply.Other _ end is in
-      let born = gave (ok_or (born_of (content_of_id id state.contents)) reply.NoDir) _ end here.rest in
-      let dir : DirRef = record { id = id; born = born.value } in
-      let free = after (unless_sealed born.value (seal_of (content_at dir state.contents))) _ end born.rest in
-      let tells = gave (told_of dir name (slot_in name (slots_at dir state.contents))) _ end free in
-      let is_found = found_in dir name (slot_in name (slots_at dir state.contents)) told access
-      (tells.is ∙ ap (λ (r : Reply). Ok r) (sym (reply_done tells.value state end tells.rest) ∙ found)) in
-      let linked = ap (λ (slots : List (List ℕ × Slot)). thing_in (slot_in name slots)) (slots_here service objects number state dir here.holds) ∙ is_found.stands in
+      let tells = is.passed in
+      let here : is_here site tells.dir.id ≡ true = subst (λ (i : Id). is_here site i ≡ true) (sym tells.of_id) tells.here in
+      let is_found = found_in tells.dir name (slot_in name (slots_at tells.dir state.contents)) told access (tells.is_told ∙ ap (λ (r : Reply). Ok r) (sym is.said ∙ found)) in
+      let linked = ap (λ (slots : List (List ℕ × Slot)). thing_in (slot_in name slots)) (slots_here service objects number state tells.dir here) ∙ is_found.stands in
       subst (λ (k : Key). IsThere service objects root k access) (sym is_found.as_key) linked
 
-  pub there_at_top : RootStandsAt service objects root → lookup_top (site_in service number) (objects number) ≡ Ok end → end.reply ≡ reply.Found told access
+  pub there_at_top : RootStandsAt service objects root → IsDone site (objects number) place ask (request.Lookup look.Top) given new
       → IsThere service objects root told access
-  there_at_top stands is found =
-      let state = objects number in
-      let here = after (check (is_here (site_in service number) (root_id (site_in service number))) reply.Other) _ end is in
-      let top = gave (ok_or state.top reply.Other) _ end here in
-      let free = after (unheld 0 (holder top.value.held)) _ end top.rest in
-      let at_top : top.value.access ≡ root = stands number top.value (was_some state.top reply.Other top.value top.is) in
-      let same : reply.Found key.Top top.value.access ≡ reply.Found told access = sym (reply_done (reply.Found key.Top top.value.access) state end free) ∙ found in
+  there_at_top stands is =
+      let at_top : is.passed.top.access ≡ root = stands number is.passed.top is.passed.is_top in
+      let same : reply.Found key.Top is.passed.top.access ≡ reply.Found told access = sym is.said ∙ found in
       let as_key : key.Top ≡ told = cc same in
-      let as_access : top.value.access ≡ access = cc same in
+      let as_access : is.passed.top.access ≡ access = cc same in
       subst (λ (k : Key). IsThere service objects root k access) as_key (sym as_access ∙ at_top)
 
 -- what is there is told truly

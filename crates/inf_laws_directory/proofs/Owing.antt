@@ -13,8 +13,12 @@ use Rattle.inf_message.specs.declared.request.Request.{Request}
 use Rattle.inf_message.specs.declared.request.Request.TheVariants as request
 use Rattle.inf_server.specs.Machine.{Serves, on_request}
 use Rattle.inf_server.specs.Response.{Response, response}
-use Rattle.inf_server.specs.State.{State}
+use Rattle.inf_server.specs.State.{Site, State}
 use Rattle.inf_tree.specs.Tree.{Node}
+use Rattle.inf_laws_server.specs.CameTo.{IsDone}
+use Rattle.inf_laws_server.specs.Denied.{Denies}
+use Rattle.inf_laws_server.specs.Replies.{Fails, Succeeds}
+use Rattle.inf_laws_server.proofs.Came.{Came, failed}
 use Rattle.inf_laws_directory.specs.Fits.{next_phase}
 use Rattle.inf_laws_directory.specs.Objects.{Objects, Service, directories_of, site_in, with_state}
 use Rattle.inf_laws_directory.specs.Owes.{Goes, Moment, Owes}
@@ -23,9 +27,28 @@ use Rattle.inf_laws_directory.specs.Replays.{IsRefused}
 use Rattle.inf_laws_directory.specs.Standing.{GoesOn, GoesOnOlder, IsStanding}
 use Rattle.inf_laws_directory.specs.Stands.{Stands}
 use Rattle.inf_laws_directory.proofs.CallFacts.{same_phases}
-use Rattle.inf_laws_directory.proofs.Outcomes.{Comes, IsFine, LeavesAll, Nothing, Tells, failures_leave, tellings_leave}
 use Rattle.inf_laws_directory.proofs.SameContents.{kept_stay}
 use Rattle.inf_laws_directory.proofs.StandingFacts.{goes_on_unseen}
+
+-- what tells that nothing was done, and of nothing that stands
+abbrev pub LeavesAll : Reply → Type 0
+LeavesAll reply.Fine = ⊥
+LeavesAll (reply.Reserved version) = ⊥
+LeavesAll (reply.Stat kind meta) = ⊥
+LeavesAll other_reply = Unit {0}
+
+failures_leave : (site : Site) (state : State) (ask : Ask) (requested : Request) (given : Reply) → Fails site state ask requested given → LeavesAll given
+failures_leave site state ask requested reply.Fine fails = fails
+failures_leave site state ask requested (reply.Reserved version) fails = fails
+failures_leave site state ask requested (reply.Stat kind meta) fails = fails
+failures_leave site state ask requested other_reply fails = tt
+
+-- a lookup that is done only tells
+lookups_leave : (sought : LookKey) (given : Reply) → Succeeds given (request.Lookup sought) → LeavesAll given
+lookups_leave sought reply.Fine succeeds = cc
+lookups_leave sought (reply.Reserved version) succeeds = cc
+lookups_leave sought (reply.Stat kind meta) succeeds = cc
+lookups_leave sought other_reply succeeds = tt
 
 -- what tells of nothing done leaves the phase
 phase_stays : (service : Service) (place : ℕ) (phase : Phase) (asked : Request) (given : Reply) → LeavesAll given
@@ -109,45 +132,53 @@ module _ (service : Service) (objects : Objects) (number place : ℕ) (root : Ac
         (subst (λ (after : Phases). GoesOnOlder service place objects next root tree phases after) (sym stays) (older service place objects next root tree phases phases goes))
 
     -- by the checks: those that fail, and what comes of those that pass
-    by_checks : (may : Errno → Type 0) (holds : Response → Type 0) (served : Result Response Reply) → Comes may holds served
+    by_checks : (served : Result Response Reply) → Came (site_in service number) (objects number) place ask requested served
         → ((error : Errno) → served ≡ Err (reply.Refused error) → IsRefused tree ask.caller asked error)
-        → (served ≡ Ok (record { reply = given; state = new }) → holds (record { reply = given; state = new }) → IsOwed phase requested asked given)
+        → (served ≡ Ok (record { reply = given; state = new }) → IsDone (site_in service number) (objects number) place ask requested given new → IsOwed phase requested asked given)
         → record { reply = given; state = new } ≡ response (objects number) served → IsOwed phase requested asked given
-    by_checks may holds (Ok end) comes refused passes is = passes (ap Ok (sym is)) (subst holds (sym is) comes)
-    by_checks may holds (Err refusal) comes refused passes is =
+    by_checks (Ok end) came refused passes is =
+        passes (ap Ok (sym is)) (subst (λ (e : Response). IsDone (site_in service number) (objects number) place ask requested e.reply e.state) (sym is) came)
+    by_checks (Err refusal) came refused passes is =
         let reply_is : given ≡ refusal = ap (λ (r : Response). r.reply) is in
         let state_is : new ≡ objects number = ap (λ (r : Response). r.state) is in
-        all_kept (subst (λ (r : Reply). LeavesAll r) (sym reply_is) (failures_leave may refusal comes)) (ap (λ (s : State). s.contents) state_is)
+        all_kept (subst (λ (r : Reply). LeavesAll r) (sym reply_is) (failures_leave (site_in service number) (objects number) ask requested refusal came)) (ap (λ (s : State). s.contents) state_is)
         (λ error refuses. refused error (ap Err (sym reply_is ∙ refuses)))
 
-    pub settles : (may : Errno → Type 0) (holds : Response → Type 0) → WasServed (objects number) (served_of requested) given new
-        → Comes may holds (served_of requested)
+    abbrev CameSo : Type 0
+    CameSo = Came (site_in service number) (objects number) place ask requested (served_of requested)
+
+    abbrev IsDoneSo : Type 0
+    IsDoneSo = IsDone (site_in service number) (objects number) place ask requested given new
+
+    pub settles : WasServed (objects number) (served_of requested) given new → CameSo
         → ((error : Errno) → served_of requested ≡ Err (reply.Refused error) → IsRefused tree ask.caller asked error)
-        → (IsGivenBy requested → holds (record { reply = given; state = new }) → IsOwed phase requested asked given)
-        → IsOwed phase requested asked given
-    settles may holds (inl wants) comes refused passes =
+        → (IsGivenBy requested → IsDoneSo → IsOwed phase requested asked given) → IsOwed phase requested asked given
+    settles (inl wants) came refused passes =
         all_kept (subst (λ (r : Reply). LeavesAll r) (sym wants.0) tt) (ap (λ (s : State). s.contents) wants.1)
         (λ error refuses. (let not : reply.NoMem ≡ reply.Refused error = sym wants.0 ∙ refuses in cc))
-    settles may holds (inr served) comes refused passes = by_checks may holds (served_of requested) comes refused passes served
+    settles (inr served) came refused passes = by_checks (served_of requested) came refused passes served
 
-    pub settles_fine : (may : Errno → Type 0) → WasServed (objects number) (served_of requested) given new → Comes may IsFine (served_of requested)
+    pub settles_fine : WasServed (objects number) (served_of requested) given new → CameSo → (IsDoneSo → given ≡ reply.Fine)
         → ((error : Errno) → served_of requested ≡ Err (reply.Refused error) → IsRefused tree ask.caller asked error)
-        → (IsGivenBy requested → IsOwed phase requested asked reply.Fine) → IsOwed phase requested asked given
-    settles_fine may served comes refused passes =
-        settles may IsFine served comes refused (λ is fine. subst (λ (r : Reply). IsOwed phase requested asked r) (sym fine) (passes is))
+        → (IsGivenBy requested → IsDoneSo → IsOwed phase requested asked reply.Fine) → IsOwed phase requested asked given
+    settles_fine served came fine refused passes =
+        settles served came refused (λ is done. subst (λ (r : Reply). IsOwed phase requested asked r) (sym (fine done)) (passes is done))
 
     -- what is never refused
-    never : (holds : Response → Type 0) → Comes Nothing holds (served_of requested)
+    never : CameSo → ((error : Errno) → Denies (site_in service number) (objects number) ask requested error → ⊥)
         → (error : Errno) → served_of requested ≡ Err (reply.Refused error) → IsRefused tree ask.caller asked error
-    never holds comes error is = absurd (subst (λ (r : Result Response Reply). Comes Nothing holds r) is comes)
+    never came denies error is = absurd (denies error (failed (site_in service number) (objects number) place ask requested (served_of requested) came (reply.Refused error) is))
 
-    pub settles_fine_always : WasServed (objects number) (served_of requested) given new → Comes Nothing IsFine (served_of requested)
-        → (IsGivenBy requested → IsOwed phase requested asked reply.Fine) → IsOwed phase requested asked given
-    settles_fine_always served comes passes = settles_fine Nothing served comes (never IsFine comes) passes
+    pub settles_fine_always : WasServed (objects number) (served_of requested) given new → CameSo → (IsDoneSo → given ≡ reply.Fine)
+        → ((error : Errno) → Denies (site_in service number) (objects number) ask requested error → ⊥)
+        → (IsGivenBy requested → IsDoneSo → IsOwed phase requested asked reply.Fine) → IsOwed phase requested asked given
+    settles_fine_always served came fine denies passes = settles_fine served came fine (never came denies) passes
 
-    pub only_tells : (sought : LookKey) → WasServed (objects number) (served_of requested) given new
-        → Comes Nothing (λ end. Tells sought end.reply) (served_of requested)
-        → (IsGivenBy requested → new.contents ≡ (objects number).contents) → IsOwed phase requested asked given
-    only_tells sought served comes same =
-        settles Nothing (λ end. Tells sought end.reply) served comes (never (λ end. Tells sought end.reply) comes) (λ is tells.
-        all_kept (tellings_leave sought given tells) (same is) (λ error refuses. absurd (subst (λ (r : Reply). Tells sought r) refuses tells)))
+  pub only_tells : (phase : Phase) (at : phases ask.from ≡ phase) (sought : LookKey) (asked : Call)
+      → WasServed (objects number) (served_of (request.Lookup sought)) given new
+      → Came (site_in service number) (objects number) place ask (request.Lookup sought) (served_of (request.Lookup sought))
+      → IsOwed phase (request.Lookup sought) asked given
+  only_tells phase at sought asked served came =
+      settles phase at (request.Lookup sought) asked served came (never phase at (request.Lookup sought) asked came (λ error denies. denies)) (λ is done.
+      all_kept phase at (request.Lookup sought) asked (lookups_leave sought given done.succeeds) (ap (λ (s : State). s.contents) done.did)
+      (λ error refuses. absurd (subst (λ (r : Reply). Succeeds r (request.Lookup sought)) refuses done.succeeds)))

@@ -1,30 +1,23 @@
 -- Seals and unlinks of a directory, and its removal at the same place of the tree.
-use Rattle.std.proofs.Common.{◌≡◌, ℕ, Bool, true, false, cond, ◌||◌, List, [], ◌∷◌, ◌++◌, Option, Some, None, is_none, Result, Ok, Err, ok_or, refl, sym, ap, ◌∙◌, subst}
+use Rattle.std.proofs.Common.{Bool, Err, List, Ok, Some, [], ap, false, inl, inr, is_none, refl, subst, sym, true, ℕ, ◌++◌, ◌||◌, ◌∙◌, ◌∷◌, ◌≡◌, ◌⊎◌}
 use Rattle.std.specs.List.{list_all}
 use Rattle.inf_base.specs.declared.access.Access.{Access}
 use Rattle.inf_base.specs.declared.answer.Answer.TheVariants as answer
 use Rattle.inf_base.specs.declared.call.Call.TheVariants as call
-use Rattle.inf_base.specs.declared.caller.CallRef.{CallRef}
 use Rattle.inf_base.specs.declared.entry.Entry.{Entry}
 use Rattle.inf_base.specs.declared.errno.Errno.{Errno}
 use Rattle.inf_base.specs.declared.errno.Errno.TheVariants as errno
-use Rattle.inf_base.specs.Checks.{◌>>=◌, ◌>>◌}
 use Rattle.inf_base.specs.Content.{Slot, reserved, file, directory}
 use Rattle.inf_base.specs.Path.{path_of}
 use Rattle.inf_base.specs.Same.{dir_of}
-use Rattle.inf_content.specs.Contents.{sealed_at, slots_at}
+use Rattle.inf_content.specs.Contents.{slots_at}
 use Rattle.inf_content.specs.Slot.{taker}
-use Rattle.inf_content.specs.Slots.{first, first_taker, has_free, inside_of, slot_in, unless_busy}
-use Rattle.inf_content.specs.declared.inside.Inside.TheVariants as inside
+use Rattle.inf_content.specs.Slots.{first, has_free, slot_in}
 use Rattle.inf_message.specs.declared.ask.Ask.{Ask}
-use Rattle.inf_message.specs.declared.reply.Reply.{Reply}
-use Rattle.inf_message.specs.declared.reply.Reply.TheVariants as reply
 use Rattle.inf_perm.specs.declared.want.Want.TheVariants as want
 use Rattle.inf_server.specs.Chains.{before_last, last_of}
-use Rattle.inf_server.specs.Checks.{asked_of, lets, searched, writable}
-use Rattle.inf_server.specs.Removals.{seal, unless_inside}
-use Rattle.inf_server.specs.Response.{Response, done}
-use Rattle.inf_server.specs.State.{Site, State, with_contents}
+use Rattle.inf_server.specs.Checks.{lets}
+use Rattle.inf_server.specs.State.{Site, State}
 use Rattle.inf_tree.specs.Apply.{changes}
 use Rattle.inf_tree.specs.Tree.{Node, changed, cut}
 use Rattle.inf_laws_directory.specs.Changes.{IsEmpty, Takes}
@@ -36,12 +29,13 @@ use Rattle.inf_laws_directory.proofs.Along.{empty_removed, full_stays, unsearche
 use Rattle.inf_laws_directory.proofs.Chains.{reaches}
 use Rattle.inf_laws_directory.proofs.ContentFacts.{slots_sorted}
 use Rattle.inf_laws_directory.proofs.Edits.{taken_stands}
-use Rattle.inf_laws_directory.proofs.PassedChecks.{IsAsked, was_some}
-use Rattle.inf_laws_directory.proofs.Refusals.{IfRefused, behind, behind_check, refuses, some_never}
-use Rattle.inf_laws_directory.proofs.Replayed.{answers_so, behind_asked, permits}
+use Rattle.inf_laws_directory.proofs.Replayed.{answers_so, permits}
 use Rattle.inf_laws_directory.proofs.ServiceFacts.{slots_here}
 use Rattle.inf_laws_directory.proofs.SlotFacts.{AreSorted, first_is_changed}
 use Rattle.inf_laws_directory.proofs.Ways.{thing_at-next}
+use Rattle.inf_laws_server.specs.Denied.{Denies, IsClosed, IsFull, IsUnwritable}
+use Rattle.inf_laws_server.specs.Passed.{IsAsked}
+use Rattle.inf_message.specs.declared.request.Request.TheVariants as request
 
 -- what no call holds or reserves stands there
 abbrev is_free : Slot → Bool
@@ -105,45 +99,37 @@ module _ (service : Service) (objects : Objects) (number : ℕ) (root : Access) 
   abbrev Refuses : Errno → Type 0
   Refuses error = IsRefused tree ask.caller (call.Rmdir text) error
 
-  abbrev slots : List (List ℕ × Slot)
-  slots = slots_at (dir_of target.access) state.contents
-
-  full_refused : passes ≡ true → may_write ≡ true → IsAsked site state chain target → AreInOrder state.contents → has_free slots ≡ true → Refuses errno.ENOTEMPTY
-  full_refused open_to may is_asked ordered full =
-      let has = free_stands slots (slots_sorted (dir_of target.access) state.contents ordered.names) full in
+  full_refused : AreInOrder state.contents → (entry : Entry) → IsAsked site state ask.from (last_of chain) entry → passes ≡ true → may_write ≡ true
+      → has_free (slots_at (dir_of entry.access) state.contents) ≡ true → Refuses errno.ENOTEMPTY
+  full_refused ordered entry is_asked open_to may full =
+      let dir = dir_of entry.access in
+      let has = free_stands (slots_at dir state.contents) (slots_sorted dir state.contents ordered.names) full in
+      let same : entry ≡ target = (let ends = is_asked.last in cc (ends, at.ends)) in
       full_stays dirs root tree ask.caller path name (before_last chain) parent above.stands above.leads above.ends text names target.access has.inner has.thing stands_under
-      (subst (λ (s : List (List ℕ × Slot)). thing_in (slot_in has.inner s) ≡ Some has.thing) (sym (slots_here service objects number state (dir_of target.access) is_asked.here)) has.stands)
+      (subst (λ (e : Entry). thing_under has.inner (dir_of e.access) dirs ≡ Some has.thing) same
+      (subst (λ (s : List (List ℕ × Slot)). thing_in (slot_in has.inner s) ≡ Some has.thing) (sym (slots_here service objects number state dir is_asked.here)) has.stands))
       ∙ ap (changes tree) (permits service objects number root tree ask path (before_last chain) parent above (Err errno.ENOTEMPTY) open_to may)
 
-  behind_inside : (born : ℕ) (full : Bool) (busy : Option CallRef) (sealed : State) → (full ≡ true → Refuses errno.ENOTEMPTY)
-      → IfRefused (unless_inside born (cond full inside.Full (unless_busy busy)) >> done reply.Fine sealed) Refuses
-  behind_inside born true busy sealed stays = refuses errno.ENOTEMPTY Refuses (stays refl)
-  behind_inside born false None sealed stays = λ error is. cc
-  behind_inside born false (Some by) sealed stays = λ error is. cc
+  abbrev IsDenied : Errno → Type 0
+  IsDenied error = IsClosed site state ask (last_of chain) (before_last chain) error
+      ⊎ IsUnwritable site state ask (last_of chain) (before_last chain) error ⊎ IsFull site state ask chain error
 
-  abbrev sealing : Entry → Entry → Result Response Reply
-  sealing written entry = do
-    searched ask.caller (before_last chain)
-    writable ask.caller written
-    unless_inside entry.access.born (inside_of (slots_at (dir_of entry.access) state.contents))
-    done reply.Fine (with_contents (sealed_at (dir_of entry.access) ask.from state.contents) state)
+  denied_refused : AreInOrder state.contents → (error : Errno) → IsDenied error → Refuses error
+  denied_refused ordered error (inl is) =
+      subst Refuses (sym is.error_is)
+      (unsearched dirs root tree ask.caller path name (before_last chain) parent above.stands above.leads above.ends [] (call.Rmdir text) text refl names is.closed)
+  denied_refused ordered error (inr (inl is)) =
+      let same : is.written ≡ parent = (let ends = is.ends in cc (ends, above.ends)) in
+      subst Refuses (sym is.error_is)
+      (unwritten dirs root tree ask.caller path name (before_last chain) parent above.stands above.leads above.ends text names
+      (subst (λ (e : Entry). lets ask.caller want.Write e ≡ false) same is.closed))
+  denied_refused ordered error (inr (inr is)) =
+      let same : is.written ≡ parent = (let ends = is.ends in cc (ends, above.ends)) in
+      subst Refuses (sym is.error_is)
+      (full_refused ordered is.entry is.is_asked is.search (subst (λ (e : Entry). lets ask.caller want.Write e ≡ true) same is.write) is.full)
 
-  sealing_refused : AreInOrder state.contents → IfRefused (asked_of site state ask.from chain >>= sealing parent) Refuses
-  sealing_refused ordered =
-      behind_asked service objects number root tree ask (path ++ name ∷ []) chain target at (sealing parent) Refuses (λ is_asked.
-      behind_check passes errno.EACCES _ Refuses
-      (unsearched dirs root tree ask.caller path name (before_last chain) parent above.stands above.leads above.ends [] (call.Rmdir text) text refl names) (λ open_to.
-      behind_check may_write errno.EACCES _ Refuses
-      (unwritten dirs root tree ask.caller path name (before_last chain) parent above.stands above.leads above.ends text names) (λ may.
-      behind_inside target.access.born (has_free slots) (first_taker slots) _ (full_refused open_to may is_asked ordered))))
-
-  pub seal_refused : AreInOrder state.contents → IfRefused (seal site state ask chain) Refuses
-  seal_refused ordered =
-      behind (ok_or (last_of (before_last chain)) reply.Other) (λ written. asked_of site state ask.from chain >>= sealing written) Refuses
-      (some_never (last_of (before_last chain)) reply.Other (λ error is. cc)) (λ written is.
-      let ends : last_of (before_last chain) ≡ Some written = was_some (last_of (before_last chain)) reply.Other written is in
-      let same : parent ≡ written = cc (ends, above.ends) in
-      subst (λ (e : Entry). IfRefused (asked_of site state ask.from chain >>= sealing e) Refuses) same (sealing_refused ordered))
+  pub seal_refused : AreInOrder state.contents → (error : Errno) → Denies site state ask (request.Seal chain) error → Refuses error
+  seal_refused ordered error denies = denied_refused ordered error denies.because
 
   pub directory_unlinked : (new : Directories) → MayWrite ask.caller (before_last chain) parent → IsEmpty dirs (dir_of target.access)
       → Takes dirs new (dir_of parent.access) name → Answers tree ask.caller (call.Rmdir text) answer.Done root new

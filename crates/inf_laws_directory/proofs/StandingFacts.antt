@@ -1,5 +1,5 @@
 -- What a step of a call makes of what stands, where the tree answers and all stays owned.
-use Rattle.std.proofs.Common.{◌≡◌, ℕ, Bool, true, false, List, [], ◌∷◌, ◌++◌, Result, Ok, Err, Some, is_some, refl, ap, subst, sym, ◌∙◌}
+use Rattle.std.proofs.Common.{◌≡◌, ℕ, Bool, true, false, List, [], ◌∷◌, ◌++◌, Some, is_some, refl, ap, subst, sym, ◌∙◌}
 use Rattle.inf_base.specs.declared.access.Access.{Access}
 use Rattle.inf_base.specs.declared.answer.Answer.{Answer}
 use Rattle.inf_base.specs.declared.call.Call.{Call}
@@ -7,16 +7,12 @@ use Rattle.inf_base.specs.declared.caller.CallRef.{CallRef}
 use Rattle.inf_base.specs.declared.caller.Caller.{Caller}
 use Rattle.inf_base.specs.declared.directory.DirRef.{DirRef}
 use Rattle.inf_base.specs.declared.entry.Entry.{Entry}
-use Rattle.inf_base.specs.declared.errno.Errno.{Errno}
-use Rattle.inf_base.specs.Checks.{◌>>=◌}
 use Rattle.inf_base.specs.Content.{Slot}
 use Rattle.inf_base.specs.Same.{dir_of, is_same_dir}
-use Rattle.inf_message.specs.declared.reply.Reply.{Reply}
-use Rattle.inf_message.specs.declared.reply.Reply.TheVariants as reply
 use Rattle.inf_server.specs.Chains.{before_last, last_of}
-use Rattle.inf_server.specs.Checks.{asked_of}
 use Rattle.inf_tree.specs.Tree.{IsTree, Node}
 use Rattle.inf_tree.proofs.Sorted.{IsTree-apply}
+use Rattle.inf_laws_server.specs.Passed.{IsAsked}
 use Rattle.inf_laws_directory.specs.Leads.{Leads}
 use Rattle.inf_laws_directory.specs.Objects.{Objects, Service, directories_of, site_in}
 use Rattle.inf_laws_directory.specs.Owned.{AreOwned, Has, KeepsSealed}
@@ -33,7 +29,6 @@ use Rattle.inf_content.specs.Slots.{slot_in}
 use Rattle.inf_laws_directory.proofs.ChainEnds.{last_links}
 use Rattle.inf_laws_directory.proofs.ContentFacts.{same_dir}
 use Rattle.inf_laws_directory.proofs.OwnedFacts.{loose_in}
-use Rattle.inf_laws_directory.proofs.Refusals.{NeverRefuses}
 use Rattle.inf_laws_directory.proofs.OpenDirectories.{is_open}
 use Rattle.inf_laws_directory.proofs.ToldChains.{chain_is_true}
 use Rattle.inf_laws_directory.proofs.Unreached.{unreached}
@@ -90,22 +85,11 @@ idle_apart phase dir at_idle unlinked = cc (at_idle, unlinked)
 -- a chain that was told to a call with nothing in hand leads to the directory asked
 pub asked_at : (service : Service) (objects : Objects) (number : ℕ) (root : Access) (tree : Node) (phases : Phases) (by : CallRef) (path : List (List ℕ)) (chain : List Entry) (last : Entry)
     → IsStanding service objects root tree phases → phases by ≡ idle → IsToldAlong service objects root phases path chain
-    → asked_of (site_in service number) (objects number) by chain ≡ Ok last → IsAt (directories_of service objects) root tree path chain last
+    → IsAsked (site_in service number) (objects number) by (last_of chain) last → IsAt (directories_of service objects) root tree path chain last
 asked_at service objects number root tree phases by path chain last standing at_idle told asked =
     let it_is_open = is_open service objects number by chain last asked in
     is_at service objects root tree phases path chain last standing
     (chain_is_true service objects root phases by standing.owned path chain last told.told told.links it_is_open (idle_apart (phases by) (dir_of last.access) at_idle)) it_is_open.last
-
--- a step before the refusal that never refuses has passed
-pub record HasPassed {A B : Type 0} (first : Result A Reply) (next : A → Result B Reply) (error : Errno) : Type 0 where
-  pub value : A
-  pub is : first ≡ Ok value
-  pub rest : next value ≡ Err (reply.Refused error)
-
-pub passed_before : {A B : Type 0} (first : Result A Reply) (next : A → Result B Reply) (error : Errno) → NeverRefuses first
-    → (first >>= next) ≡ Err (reply.Refused error) → HasPassed first next error
-passed_before (Ok value) next error never is = record { value = value; is = refl; rest = is }
-passed_before (Err given) next error never is = absurd (never error (cc))
 
 -- nothing stands where there are no slots
 pub nothing_stands : (service : Service) (objects : Objects) (dir : DirRef) → directories_of service objects dir ≡ [] → IsEmpty (directories_of service objects) dir

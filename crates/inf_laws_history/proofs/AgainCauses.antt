@@ -37,7 +37,7 @@ use Rattle.inf_laws_directory.specs.Owned.{IsUnheld}
 use Rattle.inf_laws_directory.specs.Phases.{IsReserving, IsSealing, Phase, has_made, has_reserved, has_sealed, has_unlinked, idle}
 use Rattle.inf_laws_directory.proofs.CallFacts.{same_call_self}
 use Rattle.inf_laws_history.proofs.BlockedRequests.{HasSealed, HasTaken, IsFirst, IsInTheWay, any_at, is_of_self, takes}
-use Rattle.inf_laws_history.proofs.BusyFacts.{IsSealedBy, IsTakenBy}
+use Rattle.inf_laws_server.specs.Blocked.{IsSealedBy, IsTakenBy}
 use Rattle.inf_laws_history.proofs.PhaseFits.{fits}
 use Rattle.inf_laws_history.proofs.StepFacts.{in_hands}
 

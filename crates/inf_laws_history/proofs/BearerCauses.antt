@@ -42,20 +42,20 @@ use Rattle.inf_laws_directory.specs.Owned.{Has, HasPlace, IsLinkedSomewhere, Lin
 use Rattle.inf_laws_directory.specs.Phases.{IsLoose, IsReserving, IsSealing, Phase, has_made, has_reserved, has_sealed, has_unlinked, idle}
 use Rattle.inf_laws_directory.specs.Things.{a_dir, thing_in}
 use Rattle.inf_laws_directory.proofs.CallFacts.{same_call, same_call_self}
-use Rattle.inf_laws_directory.proofs.PassedChecks.{IsAsked}
-use Rattle.inf_laws_directory.proofs.ServedReplies.{CameOf, came_of}
+use Rattle.inf_laws_server.specs.Passed.{IsAsked}
+use Rattle.inf_laws_server.proofs.Serves.{blocked, may_reply}
 use Rattle.inf_laws_directory.proofs.ServedSlots.{slots_in_order}
 use Rattle.inf_laws_directory.proofs.SlotFacts.{first_is_changed, first_passes}
 use Rattle.inf_renames.proofs.RenamesFacts.{same_id}
 use Rattle.inf_laws_history.proofs.AgainCauses.{any_content, content_there, flies, found_at, last_of_three, owned_flies, same_client, sealing, way_is_other}
-use Rattle.inf_laws_history.proofs.BlockedRequests.{IsBlocked, IsBorne, is_of_self, request_busy}
+use Rattle.inf_laws_history.proofs.BlockedRequests.{IsBlocked, IsBornAlready, is_of_self, request_busy}
 use Rattle.inf_laws_history.proofs.ClashCauses.{found_id, same_triple_self}
 use Rattle.inf_duty.proofs.BegunKept.{if_both}
 use Rattle.inf_laws_history.proofs.ContentBirths.{IsBirth, WasMade, births_after, each_server, so_found, top_free}
-use Rattle.inf_laws_history.proofs.IdleReplies.{never_busy}
 use Rattle.inf_laws_history.proofs.LinkBirths.{AllMade, IsMadeAt, StandsAsMade, found_made, made_still, served_made}
 use Rattle.inf_laws_history.proofs.PastLinks.{asker_links, asker_makes, made_by, never_linked}
 use Rattle.inf_laws_history.proofs.ToldResults.{IsBusyFor, serve_may}
+use Rattle.inf_server.specs.Chains.{last_of}
 
 -- ---- links
 
@@ -78,7 +78,7 @@ module _ (world : World) (h : List Event) (kept : Kept world h) (legal : Legal w
 
   -- what a call links is of the name that it keeps
   links_made : (chain : List Entry) (name : List ℕ) (dir : DirRef) (mode : ℕ) → may.posted.ask.request ≡ request.Link chain name dir mode
-      → (entry : Entry) → IsAsked (site_of world number) (server_after world number h) chain entry → (content : Content)
+      → (entry : Entry) → IsAsked (site_of world number) (server_after world number h) may.posted.ask.from (last_of chain) entry → (content : Content)
       → content_at (dir_of entry.access) (server_after world number h).contents ≡ Some content
       → (found : List ℕ × Slot) → first (reserves may.posted.ask.from) content.slots ≡ Some found
       → StandsAsMade h content.dir found.0 (filled (Some (dir, mode, may.posted.ask.caller)) found.1)
@@ -372,15 +372,17 @@ module _ (world : World) (keeps : (h : List Event) → Legal world h → Kept wo
   abbrev state : State
   state = server_after world number h
 
-  by_bearing : IsBorne (site_of world number) state ask.request by at → IsWhy world h number by at ask
-  by_bearing borne =
-      let it = bearing world keeps h legal number place (reply.Busy by at born) may borne.birth borne.is_make borne.content borne.here borne.there
-      (same_triple borne.content.triple borne.birth borne.same) by borne.bearer_is in
+  by_bearing : IsBornAlready (site_of world number) state ask.request by at → IsWhy world h number by at ask
+  by_bearing born_already =
+      let borne = born_already.is in
+      let birth = born_already.birth in
+      let it = bearing world keeps h legal number place (reply.Busy by at born) may birth born_already.is_make borne.content borne.here borne.there
+      (same_triple borne.content.triple birth borne.same) by borne.bearer_is in
       record {
         is_other = it.is_other;
         flies_now = it.flies_now;
-        touched = ap₂ (λ (s : Spot) (r : Request). touches by s r state) borne.spot_is borne.is_make
-            ∙ any_content (bears by borne.birth) (identity world.digest borne.birth) state.contents borne.content borne.there it.touched;
+        touched = ap₂ (λ (s : Spot) (r : Request). touches by s r state) borne.spot_is born_already.is_make
+            ∙ any_content (bears by birth) (identity world.digest birth) state.contents borne.content borne.there it.touched;
       }
 
   by_block : IsBlocked (site_of world number) state ask.from ask.request by at → IsWhy world h number by at ask
@@ -391,15 +393,14 @@ module _ (world : World) (keeps : (h : List Event) → Legal world h → Kept wo
   }
   by_block (inr borne) = by_bearing borne
 
-  by_outcome : CameOf state (on_request (site_of world number) state place ask ask.request) (reply.Busy by at born) may.after → IsWhy world h number by at ask
-  by_outcome (inl is) = absurd (never_busy (site_of world number) state ask place ask.request by at born may.after is)
-  by_outcome (inr refused) =
-      let kept = keeps h legal in
-      let ordered : AreInOrder state.contents = subst (λ (s : State). AreInOrder s.contents) (kept.states number) (kept.standing.owned.order number) in
-      by_block (request_busy (site_of world number) state ask place ask.request ordered (top_free world h legal number) by at born refused.0)
-
   pub why_busy : IsWhy world h number by at may.posted.ask
-  why_busy = by_outcome (came_of (site_of world number) state place ask (reply.Busy by at born) may.after may.reply (λ it. cc))
+  why_busy =
+      let kept = keeps h legal in
+      let site = site_of world number in
+      let ordered : AreInOrder state.contents = subst (λ (s : State). AreInOrder s.contents) (kept.states number) (kept.standing.owned.order number) in
+      by_block (request_busy site state ask.from ask.request ordered (top_free world h legal number) by at
+      (blocked site state ask ask.request by at born
+      (may_reply site state place ask (reply.Busy by at born) may.after may.reply ask.request (reply.Busy by at born) refl refl)))
 
 -- a result that was told of a call in the way names a change in flight
 pub again_is_because : (world : World) → ((h : List Event) → Legal world h → Kept world h) → (h : List Event) → Legal world h → (result : CallResult) (by : CallRef)

@@ -25,6 +25,7 @@ use Rattle.inf_content.specs.declared.inside.Inside.TheVariants as inside
 use Rattle.inf_content.specs.declared.made.Made.TheVariants as made
 use Rattle.inf_content.specs.declared.seen.Seen.{Seen}
 use Rattle.inf_content.specs.declared.seen.Seen.TheVariants as seen
+use Rattle.inf_laws_server.specs.Blocked.{Blocks, BlocksLookup, BlocksName, BlocksOp, IsBorne, IsLookSealed, IsLookTaken, IsSealedBy, IsTakenBy, IsTopHeld, StopsAtName, StopsAtSeal, StopsAtTarget, StopsInside}
 use Rattle.inf_laws_history.specs.Flight.{asked_content, holds, if_name_taken, is_of, is_sealed_by, is_taken, name_taken, slot_taken, some_taken, target_name, touches}
 use Rattle.inf_message.specs.declared.ask.Ask.{Ask}
 use Rattle.inf_message.specs.declared.op.Op.{Op}
@@ -36,21 +37,15 @@ use Rattle.inf_message.specs.declared.reply.Spot.TheVariants as spot
 use Rattle.inf_message.specs.declared.request.Request.{Request}
 use Rattle.inf_message.specs.declared.request.Request.TheVariants as request
 use Rattle.inf_perm.specs.declared.want.Want.TheVariants as want
-use Rattle.inf_server.specs.Births.{make, reserve, link, unless_there}
 use Rattle.inf_server.specs.Chains.{before_last, last_of}
 use Rattle.inf_server.specs.Checks.{asked_of, lets}
-use Rattle.inf_server.specs.Files.{create, no_directory, rmdir_name, stat, stat_of, walk}
-use Rattle.inf_server.specs.Lookups.{lookup_at, lookup_top, told_of, unheld, unless_sealed}
 use Rattle.inf_server.specs.Machine.{on_change, on_lookup, on_op, on_request}
-use Rattle.inf_server.specs.Names.{found_by, is_missing}
 use Rattle.inf_server.specs.Removals.{is_the_directory, name_in, seal, unless_inside, unlink}
 use Rattle.inf_server.specs.Response.{Response, done}
 use Rattle.inf_server.specs.State.{Site, State, is_here, root_id, with_contents}
 use Rattle.inf_laws_directory.proofs.CallFacts.{same_call_self}
 use Rattle.inf_laws_directory.proofs.ContentFacts.{slots_sorted}
-use Rattle.inf_laws_directory.proofs.PassedChecks.{IsAsked, asked}
 use Rattle.inf_laws_directory.proofs.SlotFacts.{first_is_changed}
-use Rattle.inf_laws_history.proofs.BusyFacts.{IfBusy, IsIdle, IsOthers, IsSealedBy, IsTakenBy, StopsChain, asked_busy, behind, behind_check, behind_some, behind_unit, fails_idly, found_busy, passes}
 
 pub record HasSealed (site : Site) (state : State) (by : CallRef) : Type 0 where
   pub dir : DirRef
@@ -74,18 +69,13 @@ pub record IsInTheWay (site : Site) (state : State) (from : CallRef) (asked : Re
   pub apart : (is_same_call by from ≡ false) ⊎ IsFirst asked
 
 -- the directory that is to be made is there already
-pub record IsBorne (site : Site) (state : State) (asked : Request) (by : CallRef) (at : Spot) : Type 0 where
+pub record IsBornAlready (site : Site) (state : State) (asked : Request) (by : CallRef) (at : Spot) : Type 0 where
   pub birth : Triple
   pub is_make : asked ≡ request.Make birth
-  pub content : Content
-  pub here : is_here site (identity site.digest birth) ≡ true
-  pub there : content_of_id (identity site.digest birth) state.contents ≡ Some content
-  pub same : is_same_triple content.triple birth ≡ true
-  pub bearer_is : bearer content ≡ by
-  pub spot_is : at ≡ spot.Bearer
+  pub is : IsBorne site state birth by at
 
 abbrev pub IsBlocked : Site → State → CallRef → Request → CallRef → Spot → Type 0
-IsBlocked site state from asked by at = IsInTheWay site state from asked by at ⊎ IsBorne site state asked by at
+IsBlocked site state from asked by at = IsInTheWay site state from asked by at ⊎ IsBornAlready site state asked by at
 
 -- ---- what touches
 
@@ -112,63 +102,33 @@ module _ (site : Site) (state : State) (from : CallRef) (wanted : Request) where
   abbrev Way : CallRef → Spot → Type 0
   Way = IsInTheWay site state from wanted
 
-  from_chain : (chain : List Entry) → ((by : CallRef) → touches by spot.Sealed wanted state ≡ is_sealed_by by (asked_content state (last_of chain)))
-      → (by : CallRef) (at : Spot) → StopsChain site state from chain by at → Way by at
-  from_chain chain reads by at stops = record {
+  from_seal : (last : Option Entry) → ((by : CallRef) → touches by spot.Sealed wanted state ≡ is_sealed_by by (asked_content state last))
+      → (by : CallRef) (at : Spot) → StopsAtSeal site state from last by at → Way by at
+  from_seal last reads by at stops = record {
     touched = ap (λ (s : Spot). touches by s wanted state) stops.spot_is ∙ reads by ∙ ap (λ (e : Option Entry). is_sealed_by by (asked_content state e)) stops.last
         ∙ sealed_touches by (content_at (dir_of stops.entry.access) state.contents) stops.is_sealed.content stops.is_sealed.there stops.is_sealed.seal;
     owned = inl (record { dir = dir_of stops.entry.access; is = stops.is_sealed });
     apart = inl stops.apart;
   }
 
-  from_slot : (chain : List Entry) (name : List ℕ) → ((by : CallRef) → touches by spot.Slot wanted state ≡ name_taken by name (asked_content state (last_of chain)))
-      → (entry : Entry) → IsAsked site state chain entry → (by : CallRef) (at : Spot) → IsOthers name (content_at (dir_of entry.access) state.contents) from by at
-      → Way by at
-  from_slot chain name reads entry is_asked by at others = record {
-    touched = ap (λ (s : Spot). touches by s wanted state) others.spot_is ∙ reads by
-        ∙ ap (λ (e : Option Entry). name_taken by name (asked_content state e)) is_asked.last
-        ∙ slot_touches by name (content_at (dir_of entry.access) state.contents) others.content others.slot others.there others.is others.taken;
-    owned = inr (record {
-      dir = dir_of entry.access;
-      name = name;
-      is = record { content = others.content; here = is_asked.here; there = others.there; slot = others.slot; found = others.is; taken = others.taken };
-    });
-    apart = inl others.apart;
-  }
+  from_name : (last : Option Entry) (name : List ℕ) → ((by : CallRef) → touches by spot.Slot wanted state ≡ name_taken by name (asked_content state last))
+      → (by : CallRef) (at : Spot) → StopsAtName site state from last name by at → Way by at
+  from_name last name reads by at stops =
+      let taken = stops.is_taken in
+      record {
+        touched = ap (λ (s : Spot). touches by s wanted state) stops.spot_is ∙ reads by
+            ∙ ap (λ (e : Option Entry). name_taken by name (asked_content state e)) stops.last
+            ∙ slot_touches by name (content_at (dir_of stops.entry.access) state.contents) taken.content taken.slot taken.there taken.found taken.taken;
+        owned = inr (record { dir = dir_of stops.entry.access; name = name; is = taken });
+        apart = inl stops.apart;
+      }
 
-  -- the chain check, and what stands under a name
-  at_chain : {B : Type 0} (chain : List Entry) (next : Entry → Result B Reply)
-      → ((by : CallRef) → touches by spot.Sealed wanted state ≡ is_sealed_by by (asked_content state (last_of chain)))
-      → ((entry : Entry) → IsAsked site state chain entry → IfBusy (next entry) Way) → IfBusy (asked_of site state from chain >>= next) Way
-  at_chain chain next reads rest =
-      behind (asked_of site state from chain) next Way
-      (λ by at born is. from_chain chain reads by at (asked_busy site state from chain by at born is))
-      (λ entry is. rest entry (asked site state from chain entry is))
-
-  at_name : {B : Type 0} (chain : List Entry) (name : List ℕ) (next : Seen → Result B Reply) (entry : Entry)
-      → ((by : CallRef) → touches by spot.Slot wanted state ≡ name_taken by name (asked_content state (last_of chain)))
-      → IsAsked site state chain entry
-      → ((found : Seen) → IfBusy (next found) Way) → IfBusy (found_by from (dir_of entry.access) name state.contents >>= next) Way
-  at_name chain name next entry reads is_asked rest =
-      behind (found_by from (dir_of entry.access) name state.contents) next Way
-      (λ by at born is. from_slot chain name reads entry is_asked by at (found_busy from (dir_of entry.access) name state.contents by at born is))
-      (λ found is. rest found)
-
--- ---- the one message of a call
-
-stat_idle : (P : CallRef → Spot → Type 0) (found : Seen) → IfBusy (stat_of found) P
-stat_idle P seen.Gone = fails_idly reply.Gone (λ by at born is. cc) P
-stat_idle P seen.Missing = fails_idly (reply.Refused errno.ENOENT) (λ by at born is. cc) P
-stat_idle P (seen.Reserved other) = fails_idly reply.Other (λ by at born is. cc) P
-stat_idle P (seen.File meta held) = passes _ P
-stat_idle P (seen.Dir dir mode owner group held) = passes _ P
-
-none_idle : (found : Seen) → IsIdle (no_directory found)
-none_idle seen.Gone by at born is = cc
-none_idle seen.Missing by at born is = cc
-none_idle (seen.Reserved other) by at born is = cc
-none_idle (seen.File meta held) by at born is = cc
-none_idle (seen.Dir dir mode owner group held) by at born is = cc
+  -- the directory asked, and a name of it
+  from_either : (last : Option Entry) (name : List ℕ) → ((by : CallRef) → touches by spot.Sealed wanted state ≡ is_sealed_by by (asked_content state last))
+      → ((by : CallRef) → touches by spot.Slot wanted state ≡ name_taken by name (asked_content state last))
+      → (by : CallRef) (at : Spot) → BlocksName site state from last name by at → Way by at
+  from_either last name seals takes by at (inl stops) = from_seal last seals by at stops
+  from_either last name seals takes by at (inr stops) = from_name last name takes by at stops
 
 true_or : (b c : Bool) → b ≡ true → (b || c) ≡ true
 true_or true c is = refl
@@ -179,19 +139,6 @@ or_true true c is = refl
 or_true false c is = is
 
 -- ---- what stands inside
-
-record IsInside (slots : List (List ℕ × Slot)) (by : CallRef) (at : Spot) : Type 0 where
-  taker_is : first_taker slots ≡ Some by
-  spot_is : at ≡ spot.Inside
-
-inside_by : (born : ℕ) (slots : List (List ℕ × Slot)) (free : Bool) (found : Option CallRef) → first_taker slots ≡ found
-    → IfBusy (unless_inside born (cond free inside.Full (unless_busy found))) (IsInside slots)
-inside_by born slots true found is = fails_idly (reply.Refused errno.ENOTEMPTY) (λ by at birth it. cc) (IsInside slots)
-inside_by born slots false None is = passes tt (IsInside slots)
-inside_by born slots false (Some other) is = λ by at birth busy.
-    let one : other ≡ by = cc in
-    let two : spot.Inside ≡ at = cc in
-    record { taker_is = is ∙ ap Some one; spot_is = sym two }
 
 record HasInside (content : Content) (by : CallRef) : Type 0 where
   name : List ℕ
@@ -240,273 +187,92 @@ some_touches : (by : CallRef) (found : Option Content) (content : Content) → f
 some_touches by found content there inside_it =
     ap (some_taken by) there ∙ any_at (is_taken by) inside_it.name content.slots inside_it.slot inside_it.stands (takes by inside_it.slot inside_it.taken)
 
-module _ (site : Site) (state : State) (ask : Ask) where
-  abbrev Blocks : Request → CallRef → Spot → Type 0
-  Blocks asked = IsInTheWay site state ask.from asked
+module _ (site : Site) (state : State) (from : CallRef) where
+  abbrev Blocked : Request → CallRef → Spot → Type 0
+  Blocked asked = IsInTheWay site state from asked
 
-  refused_idle : (error : Errno) → IsIdle (reply.Refused error)
-  refused_idle error by at born is = cc
+  -- ---- the one message of a call
 
-  create_busy : (chain : List Entry) (name : List ℕ) (mode : ℕ) → IfBusy (create site state ask chain name mode) (Blocks (request.Finish chain (op.Create name mode)))
-  create_busy chain name mode =
-      let P = Blocks (request.Finish chain (op.Create name mode)) in
-      at_chain site state ask.from _ chain _ (λ by. refl) (λ entry is.
-      behind_check (list_all (lets ask.caller want.Search) chain) (reply.Refused errno.EACCES) _ P (refused_idle errno.EACCES) (λ e.
-      behind_check (lets ask.caller want.Write entry) (reply.Refused errno.EACCES) _ P (refused_idle errno.EACCES) (λ f.
-      at_name site state ask.from _ chain name _ entry (λ by. refl) is (λ found.
-      behind_check (is_missing found) (reply.Refused errno.EEXIST) _ P (refused_idle errno.EEXIST) (λ g. passes _ P)))))
-
-  stat_busy : (chain : List Entry) (name : List ℕ) → IfBusy (stat site state ask chain name) (Blocks (request.Finish chain (op.Stat name)))
-  stat_busy chain name =
-      let P = Blocks (request.Finish chain (op.Stat name)) in
-      at_chain site state ask.from _ chain _ (λ by. refl) (λ entry is.
-      behind_check (list_all (lets ask.caller want.Search) chain) (reply.Refused errno.EACCES) _ P (refused_idle errno.EACCES) (λ e.
-      at_name site state ask.from _ chain name _ entry (λ by. refl) is (λ found.
-      behind (stat_of found) _ P (stat_idle P found) (λ told g. passes _ P))))
-
-  walk_busy : (chain : List Entry) (name : List ℕ) → IfBusy (walk site state ask chain name) (Blocks (request.Finish chain (op.Walk name)))
-  walk_busy chain name =
-      let P = Blocks (request.Finish chain (op.Walk name)) in
-      at_chain site state ask.from _ chain _ (λ by. refl) (λ entry is.
-      behind_check (list_all (lets ask.caller want.Search) chain) (reply.Refused errno.EACCES) _ P (refused_idle errno.EACCES) (λ e.
-      at_name site state ask.from _ chain name _ entry (λ by. refl) is (λ found.
-      fails_idly (no_directory found) (none_idle found) P)))
-
-  rmdir_name_busy : (chain : List Entry) (name : List ℕ) → IfBusy (rmdir_name site state ask chain name) (Blocks (request.Finish chain (op.RmdirName name)))
-  rmdir_name_busy chain name =
-      let P = Blocks (request.Finish chain (op.RmdirName name)) in
-      at_chain site state ask.from _ chain _ (λ by. refl) (λ entry is.
-      behind_check (list_all (lets ask.caller want.Search) chain) (reply.Refused errno.EACCES) _ P (refused_idle errno.EACCES) (λ e.
-      behind_check (lets ask.caller want.Write entry) (reply.Refused errno.EACCES) _ P (refused_idle errno.EACCES) (λ f.
-      at_name site state ask.from _ chain name _ entry (λ by. refl) is (λ found.
-      fails_idly (no_directory found) (none_idle found) P))))
-
-  op_busy : (chain : List Entry) (asked : Op) → IfBusy (on_op site state ask chain asked) (Blocks (request.Finish chain asked))
-  op_busy chain (op.Create name mode) = create_busy chain name mode
-  op_busy chain (op.Stat name) = stat_busy chain name
-  op_busy chain (op.Walk name) = walk_busy chain name
-  op_busy chain (op.RmdirName name) = rmdir_name_busy chain name
-  op_busy chain other_op = fails_idly reply.Other (λ by at born is. cc) _
-
-  -- ---- names kept, links
-
-  reserve_busy : (chain : List Entry) (name : List ℕ) → IfBusy (reserve site state ask chain name) (Blocks (request.Reserve chain name))
-  reserve_busy chain name =
-      let P = Blocks (request.Reserve chain name) in
-      at_chain site state ask.from _ chain _ (λ by. refl) (λ entry is.
-      behind_check (list_all (lets ask.caller want.Search) chain) (reply.Refused errno.EACCES) _ P (refused_idle errno.EACCES) (λ e.
-      behind_check (lets ask.caller want.Write entry) (reply.Refused errno.EACCES) _ P (refused_idle errno.EACCES) (λ f.
-      at_name site state ask.from _ chain name _ entry (λ by. refl) is (λ found.
-      behind_check (is_missing found) (reply.Refused errno.EEXIST) _ P (refused_idle errno.EEXIST) (λ g. passes _ P)))))
-
-  link_busy : (chain : List Entry) (name : List ℕ) (dir : DirRef) (mode : ℕ) → IfBusy (link site state ask chain dir mode) (Blocks (request.Link chain name dir mode))
-  link_busy chain name dir mode =
-      let P = Blocks (request.Link chain name dir mode) in
-      at_chain site state ask.from _ chain _ (λ by. refl) (λ entry is.
-      behind_check (is_some (first (reserves ask.from) (slots_at (dir_of entry.access) state.contents))) reply.Other
-      (done reply.Fine (with_contents (filled_at (dir_of entry.access) ask.from (Some (dir, mode, ask.caller)) state.contents) state)) P
-      (λ by at born it. cc) (λ e. passes _ P))
+  op_busy : (chain : List Entry) (asked : Op) (by : CallRef) (at : Spot) → BlocksOp site state from chain asked by at
+      → Blocked (request.Finish chain asked) by at
+  op_busy chain (op.Create name mode) by at blocks = from_either site state from _ (last_of chain) name (λ by. refl) (λ by. refl) by at blocks
+  op_busy chain (op.Stat name) by at blocks = from_either site state from _ (last_of chain) name (λ by. refl) (λ by. refl) by at blocks
+  op_busy chain (op.Walk name) by at blocks = from_either site state from _ (last_of chain) name (λ by. refl) (λ by. refl) by at blocks
+  op_busy chain (op.RmdirName name) by at blocks = from_either site state from _ (last_of chain) name (λ by. refl) (λ by. refl) by at blocks
+  op_busy chain other_op by at blocks = absurd blocks
 
   -- ---- removals
 
-  unlink_busy : (chain : List Entry) → IfBusy (unlink site state ask chain) (Blocks (request.Unlink chain))
-  unlink_busy chain =
-      let P = Blocks (request.Unlink chain) in
-      behind_some (last_of chain) reply.Other _ P (λ by at born it. cc) (λ target last.
-      behind_some (name_in target.key) reply.Other _ P (λ by at born it. cc) (λ name named.
-      at_chain site state ask.from _ (before_last chain) _ (λ by. refl) (λ entry is.
-      at_name site state ask.from _ (before_last chain) name _ entry
-      (λ by. ap (λ (n : Option (List ℕ)). if_name_taken by n (asked_content state (last_of (before_last chain)))) (ap target_name last ∙ named)) is (λ found.
-      behind_check (is_the_directory target.access found) reply.Other _ P (λ by at born it. cc) (λ e. passes _ P)))))
+  unlink_busy : (chain : List Entry) (by : CallRef) (at : Spot)
+      → StopsAtSeal site state from (last_of (before_last chain)) by at ⊎ StopsAtTarget site state from chain by at → Blocked (request.Unlink chain) by at
+  unlink_busy chain by at (inl stops) = from_seal site state from _ (last_of (before_last chain)) (λ by. refl) by at stops
+  unlink_busy chain by at (inr target) =
+      from_name site state from _ (last_of (before_last chain)) target.name
+      (λ by. ap (λ (n : Option (List ℕ)). if_name_taken by n (asked_content state (last_of (before_last chain)))) (ap target_name target.last ∙ target.named))
+      by at target.stops
 
-  seal_busy : (chain : List Entry) → AreInOrder state.contents → IfBusy (seal site state ask chain) (Blocks (request.Seal chain))
-  seal_busy chain ordered =
-      let P = Blocks (request.Seal chain) in
-      behind_some (last_of (before_last chain)) reply.Other _ P (λ by at born it. cc) (λ parent last.
-      at_chain site state ask.from _ chain _ (λ by. refl) (λ entry is.
-      behind_check (list_all (lets ask.caller want.Search) (before_last chain)) (reply.Refused errno.EACCES) _ P (refused_idle errno.EACCES) (λ e.
-      behind_check (lets ask.caller want.Write parent) (reply.Refused errno.EACCES) _ P (refused_idle errno.EACCES) (λ f.
-      behind_unit (unless_inside entry.access.born (inside_of (slots_at (dir_of entry.access) state.contents))) _ P
-      (λ by at born busy. inside_way chain ordered entry is by at
-      (inside_by entry.access.born (slots_at (dir_of entry.access) state.contents) (has_free (slots_at (dir_of entry.access) state.contents))
-      (first_taker (slots_at (dir_of entry.access) state.contents)) refl by at born busy))
-      (passes _ P)))))
-    where
-      inside_way : (chain : List Entry) → AreInOrder state.contents → (entry : Entry) → IsAsked site state chain entry → (by : CallRef) (at : Spot)
-          → IsInside (slots_at (dir_of entry.access) state.contents) by at → Blocks (request.Seal chain) by at
-      inside_way chain ordered entry is by at busy = by_content (content_at (dir_of entry.access) state.contents) refl
-        where
-          by_content : (found : Option Content) → content_at (dir_of entry.access) state.contents ≡ found → Blocks (request.Seal chain) by at
-          by_content None none = absurd (let it = is.there in cc)
-          by_content (Some content) there =
-              let slots_are : slots_at (dir_of entry.access) state.contents ≡ content.slots = ap slots_found there in
-              let sorted : NamesRise content.slots = subst NamesRise slots_are (slots_sorted (dir_of entry.access) state.contents ordered.names) in
-              let has = has_inside content by sorted (sym (ap first_taker slots_are) ∙ busy.taker_is) in
-              record {
-                touched = ap (λ (s : Spot). touches by s (request.Seal chain) state) busy.spot_is
-                    ∙ ap (λ (e : Option Entry). some_taken by (asked_content state e)) is.last
-                    ∙ some_touches by (content_at (dir_of entry.access) state.contents) content there has;
-                owned = inr (record {
-                  dir = dir_of entry.access;
-                  name = has.name;
-                  is = record { content = content; here = is.here; there = there; slot = has.slot; found = has.stands; taken = has.taken };
-                });
-                apart = inr tt;
-              }
+  inside_way : (chain : List Entry) (by : CallRef) (at : Spot) → AreInOrder state.contents → StopsInside site state (last_of chain) by at
+      → Blocked (request.Seal chain) by at
+  inside_way chain by at ordered stops =
+      let dir = dir_of stops.entry.access in
+      let sorted : NamesRise stops.content.slots = subst NamesRise (ap slots_found stops.there) (slots_sorted dir state.contents ordered.names) in
+      let has = has_inside stops.content by sorted stops.taken in
+      record {
+        touched = ap (λ (s : Spot). touches by s (request.Seal chain) state) stops.spot_is
+            ∙ ap (λ (e : Option Entry). some_taken by (asked_content state e)) stops.last
+            ∙ some_touches by (content_at dir state.contents) stops.content stops.there has;
+        owned = inr (record {
+          dir = dir;
+          name = has.name;
+          is = record { content = stops.content; here = stops.here; there = stops.there; slot = has.slot; found = has.stands; taken = has.taken };
+        });
+        apart = inr tt;
+      }
+
+  seal_busy : (chain : List Entry) (by : CallRef) (at : Spot) → AreInOrder state.contents
+      → StopsAtSeal site state from (last_of chain) by at ⊎ StopsInside site state (last_of chain) by at → Blocked (request.Seal chain) by at
+  seal_busy chain by at ordered (inl stops) = from_seal site state from _ (last_of chain) (λ by. refl) by at stops
+  seal_busy chain by at ordered (inr stops) = inside_way chain by at ordered stops
 
   -- ---- lookups
 
   abbrev IsTopFree : Type 0
   IsTopFree = (top : TopAccess) → state.top ≡ Some top → top.held ≡ None
 
-  top_busy : IsTopFree → IfBusy (lookup_top site state) (Blocks (request.Lookup look.Top))
-  top_busy free =
-      let P = Blocks (request.Lookup look.Top) in
-      behind_check (is_here site (root_id site)) reply.Other _ P (λ by at born it. cc) (λ here.
-      behind_some state.top reply.Other _ P (λ by at born it. cc) (λ top is.
-      behind_unit (unheld 0 (holder top.held)) _ P
-      (λ by at born busy. absurd (let none : unheld 0 (holder top.held) ≡ Ok tt = ap (λ (o : Option Hold). unheld 0 (holder o)) (free top is) in cc))
-      (passes _ P)))
+  top_busy : (by : CallRef) (at : Spot) → IsTopFree → IsTopHeld state by at → ⊥
+  top_busy by at free stops = let none : holder stops.top.held ≡ None = ap holder (free stops.top stops.is_top) in let held = stops.held in cc
 
-  record IsTold (dir : DirRef) (name : List ℕ) (slot : Option Slot) (by : CallRef) (at : Spot) : Type 0 where
-    kept : Slot
-    is : slot ≡ Some kept
-    taken : taker kept ≡ Some by
-    spot_is : at ≡ spot.Slot
+  at_busy : (id : Id) (name : List ℕ) (by : CallRef) (at : Spot) → IsLookSealed site state id by at ⊎ IsLookTaken site state id name by at
+      → Blocked (request.Lookup (look.At id name)) by at
+  at_busy id name by at (inl stops) = record {
+    touched = ap (λ (s : Spot). touches by s (request.Lookup (look.At id name)) state) stops.spot_is
+        ∙ sealed_touches by (content_of_id id state.contents) stops.is_sealed.content stops.of_id stops.is_sealed.seal;
+    owned = inl (record { dir = stops.dir; is = stops.is_sealed });
+    apart = inr tt;
+  }
+  at_busy id name by at (inr stops) =
+      let taken = stops.is_taken in
+      record {
+        touched = ap (λ (s : Spot). touches by s (request.Lookup (look.At id name)) state) stops.spot_is
+            ∙ slot_touches by name (content_of_id id state.contents) taken.content taken.slot stops.of_id taken.found taken.taken;
+        owned = inr (record { dir = stops.dir; name = name; is = taken });
+        apart = inr tt;
+      }
 
-  unheld_busy : (born : ℕ) (held : Option CallRef) → IfBusy (unheld born held) (λ by at. (held ≡ Some by) × (at ≡ spot.Slot))
-  unheld_busy born None = λ by at birth it. cc
-  unheld_busy born (Some other) = λ by at birth it.
-      let one : other ≡ by = cc in
-      let two : spot.Slot ≡ at = cc in
-      (ap Some one, sym two)
-
-  told_busy : (dir : DirRef) (name : List ℕ) (slot : Option Slot) → IfBusy (told_of dir name slot) (IsTold dir name slot)
-  told_busy dir name None = passes _ _
-  told_busy dir name (Some (reserved other access)) = λ by at born it.
-      let one : other ≡ by = cc in
-      let two : spot.Slot ≡ at = cc in
-      record { kept = reserved other access; is = refl; taken = ap Some one; spot_is = sym two }
-  told_busy dir name (Some (file meta held)) =
-      behind_unit (unheld dir.born (holder held)) _ (IsTold dir name (Some (file meta held)))
-      (λ by at born it. let is = unheld_busy dir.born (holder held) by at born it in record { kept = file meta held; is = refl; taken = is.0; spot_is = is.1 })
-      (passes _ _)
-  told_busy dir name (Some (directory access held)) =
-      behind_unit (unheld dir.born (holder held)) _ (IsTold dir name (Some (directory access held)))
-      (λ by at born it. let is = unheld_busy dir.born (holder held) by at born it in record { kept = directory access held; is = refl; taken = is.0; spot_is = is.1 })
-      (passes _ _)
-
-  seal_in_way : (born : ℕ) (sealer : Option CallRef) → IfBusy (unless_sealed born sealer) (λ by at. (sealer ≡ Some by) × (at ≡ spot.Sealed))
-  seal_in_way born None = λ by at birth it. cc
-  seal_in_way born (Some other) = λ by at birth it.
-      let one : other ≡ by = cc in
-      let two : spot.Sealed ≡ at = cc in
-      (ap Some one, sym two)
-
-  module _ (id : Id) (name : List ℕ) (here : is_here site id ≡ true) where
-    abbrev P : CallRef → Spot → Type 0
-    P = Blocks (request.Lookup (look.At id name))
-
-    abbrev in_dir : Option Content → DirRef → Result Response Reply
-    in_dir found dir =
-        unless_sealed dir.born (seal_of found) >> (told_of dir name (slot_in name (slots_found found)) >>= (λ told. done told state))
-
-    by_found : (content : Content) → content_of_id id state.contents ≡ Some content → (dir : DirRef) → dir.id ≡ id → content_at dir state.contents ≡ Some content
-        → IfBusy (in_dir (Some content) dir) P
-    by_found content is dir same there =
-        let here_too : is_here site dir.id ≡ true = subst (λ (i : Id). is_here site i ≡ true) (sym same) here in
-        behind_unit (unless_sealed dir.born content.seal) _ P
-        (λ by at born busy.
-        let seals = seal_in_way dir.born content.seal by at born busy in
-        record {
-          touched = ap (λ (s : Spot). touches by s (request.Lookup (look.At id name)) state) seals.1
-              ∙ sealed_touches by (content_of_id id state.contents) content is seals.0;
-          owned = inl (record { dir = dir; is = record { content = content; here = here_too; there = there; seal = seals.0 } });
-          apart = inr tt;
-        })
-        (behind (told_of dir name (slot_in name content.slots)) _ P
-        (λ by at born busy.
-        let told = told_busy dir name (slot_in name content.slots) by at born busy in
-        record {
-          touched = ap (λ (s : Spot). touches by s (request.Lookup (look.At id name)) state) told.spot_is
-              ∙ slot_touches by name (content_of_id id state.contents) content told.kept is told.is told.taken;
-          owned = inr (record {
-            dir = dir;
-            name = name;
-            is = record { content = content; here = here_too; there = there; slot = told.kept; found = told.is; taken = told.taken };
-          });
-          apart = inr tt;
-        })
-        (λ told it. passes _ P))
-
-    by_id : (found : Option Content) → content_of_id id state.contents ≡ found
-        → IfBusy (ok_or (born_of found) reply.NoDir >>= (λ born. in_dir (if_born born found) (record { id = id; born = born }))) P
-    by_id None none = fails_idly reply.NoDir (λ by at born it. cc) P
-    by_id (Some content) is =
-        let self : if_born content.dir.born (Some content) ≡ Some content = ap (λ (b : Bool). cond b (Some content) None) ((Decides-eqb content.dir.born content.dir.born).1 refl) in
-        let dir : DirRef = record { id = id; born = content.dir.born } in
-        subst (λ (o : Option Content). IfBusy (in_dir o dir) P) (sym self) (by_found content is dir refl (ap (if_born content.dir.born) is ∙ self))
-
-  at_busy : (id : Id) (name : List ℕ) → IfBusy (lookup_at site state id name) (Blocks (request.Lookup (look.At id name)))
-  at_busy id name =
-      behind_check (is_here site id) reply.Other _ (Blocks (request.Lookup (look.At id name))) (λ by at born it. cc) (λ here.
-      by_id id name here (content_of_id id state.contents) refl)
-
-  lookup_busy : (k : LookKey) → IsTopFree → IfBusy (on_lookup site state k) (Blocks (request.Lookup k))
-  lookup_busy look.Top free = top_busy free
-  lookup_busy (look.At id name) free = at_busy id name
-
-  -- ---- directories that are there
-
-  make_busy : (place : ℕ) (birth : Triple) → IfBusy (make site state place ask birth) (IsBorne site state (request.Make birth))
-  make_busy place birth =
-      let P = IsBorne site state (request.Make birth) in
-      behind_check (is_here site (identity site.digest birth)) reply.Other _ P (λ by at born it. cc) (λ here.
-      behind_unit (unless_there (made_of birth (content_of_id (identity site.digest birth) state.contents))) _ P
-      (by_content here (content_of_id (identity site.digest birth) state.contents) refl) (passes _ P))
-    where
-      by_content : is_here site (identity site.digest birth) ≡ true → (found : Option Content) → content_of_id (identity site.digest birth) state.contents ≡ found
-          → IfBusy (unless_there (made_of birth found)) (IsBorne site state (request.Make birth))
-      by_content here None none = passes _ _
-      by_content here (Some content) there = by_triple (is_same_triple content.triple birth) refl
-        where
-          by_triple : (b : Bool) → is_same_triple content.triple birth ≡ b
-              → IfBusy (unless_there (cond b (made.Bearer (bearer content)) (made.Clash content.triple))) (IsBorne site state (request.Make birth))
-          by_triple true same = λ by at born it.
-              let one : bearer content ≡ by = cc in
-              let two : spot.Bearer ≡ at = cc in
-              record {
-                birth = birth;
-                is_make = refl;
-                content = content;
-                here = here;
-                there = there;
-                same = same;
-                bearer_is = one;
-                spot_is = sym two;
-              }
-          by_triple false unlike = fails_idly (reply.Clash content.triple) (λ by at born it. cc) _
+  lookup_busy : (sought : LookKey) (by : CallRef) (at : Spot) → IsTopFree → BlocksLookup site state sought by at → Blocked (request.Lookup sought) by at
+  lookup_busy look.Top by at free stops = absurd (top_busy by at free stops)
+  lookup_busy (look.At id name) by at free stops = at_busy id name by at stops
 
   -- ---- all requests
 
-  change_busy : (asked : Request) → AreInOrder state.contents → IfBusy (on_change site state ask asked) (Blocks asked)
-  change_busy (request.Link chain name dir mode) ordered = link_busy chain name dir mode
-  change_busy (request.Seal chain) ordered = seal_busy chain ordered
-  change_busy (request.Unlink chain) ordered = unlink_busy chain
-  change_busy (request.Cancel dir) ordered =
-      behind_check (is_here site dir.id) reply.Other _ (Blocks (request.Cancel dir)) (λ by at born it. cc) (λ here. passes _ _)
-  change_busy (request.Drop dir) ordered =
-      behind_check (is_here site dir.id) reply.Other _ (Blocks (request.Drop dir)) (λ by at born it. cc) (λ here. passes _ _)
-  change_busy (request.Unseal dir) ordered =
-      behind_check (is_here site dir.id) reply.Other _ (Blocks (request.Unseal dir)) (λ by at born it. cc) (λ here. passes _ _)
-  change_busy (request.Forget parent dir) ordered =
-      behind_check (is_here site parent) reply.Other _ (Blocks (request.Forget parent dir)) (λ by at born it. cc) (λ here. passes _ _)
-  change_busy other_request ordered = fails_idly reply.Other (λ by at born it. cc) _
-
-  pub request_busy : (place : ℕ) (asked : Request) → AreInOrder state.contents → IsTopFree
-      → IfBusy (on_request site state place ask asked) (IsBlocked site state ask.from asked)
-  request_busy place (request.Lookup k) ordered free = λ by at born is. inl (lookup_busy k free by at born is)
-  request_busy place (request.Finish chain asked) ordered free = λ by at born is. inl (op_busy chain asked by at born is)
-  request_busy place (request.Reserve chain name) ordered free = λ by at born is. inl (reserve_busy chain name by at born is)
-  request_busy place (request.Make birth) ordered free = λ by at born is. inr (make_busy place birth by at born is)
-  request_busy place other_request ordered free = λ by at born is. inl (change_busy other_request ordered by at born is)
+  pub request_busy : (asked : Request) → AreInOrder state.contents → IsTopFree → (by : CallRef) (at : Spot) → Blocks site state from asked by at
+      → IsBlocked site state from asked by at
+  request_busy (request.Lookup sought) ordered free by at blocks = inl (lookup_busy sought by at free blocks)
+  request_busy (request.Finish chain asked) ordered free by at blocks = inl (op_busy chain asked by at blocks)
+  request_busy (request.Reserve chain name) ordered free by at blocks =
+      inl (from_either site state from _ (last_of chain) name (λ by. refl) (λ by. refl) by at blocks)
+  request_busy (request.Make birth) ordered free by at blocks = inr (record { birth = birth; is_make = refl; is = blocks })
+  request_busy (request.Link chain name dir mode) ordered free by at blocks = inl (from_seal site state from _ (last_of chain) (λ by. refl) by at blocks)
+  request_busy (request.Seal chain) ordered free by at blocks = inl (seal_busy chain by at ordered blocks)
+  request_busy (request.Unlink chain) ordered free by at blocks = inl (unlink_busy chain by at blocks)
+  request_busy other_request ordered free by at blocks = absurd blocks

@@ -11,6 +11,8 @@ use Rattle.inf_base.specs.Same.{is_same_id, is_same_triple}
 use Rattle.inf_content.specs.Contents.{bearer, content_of_id, made_of}
 use Rattle.inf_content.specs.declared.made.Made.TheVariants as made
 use Rattle.inf_duty.specs.World.{World}
+use Rattle.inf_laws_server.specs.Replies.{IsOther}
+use Rattle.inf_laws_server.proofs.Serves.{clashed, may_reply}
 use Rattle.inf_laws_history.specs.Causes.{IsClashBecause, before}
 use Rattle.inf_laws_history.specs.Legal.{Legal, MayServe, server_after}
 use Rattle.inf_laws_history.specs.Sites.{site_of}
@@ -20,12 +22,9 @@ use Rattle.inf_message.specs.declared.event.Event.{Event}
 use Rattle.inf_message.specs.declared.reply.Reply.TheVariants as reply
 use Rattle.inf_message.specs.declared.request.Request.TheVariants as request
 use Rattle.inf_message.specs.History.{Posted}
-use Rattle.inf_server.specs.Births.{make, unless_there}
 use Rattle.inf_server.specs.Response.{Response}
 use Rattle.inf_server.specs.State.{Site, State, is_here}
 use Rattle.inf_laws_directory.proofs.ContentFacts.{same_id_self}
-use Rattle.inf_laws_directory.proofs.Outcomes.{Comes, IsFine, Nothing, make_comes}
-use Rattle.inf_laws_directory.proofs.ServedReplies.{CameOf, came_of_this}
 use Rattle.inf_laws_directory.proofs.SlotFacts.{same_self}
 use Rattle.inf_renames.proofs.RenamesFacts.{same_id}
 use Rattle.inf_laws_history.proofs.ContentBirths.{IsBirth, births_after, so_found}
@@ -48,36 +47,6 @@ same_triple_self (triple.Of parent name version) =
     let three = (Decides-eqb version version).1 refl in
     rw (one, two, three) refl
 
--- the content object of the other directory
-record IsOther (site : Site) (state : State) (own kept : Triple) : Type 0 where
-  content : Content
-  there : content_of_id (identity site.digest own) state.contents ≡ Some content
-  kept_is : content.triple ≡ kept
-  unlike : is_same_triple content.triple own ≡ false
-
-module _ (site : Site) (state : State) (place : ℕ) (ask : Ask) (own kept : Triple) where
-  by_triple : (content : Content) → content_of_id (identity site.digest own) state.contents ≡ Some content → (next : Response) (b : Bool)
-      → is_same_triple content.triple own ≡ b
-      → (unless_there (cond b (made.Bearer (bearer content)) (made.Clash content.triple)) >> Ok next) ≡ Err (reply.Clash kept) → IsOther site state own kept
-  by_triple content there next true same is = cc
-  by_triple content there next false unlike is =
-      let one : content.triple ≡ kept = cc in
-      record { content = content; there = there; kept_is = one; unlike = unlike }
-
-  by_content : (next : Response) (b : Bool) (found : Option Content) → content_of_id (identity site.digest own) state.contents ≡ found
-      → (check b reply.Other >> (unless_there (made_of own found) >> Ok next)) ≡ Err (reply.Clash kept) → IsOther site state own kept
-  by_content next false found there is = cc
-  by_content next true None there is = cc
-  by_content next true (Some content) there is = by_triple content there next (is_same_triple content.triple own) refl is
-
-  clash_of : make site state place ask own ≡ Err (reply.Clash kept) → IsOther site state own kept
-  clash_of is = by_content _ (is_here site (identity site.digest own)) (content_of_id (identity site.digest own) state.contents) refl is
-
-  came_to_clash : (new : State) → CameOf state (make site state place ask own) (reply.Clash kept) new → IsOther site state own kept
-  came_to_clash new (inl is) =
-      absurd (let fine : reply.Clash kept ≡ reply.Fine = subst (λ (r : Result Response _). Comes Nothing IsFine r) is (make_comes site state place ask own) in cc)
-  came_to_clash new (inr refused) = clash_of refused.0
-
 unlike_by : (own kept found : Triple) → own ≡ kept → found ≡ kept → is_same_triple found own ≡ false → ⊥
 unlike_by own kept found equal is unlike =
     let self = same_triple_self own in
@@ -89,12 +58,12 @@ module _ (world : World) (h : List Event) (legal : Legal world h) (number ask_pl
     (may : MayServe world h number ask_place (reply.Clash kept)) (makes : may.posted.ask.request ≡ request.Make own) where
   other : IsOther (site_of world number) (server_after world number h) own kept
   other =
-      came_to_clash (site_of world number) (server_after world number h) ask_place may.posted.ask own kept may.after
-      (came_of_this (site_of world number) (server_after world number h) ask_place may.posted.ask (request.Make own) (reply.Clash kept) may.after may.reply makes
-      (λ it. cc))
+      clashed (site_of world number) (server_after world number h) may.posted.ask (request.Make own) kept
+      (may_reply (site_of world number) (server_after world number h) ask_place may.posted.ask (reply.Clash kept) may.after may.reply
+      (request.Make own) (reply.Clash kept) makes refl)
 
   clash_unlike : own ≢ kept
-  clash_unlike equal = unlike_by own kept other.content.triple equal other.kept_is other.unlike
+  clash_unlike equal = unlike_by own kept other.content.triple equal other.kept_is other.apart
 
   is_birth : IsBirth world.digest h other.content.dir other.content.triple other.content.maker
   is_birth =

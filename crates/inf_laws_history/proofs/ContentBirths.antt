@@ -15,13 +15,17 @@ use Rattle.inf_base.specs.Identity.{identity}
 use Rattle.inf_base.specs.Same.{dir_of, is_same_id}
 use Rattle.inf_content.specs.Contents.{changed_at, content_of_id, dropped_at, empty_content, id_cmp, may_drop, placed, with_new}
 use Rattle.inf_duty.specs.World.{World}
+use Rattle.inf_laws_server.specs.CameTo.{IsDone}
+use Rattle.inf_laws_server.specs.Changes as change
+use Rattle.inf_laws_server.specs.Changes.{Change, changed}
+use Rattle.inf_laws_server.specs.Done.{change_of}
+use Rattle.inf_laws_server.proofs.ChangeFacts.{IsOf, change_is_of}
+use Rattle.inf_laws_server.proofs.Serves.{left_or_done, top_kept}
 use Rattle.inf_laws_history.specs.Legal.{Legal, MayServe, server_after}
 use Rattle.inf_laws_history.specs.Sites.{site_of}
 use Rattle.inf_message.specs.declared.ask.Ask.{Ask}
 use Rattle.inf_message.specs.declared.event.Event.{Event}
 use Rattle.inf_message.specs.declared.event.Event.TheVariants as event
-use Rattle.inf_message.specs.declared.op.Op.{Op}
-use Rattle.inf_message.specs.declared.op.Op.TheVariants as op
 use Rattle.inf_message.specs.declared.reply.Reply.{Reply}
 use Rattle.inf_message.specs.declared.request.Request.{Request}
 use Rattle.inf_message.specs.declared.request.Request.TheVariants as request
@@ -30,10 +34,6 @@ use Rattle.inf_message.proofs.HistoryLaws.{asked_stays, asked_within}
 use Rattle.inf_server.specs.Machine.{Serves, on_change, on_op, on_request}
 use Rattle.inf_server.specs.Response.{Response}
 use Rattle.inf_server.specs.State.{Site, State, is_here, opening, root_id}
-use Rattle.inf_laws_directory.proofs.PassedRequests.{cancelled, created, dropped, has_linked, has_sealed, has_unlinked, made, reserved_name, unsealed}
-use Rattle.inf_laws_directory.proofs.ServedOrder.{forgot, looked_up, never_removed, never_walked, stat_told}
-use Rattle.inf_laws_directory.proofs.ServedReplies.{left_or_done}
-use Rattle.inf_laws_directory.proofs.TopStays.{top_kept}
 use Rattle.inf_duty.proofs.BegunKept.{if_both}
 use Rattle.inf_laws_history.proofs.StepFacts.{states_served}
 
@@ -86,56 +86,25 @@ module _ (P : DirRef → Triple → CallRef → Type 0) where
 
   module _ (site : Site) (state : State) (place : ℕ) (ask : Ask) (all : AreSo state.contents)
       (fresh : (birth : Triple) → ask.request ≡ request.Make birth → P (record { id = identity site.digest birth; born = place }) birth ask.from) where
-    module _ (end : Response) where
-      abbrev AreNow : Type 0
-      AreNow = AreSo end.state.contents
-
-      same_so : (contents : List Content) → end.state.contents ≡ contents → AreSo contents → AreNow
-      same_so contents is are = subst AreSo (sym is) are
-
-      op_so : (chain : List Entry) (with : Op) → on_op site state ask chain with ≡ Ok end → AreNow
-      op_so chain (op.Create name mode) is =
-          let put = created site state ask chain name end mode is in
-          same_so _ put.has.contents (changed_so (dir_of put.entry.access) _ (λ c is. is) state.contents all)
-      op_so chain (op.Stat name) is = same_so state.contents (stat_told site state ask end chain name is) all
-      op_so chain (op.Walk name) is = absurd (never_walked site state ask end chain name is)
-      op_so chain (op.RmdirName name) is = absurd (never_removed site state ask end chain name is)
-      op_so chain other_op is = cc
-
-      change_so_too : (asked : Request) → on_change site state ask asked ≡ Ok end → AreNow
-      change_so_too (request.Link chain name dir mode) is =
-          let put = has_linked site state ask end chain dir mode is in
-          same_so _ put.has.contents (changed_so (dir_of put.entry.access) _ (λ c is. is) state.contents all)
-      change_so_too (request.Cancel dir) is = same_so _ (cancelled site state ask end dir is).contents (changed_so dir _ (λ c is. is) state.contents all)
-      change_so_too (request.Drop dir) is = same_so _ (dropped site state ask end dir is) (dropped_so dir ask.from state.contents all)
-      change_so_too (request.Seal chain) is =
-          let seals = has_sealed site state ask end chain is in
-          same_so _ seals.contents (changed_so (dir_of seals.entry.access) _ (λ c is. is) state.contents all)
-      change_so_too (request.Unseal dir) is = same_so _ (unsealed site state ask end dir is) (changed_so dir _ (λ c is. is) state.contents all)
-      change_so_too (request.Unlink chain) is =
-          let taken = has_unlinked site state ask end chain is in
-          same_so _ taken.has.contents (changed_so (dir_of taken.entry.access) _ (λ c is. is) state.contents all)
-      change_so_too (request.Forget parent dir) is = same_so state.contents (forgot site state ask end parent dir is) all
-      change_so_too other_request is = cc
-
-      request_so : (asked : Request) → ask.request ≡ asked → on_request site state place ask asked ≡ Ok end → AreNow
-      request_so (request.Lookup key) same is = same_so state.contents (looked_up site state ask end key is) all
-      request_so (request.Finish chain with) same is = op_so chain with is
-      request_so (request.Reserve chain name) same is =
-          let put = reserved_name site state ask chain name end is in
-          same_so _ put.has.contents (changed_so (dir_of put.entry.access) _ (λ c is. is) state.contents all)
-      request_so (request.Make birth) same is =
-          same_so _ (made site state ask end place birth is)
-          (new_so (empty_content (identity site.digest birth) place birth ask.from) (content_of_id (identity site.digest birth) state.contents) state.contents
-          (fresh birth same) all)
-      request_so other_request same is = change_so_too other_request is
+    change_so : (with : Change) → IsOf site state place ask ask.request with → AreSo (changed with state).contents
+    change_so change.none is = all
+    change_so (change.slots dir with) is = changed_so dir _ (λ c so. so) state.contents all
+    change_so (change.comes id born birth by) is =
+        new_so (empty_content id born birth by) (content_of_id id state.contents) state.contents
+        (rw (is.identifies, is.at_place, is.own) (fresh birth is.is_make)) all
+    change_so (change.goes dir by) is = dropped_so dir by state.contents all
+    change_so (change.seals dir by) is = changed_so dir _ (λ c so. so) state.contents all
+    change_so (change.unseals dir by) is = changed_so dir _ (λ c so. so) state.contents all
+    change_so (change.forgets parent dir) is = all
 
     served_so : (given : Reply) (new : State) → Serves site state place ask given new → AreSo new.contents
     served_so given new serves = by (left_or_done site state place ask given new serves)
       where
-        by : (new ≡ state) ⊎ (on_request site state place ask ask.request ≡ Ok (record { reply = given; state = new })) → AreSo new.contents
+        by : (new ≡ state) ⊎ IsDone site state place ask ask.request given new → AreSo new.contents
         by (inl same) = subst (λ (s : State). AreSo s.contents) (sym same) all
-        by (inr is) = request_so (record { reply = given; state = new }) ask.request refl is
+        by (inr is) =
+            let with = change_of site state place ask ask.request is.passed in
+            subst (λ (s : State). AreSo s.contents) (sym is.did) (change_so with (change_is_of site state place ask ask.request is.passed))
 
 -- ---- histories
 

@@ -6,7 +6,6 @@ pub mod AskedGroups
 pub mod BearerCauses
 pub mod BirthFacts
 pub mod BlockedRequests
-pub mod BusyFacts
 pub mod ClashCauses
 pub mod ClientSteps
 pub mod ContentBirths
@@ -16,7 +15,6 @@ pub mod DrivenFacts
 pub mod GroupMessages
 pub mod HeldPlaces
 pub mod HistoryFacts
-pub mod IdleReplies
 pub mod LinkBirths
 pub mod Open
 pub mod Ordered

@@ -12,13 +12,11 @@ use Rattle.inf_base.specs.declared.id.Id.{Id}
 use Rattle.inf_base.specs.declared.triple.Triple.TheVariants as triple
 use Rattle.inf_base.specs.Content.{Content, Slot, reserved, file, directory}
 use Rattle.inf_base.specs.Same.{dir_of, is_same_id}
-use Rattle.inf_content.specs.Contents.{changed_at, content_at, content_of_id, dropped_at, empty_content, id_cmp, if_born, may_drop, placed, with_new}
+use Rattle.inf_content.specs.Contents.{changed_at, content_at, content_of_id, dropped_at, empty_content, id_cmp, if_born, may_drop, placed, with_new, with_slots_at}
 use Rattle.inf_content.specs.Slot.{filled, freed, reserves}
-use Rattle.inf_content.specs.Slots.{first, first_changed, lifted, slot_in, with_slot, without_slot}
+use Rattle.inf_content.specs.Slots.{filled_in, first, first_changed, lifted, slot_in, with_slot, without_slot}
 use Rattle.inf_message.specs.declared.ask.Ask.{Ask}
 use Rattle.inf_message.specs.declared.event.Event.{Event}
-use Rattle.inf_message.specs.declared.op.Op.{Op}
-use Rattle.inf_message.specs.declared.op.Op.TheVariants as op
 use Rattle.inf_message.specs.declared.reply.Reply.{Reply}
 use Rattle.inf_message.specs.declared.request.Request.{Request}
 use Rattle.inf_message.specs.declared.request.Request.TheVariants as request
@@ -27,13 +25,20 @@ use Rattle.inf_message.proofs.HistoryLaws.{asked_stays, asked_within}
 use Rattle.inf_server.specs.Machine.{Serves, on_change, on_op, on_request}
 use Rattle.inf_server.specs.Response.{Response}
 use Rattle.inf_server.specs.State.{Site, State}
-use Rattle.inf_laws_directory.proofs.PassedChecks.{IsAsked}
-use Rattle.inf_laws_directory.proofs.PassedRequests.{cancelled, created, dropped, has_linked, has_sealed, has_unlinked, made, reserved_name, unsealed}
-use Rattle.inf_laws_directory.proofs.ServedOrder.{forgot, looked_up, never_removed, never_walked, stat_told}
-use Rattle.inf_laws_directory.proofs.ServedReplies.{left_or_done}
 use Rattle.inf_laws_directory.proofs.ServiceFacts.{Slots}
 use Rattle.inf_laws_directory.proofs.SlotFacts.{same_name, same_test}
 use Rattle.inf_duty.proofs.BegunKept.{if_both}
+use Rattle.inf_base.specs.declared.caller.Caller.{Caller}
+use Rattle.inf_laws_server.specs.CameTo.{IsDone}
+use Rattle.inf_laws_server.specs.Changes as change
+use Rattle.inf_laws_server.specs.Changes.{Change, changed}
+use Rattle.inf_laws_server.specs.Done.{change_of}
+use Rattle.inf_laws_server.specs.Edits as edit
+use Rattle.inf_laws_server.specs.Edits.{Edit, edited}
+use Rattle.inf_laws_server.specs.Passed.{IsAsked}
+use Rattle.inf_laws_server.proofs.ChangeFacts.{IsLinking, IsOf, change_is_of}
+use Rattle.inf_laws_server.proofs.Serves.{left_or_done}
+use Rattle.inf_server.specs.Chains.{last_of}
 
 -- an Ask at this place made a directory of this name of the directory
 pub record IsMadeAt (h : List Event) (born : ℕ) (parent : Id) (name : List ℕ) : Type 0 where
@@ -177,63 +182,42 @@ module _ (h : List Event) where
   abbrev pub LinksMade : Site → State → Ask → Type 0
   LinksMade site state ask =
       (chain : List Entry) (name : List ℕ) (dir : DirRef) (mode : ℕ) → ask.request ≡ request.Link chain name dir mode
-      → (entry : Entry) → IsAsked site state chain entry → (content : Content) → content_at (dir_of entry.access) state.contents ≡ Some content
+      → (entry : Entry) → IsAsked site state ask.from (last_of chain) entry → (content : Content) → content_at (dir_of entry.access) state.contents ≡ Some content
       → (found : List ℕ × Slot) → first (reserves ask.from) content.slots ≡ Some found
       → StandsAsMade content.dir found.0 (filled (Some (dir, mode, ask.caller)) found.1)
 
   module _ (site : Site) (state : State) (place : ℕ) (ask : Ask) (all : AllMade state.contents) (links : LinksMade site state ask) where
-    module _ (end : Response) where
-      abbrev AreMade : Type 0
-      AreMade = AllMade end.state.contents
+    fills_made : (dir : DirRef) (by : CallRef) (linked : DirRef) (mode : ℕ) (caller : Caller) → IsLinking site state ask ask.request dir by linked mode caller
+        → AllMade (with_slots_at dir (filled_in by (Some (linked, mode, caller))) state.contents)
+    fills_made dir by linked mode caller is =
+        rw (is.in_dir, is.own, is.callers) (changed_made (dir_of is.entry.access) _ state.contents all (λ c at was.
+        first_made c.dir (reserves ask.from) (filled (Some (linked, mode, ask.caller))) c.slots
+        (links is.chain is.name linked mode is.is_link is.entry is.is_asked c at) was))
 
-      same_made : (contents : List Content) → end.state.contents ≡ contents → AllMade contents → AreMade
-      same_made contents is are = subst AllMade (sym is) are
+    edit_made : (dir : DirRef) (with : Edit) → IsOf site state place ask ask.request (change.slots dir with) → AllMade (with_slots_at dir (edited with) state.contents)
+    edit_made dir (edit.puts name meta) is = changed_made dir _ state.contents all (λ c at was. with_made c.dir name _ c.slots (λ n. tt) was)
+    edit_made dir (edit.keeps name by access) is = changed_made dir _ state.contents all (λ c at was. with_made c.dir name _ c.slots (λ n. tt) was)
+    edit_made dir (edit.fills by linked mode caller) is = fills_made dir by linked mode caller is
+    edit_made dir (edit.lifts by) is = changed_made dir _ state.contents all (λ c at was. lifted_made c.dir by c.slots was)
+    edit_made dir (edit.takes name) is = changed_made dir _ state.contents all (λ c at was. without_made c.dir name c.slots was)
 
-      op_made : (chain : List Entry) (with : Op) → on_op site state ask chain with ≡ Ok end → AreMade
-      op_made chain (op.Create name mode) is =
-          let put = created site state ask chain name end mode is in
-          same_made _ put.has.contents (changed_made (dir_of put.entry.access) _ state.contents all (λ c at was. with_made c.dir name _ c.slots (λ n. tt) was))
-      op_made chain (op.Stat name) is = same_made state.contents (stat_told site state ask end chain name is) all
-      op_made chain (op.Walk name) is = absurd (never_walked site state ask end chain name is)
-      op_made chain (op.RmdirName name) is = absurd (never_removed site state ask end chain name is)
-      op_made chain other_op is = cc
-
-      change_made : (asked : Request) → ask.request ≡ asked → on_change site state ask asked ≡ Ok end → AreMade
-      change_made (request.Link chain name dir mode) same is =
-          let put = has_linked site state ask end chain dir mode is in
-          same_made _ put.has.contents (changed_made (dir_of put.entry.access) _ state.contents all (λ c at was.
-          first_made c.dir (reserves ask.from) (filled (Some (dir, mode, ask.caller))) c.slots (links chain name dir mode same put.entry put.is_asked c at) was))
-      change_made (request.Cancel dir) same is =
-          same_made _ (cancelled site state ask end dir is).contents (changed_made dir _ state.contents all (λ c at was. lifted_made c.dir ask.from c.slots was))
-      change_made (request.Drop dir) same is = same_made _ (dropped site state ask end dir is) (dropped_made dir ask.from state.contents all)
-      change_made (request.Seal chain) same is =
-          let seals = has_sealed site state ask end chain is in
-          same_made _ seals.contents (changed_made (dir_of seals.entry.access) _ state.contents all (λ c at was. was))
-      change_made (request.Unseal dir) same is =
-          same_made _ (unsealed site state ask end dir is) (changed_made dir _ state.contents all (λ c at was. was))
-      change_made (request.Unlink chain) same is =
-          let taken = has_unlinked site state ask end chain is in
-          same_made _ taken.has.contents (changed_made (dir_of taken.entry.access) _ state.contents all (λ c at was. without_made c.dir taken.name c.slots was))
-      change_made (request.Forget parent dir) same is = same_made state.contents (forgot site state ask end parent dir is) all
-      change_made other_request same is = cc
-
-      request_made : (asked : Request) → ask.request ≡ asked → on_request site state place ask asked ≡ Ok end → AreMade
-      request_made (request.Lookup key) same is = same_made state.contents (looked_up site state ask end key is) all
-      request_made (request.Finish chain with) same is = op_made chain with is
-      request_made (request.Reserve chain name) same is =
-          let put = reserved_name site state ask chain name end is in
-          same_made _ put.has.contents (changed_made (dir_of put.entry.access) _ state.contents all (λ c at was. with_made c.dir name _ c.slots (λ n. tt) was))
-      request_made (request.Make birth) same is =
-          same_made _ (made site state ask end place birth is)
-          (new_made (empty_content _ place birth ask.from) (content_of_id _ state.contents) state.contents tt all)
-      request_made other_request same is = change_made other_request same is
+    change_made : (with : Change) → IsOf site state place ask ask.request with → AllMade (changed with state).contents
+    change_made change.none is = all
+    change_made (change.slots dir with) is = edit_made dir with is
+    change_made (change.comes id born birth by) is = new_made (empty_content id born birth by) (content_of_id id state.contents) state.contents tt all
+    change_made (change.goes dir by) is = dropped_made dir by state.contents all
+    change_made (change.seals dir by) is = changed_made dir _ state.contents all (λ c at was. was)
+    change_made (change.unseals dir by) is = changed_made dir _ state.contents all (λ c at was. was)
+    change_made (change.forgets parent dir) is = all
 
     pub served_made : (given : Reply) (new : State) → Serves site state place ask given new → AllMade new.contents
     served_made given new serves = by (left_or_done site state place ask given new serves)
       where
-        by : (new ≡ state) ⊎ (on_request site state place ask ask.request ≡ Ok (record { reply = given; state = new })) → AllMade new.contents
+        by : (new ≡ state) ⊎ IsDone site state place ask ask.request given new → AllMade new.contents
         by (inl same) = subst (λ (s : State). AllMade s.contents) (sym same) all
-        by (inr is) = request_made (record { reply = given; state = new }) ask.request refl is
+        by (inr is) =
+            subst (λ (s : State). AllMade s.contents) (sym is.did)
+            (change_made (change_of site state place ask ask.request is.passed) (change_is_of site state place ask ask.request is.passed))
 
 -- ---- histories
 

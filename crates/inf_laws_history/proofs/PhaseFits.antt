@@ -16,7 +16,7 @@ use Rattle.inf_laws_client.specs.Told.{KnowsOnly, LinksUp, StandsOn, chain_of}
 use Rattle.inf_laws_directory.specs.Fits.{EndsIn, Fits}
 use Rattle.inf_laws_directory.specs.Objects.{Service, site_in}
 use Rattle.inf_laws_directory.specs.Phases.{Phase, Phases, has_made, has_reserved, has_sealed, has_unlinked, idle}
-use Rattle.inf_laws_directory.proofs.ServedReplies.{fine_where, kept_here, no_listing, reserved_may_write, sealed_may_write}
+use Rattle.inf_laws_directory.proofs.ServedReplies.{cancel_fine, drop_fine, forget_fine, no_listing, reserved_may_write, sealed_may_write, unseal_fine}
 use Rattle.inf_laws_history.specs.Pending.{Waits}
 use Rattle.inf_laws_history.specs.Phases.{FlowHas, FlowMay, HasPhase, IsLiftedBy, StageMay}
 use Rattle.inf_laws_history.proofs.GroupMessages.{look_in, only_one}
@@ -121,18 +121,10 @@ right_server digest s place number ask phases hand waits cleans = sent_home dige
 module _ (service : Service) (number place : ℕ) (ask : Ask) (given : Reply) (old new : State) where
   done_home : (asked : Request) → Serves (site_in service number) old place ask given new → ask.request ≡ asked → IsSentHome service.servers number asked
       → given ≡ reply.Fine
-  done_home (request.Cancel dir) serves is here =
-      fine_where service number old place ask new (request.Cancel dir) (is_here (site_in service number) dir.id)
-      (with_contents (lifted_at dir ask.from old.contents) old) given serves is refl refl (kept_here service number old place ask new dir.id here)
-  done_home (request.Drop dir) serves is here =
-      fine_where service number old place ask new (request.Drop dir) (is_here (site_in service number) dir.id)
-      (with_contents (dropped_at dir ask.from old.contents) old) given serves is refl refl (kept_here service number old place ask new dir.id here)
-  done_home (request.Unseal dir) serves is here =
-      fine_where service number old place ask new (request.Unseal dir) (is_here (site_in service number) dir.id)
-      (with_contents (unsealed_at dir ask.from old.contents) old) given serves is refl refl (kept_here service number old place ask new dir.id here)
-  done_home (request.Forget parent dir) serves is here =
-      fine_where service number old place ask new (request.Forget parent dir) (is_here (site_in service number) parent)
-      (record old { renames = forgotten parent dir old.renames }) given serves is refl refl (kept_here service number old place ask new parent here)
+  done_home (request.Cancel dir) serves is here = cancel_fine service number old place ask given new serves dir is here
+  done_home (request.Drop dir) serves is here = drop_fine service number old place ask given new serves dir is here
+  done_home (request.Unseal dir) serves is here = unseal_fine service number old place ask given new serves dir is here
+  done_home (request.Forget parent dir) serves is here = forget_fine service number old place ask given new serves parent dir is here
   done_home other_request serves is here = absurd here
 
 pub clean_up_done : (service : Service) (s : ClientState) (place number : ℕ) (ask : Ask) (given : Reply) (phases : Phases) (old new : State)

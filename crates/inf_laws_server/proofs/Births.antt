@@ -25,7 +25,7 @@ use Rattle.inf_server.specs.State.{Site, State, is_here}
 use Rattle.inf_laws_server.specs.Replies.{Fails}
 use Rattle.inf_laws_server.proofs.Asked.{at_directory}
 use Rattle.inf_laws_server.proofs.Files.{new_name_comes}
-use Rattle.inf_laws_server.proofs.Lookups.{Came, Did}
+use Rattle.inf_laws_server.proofs.Came.{Came, Did}
 use Rattle.inf_laws_server.proofs.Walking.{behind_check, behind_unit}
 
 -- nothing of the identifier is there where a directory can be made

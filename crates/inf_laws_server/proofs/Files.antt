@@ -30,7 +30,7 @@ use Rattle.inf_laws_server.specs.Denied.{Denies, DeniesName}
 use Rattle.inf_laws_server.specs.Passed.{IsAsked, MayPut}
 use Rattle.inf_laws_server.specs.Replies.{Fails, Strays, asks_chain}
 use Rattle.inf_laws_server.proofs.Asked.{at_directory, at_name, found_missing}
-use Rattle.inf_laws_server.proofs.Lookups.{Came, Did}
+use Rattle.inf_laws_server.proofs.Came.{Came, Did}
 use Rattle.inf_laws_server.proofs.Walking.{Comes, behind_check}
 
 -- a name that is to be free

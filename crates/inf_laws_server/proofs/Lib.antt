@@ -1,5 +1,7 @@
 pub mod Asked
 pub mod Births
+pub mod Came
+pub mod ChangeFacts
 pub mod Files
 pub mod Lookups
 pub mod Removals

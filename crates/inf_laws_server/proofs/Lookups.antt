@@ -23,15 +23,8 @@ use Rattle.inf_server.specs.Response.{Response, done}
 use Rattle.inf_server.specs.State.{Site, State, is_here, root_id}
 use Rattle.inf_laws_server.specs.CameTo.{IsDone}
 use Rattle.inf_laws_server.specs.Replies.{Fails, Succeeds}
+use Rattle.inf_laws_server.proofs.Came.{Came, Did}
 use Rattle.inf_laws_server.proofs.Walking.{Comes, behind, behind_check, behind_some, behind_unit}
-
--- what holds of a request of this kind that is done
-abbrev pub Did : Site → State → ℕ → Ask → Request → Response → Type 0
-Did site state place ask asked end = IsDone site state place ask asked end.reply end.state
-
--- it fails as requests of its kind do, or is done
-abbrev pub Came : Site → State → ℕ → Ask → Request → Result Response Reply → Type 0
-Came site state place ask asked comes = Comes (Fails site state ask asked) (Did site state place ask asked) comes
 
 -- a content object found by its birth is the one of its identifier
 of_birth : (born : ℕ) (found : Option Content) (content : Content) → if_born born found ≡ Some content → found ≡ Some content

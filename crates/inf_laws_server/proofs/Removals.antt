@@ -28,7 +28,7 @@ use Rattle.inf_laws_server.specs.Denied.{IsFull}
 use Rattle.inf_laws_server.specs.Passed.{IsAsked}
 use Rattle.inf_laws_server.specs.Replies.{Fails}
 use Rattle.inf_laws_server.proofs.Asked.{at_directory, at_name, found_directory}
-use Rattle.inf_laws_server.proofs.Lookups.{Came, Did}
+use Rattle.inf_laws_server.proofs.Came.{Came, Did}
 use Rattle.inf_base.proofs.Same.{same_dir}
 use Rattle.inf_laws_server.proofs.Walking.{behind_check, behind_some, behind_unit}
 
@@ -73,16 +73,20 @@ module _ (site : Site) (state : State) (place : ℕ) (ask : Ask) where
         → unless_inside entry.access.born (cond full inside.Full (unless_busy busy)) ≡ Err given → why given
     inside_fails true full busy is given refused =
         let told : reply.Refused errno.ENOTEMPTY ≡ given = cc in
-        subst why told (inr (inr (record {
+        subst why told (record {
           parent = parent;
           above = above;
-          entry = entry;
-          is_asked = is_asked;
-          search = search;
-          write = write;
-          full = full;
-          error_is = refl;
-        })))
+          because = inr (inr (record {
+            entry = entry;
+            is_asked = is_asked;
+            search = search;
+            written = parent;
+            ends = above;
+            write = write;
+            full = full;
+            error_is = refl;
+          }));
+        })
     inside_fails false full None is given refused = cc
     inside_fails false full (Some by) is given refused =
         let told : reply.Busy by spot.Inside entry.access.born ≡ given = cc in
@@ -105,17 +109,25 @@ module _ (site : Site) (state : State) (place : ℕ) (ask : Ask) where
       behind_some why holds (last_of (before_last chain)) reply.Other _ (λ none. tt) (λ parent above.
       at_directory site state ask wanted refl tt holds chain _ (λ by at stops. inl stops) (λ entry is_asked.
       behind_check why holds (list_all (lets ask.caller want.Search) (before_last chain)) (reply.Refused errno.EACCES) _
-      (λ closed. inl (record { entry = entry; is_asked = is_asked; closed = closed; error_is = refl })) (λ search.
+      (λ closed. record {
+        parent = parent;
+        above = above;
+        because = inl (record { entry = entry; is_asked = is_asked; closed = closed; error_is = refl });
+      }) (λ search.
       behind_check why holds (lets ask.caller want.Write parent) (reply.Refused errno.EACCES) _
-      (λ closed. inr (inl (record {
-        entry = entry;
-        is_asked = is_asked;
-        search = search;
-        written = parent;
-        ends = above;
-        closed = closed;
-        error_is = refl;
-      }))) (λ write.
+      (λ closed. record {
+        parent = parent;
+        above = above;
+        because = inr (inl (record {
+          entry = entry;
+          is_asked = is_asked;
+          search = search;
+          written = parent;
+          ends = above;
+          closed = closed;
+          error_is = refl;
+        }));
+      }) (λ write.
       let slots = slots_at (dir_of entry.access) state.contents in
       behind_unit why holds (unless_inside entry.access.born (inside_of slots)) _
       (inside_fails chain parent above entry is_asked search write (has_free slots) refl (first_taker slots) refl) (λ is.

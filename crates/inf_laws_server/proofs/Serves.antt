@@ -3,6 +3,7 @@ use Rattle.std.proofs.Common.{◌≡◌, ◌⊎◌, inl, inr, ℕ, Bool, true, f
 use Rattle.std.proofs.lemmas.Bool.{both_ways}
 use Rattle.inf_base.specs.declared.caller.CallRef.{CallRef}
 use Rattle.inf_base.specs.declared.errno.Errno.{Errno}
+use Rattle.inf_base.specs.declared.triple.Triple.{Triple}
 use Rattle.inf_message.specs.declared.ask.Ask.{Ask}
 use Rattle.inf_message.specs.declared.reply.Reply.{Reply}
 use Rattle.inf_message.specs.declared.reply.Reply.TheVariants as reply
@@ -15,10 +16,15 @@ use Rattle.inf_server.specs.State.{Site, State}
 use Rattle.inf_laws_server.specs.Blocked.{Blocks}
 use Rattle.inf_laws_server.specs.CameTo.{CameTo, IsDone, MayReply}
 use Rattle.inf_laws_server.specs.Denied.{Denies}
-use Rattle.inf_laws_server.specs.Replies.{Fails, Succeeds, is_failure}
+use Rattle.inf_laws_server.specs.Replies.{Clashes, Fails, Strays, Succeeds, TellsOfNoChange, asks_chain, is_failure, looks_up_name}
 use Rattle.inf_laws_server.proofs.Births.{cancel_comes, link_comes, make_comes, reserve_comes}
 use Rattle.inf_laws_server.proofs.Files.{op_comes}
-use Rattle.inf_laws_server.proofs.Lookups.{Came, Did, lookup_comes}
+use Rattle.inf_content.specs.Order.{AreInOrder}
+use Rattle.inf_laws_server.specs.Changes.{Change, changed}
+use Rattle.inf_laws_server.specs.Done.{change_of}
+use Rattle.inf_laws_server.proofs.ChangeFacts.{changed_in_order, changed_top, quiet_changes_none}
+use Rattle.inf_laws_server.proofs.Came.{Came, Did}
+use Rattle.inf_laws_server.proofs.Lookups.{lookup_comes}
 use Rattle.inf_laws_server.proofs.Removals.{drop_comes, forget_comes, seal_comes, unlink_comes, unseal_comes}
 use Rattle.inf_laws_server.proofs.Walking.{Comes}
 
@@ -149,3 +155,62 @@ module _ (site : Site) (old : State) (ask : Ask) (asked : Request) where
   refused error (inl succeeds) = absurd succeeds
   refused error (inr (inl denies)) = denies
   refused error (inr (inr wants)) = absurd (let is = wants.0 in cc)
+
+  pub clashed : (kept : Triple) → MayReply site old ask asked (reply.Clash kept) → Clashes site old asked kept
+  clashed kept (inl succeeds) = absurd succeeds
+  clashed kept (inr (inl clashes)) = clashes
+  clashed kept (inr (inr wants)) = absurd (let is = wants.0 in cc)
+
+-- ---- what any Serve keeps
+
+module _ (site : Site) (old : State) (place : ℕ) (ask : Ask) (given : Reply) (new : State) where
+  pub done_in_order : (asked : Request) → IsDone site old place ask asked given new → AreInOrder old.contents → AreInOrder new.contents
+  done_in_order asked is ordered =
+      subst (λ (s : State). AreInOrder s.contents) (sym is.did) (changed_in_order (change_of site old place ask asked is.passed) old ordered)
+
+  module _ (serves : Serves site old place ask given new) where
+    pub served_in_order : AreInOrder old.contents → AreInOrder new.contents
+    served_in_order ordered = by (left_or_done site old place ask given new serves)
+      where
+        by : (new ≡ old) ⊎ IsDone site old place ask ask.request given new → AreInOrder new.contents
+        by (inl same) = subst (λ (s : State). AreInOrder s.contents) (sym same) ordered
+        by (inr is) = done_in_order ask.request is ordered
+
+    pub top_kept : new.top ≡ old.top
+    top_kept = by (left_or_done site old place ask given new serves)
+      where
+        by : (new ≡ old) ⊎ IsDone site old place ask ask.request given new → new.top ≡ old.top
+        by (inl same) = ap (λ (s : State). s.top) same
+        by (inr is) = ap (λ (s : State). s.top) is.did ∙ changed_top (change_of site old place ask ask.request is.passed) old
+
+    -- what tells of no change leaves the state
+    pub quiet_leaves : TellsOfNoChange given → new ≡ old
+    quiet_leaves quiet = by (left_or_done site old place ask given new serves)
+      where
+        by : (new ≡ old) ⊎ IsDone site old place ask ask.request given new → new ≡ old
+        by (inl same) = same
+        by (inr is) = is.did ∙ ap (λ (with : Change). changed with old)
+            (quiet_changes_none site old place ask ask.request is.passed (subst TellsOfNoChange is.said quiet))
+
+-- a request of a kind that cannot fail, where it does not stray
+module _ (site : Site) (old : State) (place : ℕ) (ask : Ask) (asked : Request) (known : ask.request ≡ asked)
+    (here : Strays site asked → ⊥) (no_chain : asks_chain asked ≡ false) (no_name : looks_up_name asked ≡ false)
+    (allowed : (error : Errno) → Denies site old ask asked error → ⊥) (free : (by : CallRef) (at : Spot) → Blocks site old ask.from asked by at → ⊥)
+    (alone : (kept : Triple) → Clashes site old asked kept → ⊥) (no_memory : may_want asked ≡ false) where
+  no_failure : (given : Reply) → Fails site old ask asked given → ⊥
+  no_failure reply.Other fails = here fails
+  no_failure reply.Gone fails = both_ways _ no_chain fails
+  no_failure reply.NoDir fails = both_ways _ no_name fails
+  no_failure (reply.Refused error) fails = allowed error fails
+  no_failure (reply.Busy by at born) fails = free by at fails
+  no_failure (reply.Clash kept) fails = alone kept fails
+  no_failure other_reply fails = fails
+
+  pub always_done : (given : Reply) (new : State) → Serves site old place ask given new → IsDone site old place ask asked given new
+  always_done given new serves =
+      was_done site old place ask given new serves asked known (succeeds_not_fails given asked (by (may_reply site old place ask given new serves asked given known refl)))
+    where
+      by : MayReply site old ask asked given → Succeeds given asked
+      by (inl succeeds) = succeeds
+      by (inr (inl fails)) = absurd (no_failure given fails)
+      by (inr (inr wants)) = absurd (both_ways _ no_memory wants.1)

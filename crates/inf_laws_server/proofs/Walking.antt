@@ -12,15 +12,6 @@ Comes fails holds (Err given) = fails given
 abbrev pub Anything : {A : Type 0} → A → Type 0
 Anything value = Unit {0}
 
--- what came through, and why it failed
-pub passed_so : {A : Type 0} (fails : Reply → Type 0) (holds : A → Type 0) (served : Result A Reply) (value : A) → Comes fails holds served
-    → served ≡ Ok value → holds value
-passed_so {A = A} fails holds served value comes is = subst (λ (r : Result A Reply). Comes fails holds r) is comes
-
-pub failed_so : {A : Type 0} (fails : Reply → Type 0) (holds : A → Type 0) (served : Result A Reply) (given : Reply) → Comes fails holds served
-    → served ≡ Err given → fails given
-failed_so {A = A} fails holds served given comes is = subst (λ (r : Result A Reply). Comes fails holds r) is comes
-
 module _ (fails : Reply → Type 0) where
   pub behind : {A B : Type 0} (some : A → Type 0) (holds : B → Type 0) (first : Result A Reply) (next : A → Result B Reply)
       → Comes fails some first → ((value : A) → first ≡ Ok value → some value → Comes fails holds (next value)) → Comes fails holds (first >>= next)

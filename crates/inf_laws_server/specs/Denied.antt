@@ -52,12 +52,12 @@ pub record IsDeniedBy (site : Site) (state : State) (ask : Ask) (chain : List En
 
 -- something stands in the directory that is to be removed
 pub record IsFull (site : Site) (state : State) (ask : Ask) (chain : List Entry) (error : Errno) : Type 0 where
-  pub parent : Entry
-  pub above : last_of (before_last chain) ≡ Some parent
   pub entry : Entry
   pub is_asked : IsAsked site state ask.from (last_of chain) entry
   pub search : list_all (lets ask.caller want.Search) (before_last chain) ≡ true
-  pub write : lets ask.caller want.Write parent ≡ true
+  pub written : Entry
+  pub ends : last_of (before_last chain) ≡ Some written
+  pub write : lets ask.caller want.Write written ≡ true
   pub full : has_free (slots_at (dir_of entry.access) state.contents) ≡ true
   pub error_is : error ≡ errno.ENOTEMPTY
 
@@ -95,10 +95,15 @@ DeniesOp site state ask chain (op.RmdirName name) error =
     ⊎ IsDeniedBy site state ask chain name (MayAlsoWrite ask) SaysNoDirectory error
 DeniesOp site state ask chain other_op error = ⊥
 
+-- a directory that is not to be removed, in the one above it
+pub record DeniesSeal (site : Site) (state : State) (ask : Ask) (chain : List Entry) (error : Errno) : Type 0 where
+  pub parent : Entry
+  pub above : last_of (before_last chain) ≡ Some parent
+  pub because : IsClosed site state ask (last_of chain) (before_last chain) error
+      ⊎ IsUnwritable site state ask (last_of chain) (before_last chain) error ⊎ IsFull site state ask chain error
+
 abbrev pub Denies : Site → State → Ask → Request → Errno → Type 0
 Denies site state ask (request.Finish chain with) error = DeniesOp site state ask chain with error
 Denies site state ask (request.Reserve chain name) error = DeniesName site state ask chain name error
-Denies site state ask (request.Seal chain) error =
-    IsClosed site state ask (last_of chain) (before_last chain) error
-    ⊎ IsUnwritable site state ask (last_of chain) (before_last chain) error ⊎ IsFull site state ask chain error
+Denies site state ask (request.Seal chain) error = DeniesSeal site state ask chain error
 Denies site state ask other_request error = ⊥

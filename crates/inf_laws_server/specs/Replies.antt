@@ -78,6 +78,12 @@ Succeeds (reply.Stat kind meta) asked = is_look asked ≡ true
 Succeeds reply.Fine asked = is_plain asked ≡ true
 Succeeds other_reply asked = ⊥
 
+-- where something changed, it is said that all went well, or which version was reserved
+abbrev pub TellsOfNoChange : Reply → Type 0
+TellsOfNoChange reply.Fine = ⊥
+TellsOfNoChange (reply.Reserved version) = ⊥
+TellsOfNoChange other_reply = Unit {0}
+
 -- ---- failures
 
 abbrev pub is_failure : Reply → Bool

@@ -7,7 +7,6 @@ pub mod StraightSteps
 pub mod StraightMoves
 pub mod StraightLaws
 pub mod UnansweredFacts
-pub mod PlainReplies
 pub mod RunSteps
 pub mod RunMoves
 pub mod ShownFacts

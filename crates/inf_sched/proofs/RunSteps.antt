@@ -18,6 +18,7 @@ use Rattle.inf_message.specs.declared.ask.Ask.{Ask}
 use Rattle.inf_message.specs.declared.event.Event.{Event}
 use Rattle.inf_message.specs.declared.event.Event.TheVariants as event
 use Rattle.inf_message.specs.declared.reply.Reply.{Reply}
+use Rattle.inf_message.specs.declared.reply.Reply.TheVariants as reply
 use Rattle.inf_message.specs.History.{Posted, posted_ask, told_reply}
 use Rattle.inf_sched.specs.Laws.{is_no_mem, wanted}
 use Rattle.inf_sched.specs.Scene.{Scene, MakesAsk, MakesServe, can_ask, client_in, is_ask, planned, planned_from}
@@ -26,9 +27,14 @@ use Rattle.inf_sched.specs.Waiting.{IsWaiting, Posting, oldest}
 use Rattle.inf_sched.proofs.RunFacts.{waiting_found}
 use Rattle.inf_sched.proofs.BuiltFacts.{neither}
 use Rattle.inf_sched.proofs.CalmFacts.{ShowsNoWant, after_planned, after_served, begun_planned, plain_after, plain_recorded, plain_told}
-use Rattle.inf_sched.proofs.PlainReplies.{machine_plain, machine_serves}
+use Rattle.inf_laws_server.proofs.Serves.{machine_serves, machine_wants_none}
 use Rattle.inf_sched.proofs.StraightSteps.{IsCalm, asking_of, asks_within}
 use Rattle.inf_server.specs.Machine.{machine}
+
+-- a reply that is another than that memory is wanted
+plain_reply : (given : Reply) → (given ≡ reply.NoMem → ⊥) → is_no_mem given ≡ false
+plain_reply reply.NoMem not = absurd (not refl)
+plain_reply other_reply not = refl
 
 -- the new scene comes about so, and nothing has wanted memory
 pub record Comes (world : World) (By : Scene → Type 0) (new : Scene) : Type 0 where
@@ -107,7 +113,7 @@ serve_comes world fits old p is calm =
     let at : IsWaiting h p = waiting_found fits h p is in
     let posted : Posted = posted_ask p.number at.ask in
     let given : Reply = (machine (site_of world p.number) (server_after world p.number h) p.place posted.ask).reply in
-    let plain : is_no_mem given ≡ false = machine_plain (site_of world p.number) (server_after world p.number h) p.place posted.ask in
+    let plain : is_no_mem given ≡ false = plain_reply _ (machine_wants_none (site_of world p.number) (server_after world p.number h) p.place posted.ask) in
     subst (λ (asking : Option Posted). Comes world (MakesServe world p.number p.place old) (with_event (event.Serve p.number p.place (reply_to world p.number p.place h asking)) old)) (sym at.asked)
     (record {
       by = record {

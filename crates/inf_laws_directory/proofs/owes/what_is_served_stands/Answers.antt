@@ -1,4 +1,4 @@
-use Rattle.std.proofs.Common.{◌≡◌, ℕ, List, Option, Some, Ok, ok_or, refl, sym, ap, ◌∙◌, subst}
+use Rattle.std.proofs.Common.{◌≡◌, ℕ, List, Option, Some, Ok, refl, sym, ap, ◌∙◌, subst}
 use Rattle.inf_base.specs.declared.access.Access.{Access}
 use Rattle.inf_base.specs.declared.answer.Answer.TheVariants as answer
 use Rattle.inf_base.specs.declared.call.Call.{Call}
@@ -16,11 +16,9 @@ use Rattle.inf_message.specs.declared.ask.Ask.{Ask}
 use Rattle.inf_message.specs.declared.op.Op.{Op}
 use Rattle.inf_message.specs.declared.op.Op.TheVariants as op
 use Rattle.inf_message.specs.declared.reply.Reply.{Reply}
-use Rattle.inf_message.specs.declared.reply.Reply.TheVariants as reply
 use Rattle.inf_message.specs.declared.request.Request.{Request}
 use Rattle.inf_message.specs.declared.request.Request.TheVariants as request
 use Rattle.inf_server.specs.Chains.{before_last, last_of}
-use Rattle.inf_server.specs.Checks.{asked_of}
 use Rattle.inf_server.specs.Machine.{on_request}
 use Rattle.inf_server.specs.Response.{Response}
 use Rattle.inf_server.specs.State.{Site, State}
@@ -35,13 +33,14 @@ use Rattle.inf_laws_directory.specs.Stands.{Stands}
 use Rattle.inf_laws_directory.specs.Told.{IsUnborn}
 use Rattle.inf_laws_directory.proofs.CallFacts.{same_phases}
 use Rattle.inf_laws_directory.proofs.ChainEnds.{last_key}
-use Rattle.inf_laws_directory.proofs.OpenDirectories.{is_open}
-use Rattle.inf_laws_directory.proofs.Outcomes.{Anything, IsReserved, IsStat, Nothing, cancel_comes, create_comes, drop_comes, forget_comes, link_comes, lookup_comes, make_comes, reserve_comes, rmdir_name_comes, seal_comes, stat_comes, unlink_comes, unseal_comes, walk_comes}
 use Rattle.inf_laws_directory.proofs.Owing.{IsOwed, WasServed, older, only_tells, settles, settles_fine, settles_fine_always, was_served}
-use Rattle.inf_laws_directory.proofs.PassedChecks.{gave, was_some}
 use Rattle.inf_laws_directory.proofs.SameContents.{nothing_seen}
-use Rattle.inf_laws_directory.proofs.ServedOrder.{looked_up}
 use Rattle.inf_laws_directory.proofs.StandingFacts.{looks_same, sealed_by_name}
+use Rattle.inf_laws_server.proofs.Births.{cancel_comes, link_comes, make_comes, reserve_comes}
+use Rattle.inf_laws_server.proofs.Files.{create_comes, rmdir_name_comes, stat_comes, walk_comes}
+use Rattle.inf_laws_server.proofs.Removals.{drop_comes, forget_comes, seal_comes, unlink_comes, unseal_comes}
+use Rattle.inf_laws_server.proofs.Lookups.{lookup_comes}
+use Rattle.inf_renames.specs.Renames.{least_version}
 use Rattle.inf_laws_directory.proofs.owes.what_is_served_stands.Goals as goal
 
 module _ (c : goal.After-served_clean_ups_stand) (service : Service) (objects : Objects) (number place : ℕ) (root : Access) (tree : Node) (phases : Phases) (ask : Ask)
@@ -85,11 +84,11 @@ module _ (c : goal.After-served_clean_ups_stand) (service : Service) (objects : 
       → AimsWith service objects root phases asked chain (op.Create name mode) → Served (request.Finish chain (op.Create name mode))
       → Owed idle (request.Finish chain (op.Create name mode)) asked given
   creates (call.Create text mode) chain name with_mode at aims served =
-      settles_fine service objects number place root tree phases ask given new standing unseen idle at (request.Finish chain (op.Create name with_mode)) (call.Create text mode) Anything served
-      (create_comes site state ask chain name with_mode)
+      settles_fine service objects number place root tree phases ask given new standing unseen idle at (request.Finish chain (op.Create name with_mode)) (call.Create text mode) served
+      (create_comes site state place ask chain name with_mode) (λ done. done.said)
       (λ error is. subst (λ (m : ℕ). IsRefused tree ask.caller (call.Create text m) error) aims.0
       (c.served_creations_stand.ensures.refused service objects number root tree phases ask text aims.1.path name with_mode chain error standing at aims.1.told aims.1.names is))
-      (λ is. stays_idle (λ (after : Phases). Decides service objects next root tree phases after ask.caller (call.Create text mode) answer.Done) at
+      (λ is done. stays_idle (λ (after : Phases). Decides service objects next root tree phases after ask.caller (call.Create text mode) answer.Done) at
       (subst (λ (m : ℕ). Decides service objects next root tree phases phases ask.caller (call.Create text m) answer.Done) aims.0
       (c.served_creations_stand.ensures.done service objects number root tree phases ask text aims.1.path name with_mode chain end standing at aims.1.told aims.1.names is)))
   creates other_call chain name with_mode at aims served = absurd aims
@@ -98,17 +97,15 @@ module _ (c : goal.After-served_clean_ups_stand) (service : Service) (objects : 
       → AimsWith service objects root phases asked chain (op.Stat name) → Served (request.Finish chain (op.Stat name))
       → Owed idle (request.Finish chain (op.Stat name)) asked given
   stats (call.Stat text) chain name at aims served =
-      settles service objects number place root tree phases ask given new standing unseen idle at (request.Finish chain (op.Stat name)) (call.Stat text) Anything (λ e. IsStat e.reply) served
-      (stat_comes site state ask chain name)
+      settles service objects number place root tree phases ask given new standing unseen idle at (request.Finish chain (op.Stat name)) (call.Stat text) served
+      (stat_comes site state place ask chain name)
       (λ error is. c.served_looks_stand.ensures.not_told service objects number root tree phases ask text aims.path name chain error standing at aims.told aims.names is)
-      (λ is told. by given refl told is)
-    where
-      by : (r : Reply) → given ≡ r → IsStat r → Passes (request.Finish chain (op.Stat name))
-          → Owed idle (request.Finish chain (op.Stat name)) (call.Stat text) r
-      by (reply.Stat kind meta) same told is =
-          stays_idle (λ (after : Phases). Decides service objects next root tree phases after ask.caller (call.Stat text) (answer.Stat kind meta)) at
-          (c.served_looks_stand.ensures.told service objects number root tree phases ask text aims.path name chain end kind meta standing at aims.told aims.names is same)
-      by other_reply same told is = absurd told
+      (λ is done.
+      let kind = done.passed.kind in
+      let meta = done.passed.meta in
+      subst (Owed idle (request.Finish chain (op.Stat name)) (call.Stat text)) (sym done.said)
+      (stays_idle (λ (after : Phases). Decides service objects next root tree phases after ask.caller (call.Stat text) (answer.Stat kind meta)) at
+      (c.served_looks_stand.ensures.told service objects number root tree phases ask text aims.path name chain end kind meta standing at aims.told aims.names is done.said)))
   stats other_call chain name at aims served = absurd aims
 
   -- a walk that stops may be any call's
@@ -124,19 +121,19 @@ module _ (c : goal.After-served_clean_ups_stand) (service : Service) (objects : 
       → Owed idle (request.Finish chain (op.Walk name)) asked given
   walks asked chain name at aims served =
       let stop = stopped asked chain name aims in
-      settles service objects number place root tree phases ask given new standing unseen idle at (request.Finish chain (op.Walk name)) asked Anything Nothing served
-      (walk_comes site state ask chain name)
+      settles service objects number place root tree phases ask given new standing unseen idle at (request.Finish chain (op.Walk name)) asked served
+      (walk_comes site state place ask chain name)
       (λ error is. c.served_looks_stand.ensures.stopped service objects number root tree phases ask asked stop.text stop.path stop.rest name stop.next chain error standing at stop.told stop.on stop.names is)
-      (λ is never. absurd never)
+      (λ is done. absurd done.passed)
 
   removes_none : (asked : Call) (chain : List Entry) (name : List ℕ) → phases ask.from ≡ idle
       → AimsWith service objects root phases asked chain (op.RmdirName name) → Served (request.Finish chain (op.RmdirName name))
       → Owed idle (request.Finish chain (op.RmdirName name)) asked given
   removes_none (call.Rmdir text) chain name at aims served =
-      settles service objects number place root tree phases ask given new standing unseen idle at (request.Finish chain (op.RmdirName name)) (call.Rmdir text) Anything Nothing served
-      (rmdir_name_comes site state ask chain name)
+      settles service objects number place root tree phases ask given new standing unseen idle at (request.Finish chain (op.RmdirName name)) (call.Rmdir text) served
+      (rmdir_name_comes site state place ask chain name)
       (λ error is. c.served_looks_stand.ensures.no_directory service objects number root tree phases ask text aims.path name chain error standing at aims.told aims.names is)
-      (λ is never. absurd never)
+      (λ is done. absurd done.passed)
   removes_none other_call chain name at aims served = absurd aims
 
   finishes : (asked : Call) (chain : List Entry) (with : Op) → phases ask.from ≡ idle
@@ -152,75 +149,70 @@ module _ (c : goal.After-served_clean_ups_stand) (service : Service) (objects : 
 
   looks_up : (asked : Call) (key : LookKey) → phases ask.from ≡ idle → Served (request.Lookup key) → Owed idle (request.Lookup key) asked given
   looks_up asked key at served =
-      only_tells service objects number place root tree phases ask given new standing unseen idle at (request.Lookup key) asked key served
-      (lookup_comes site state key) (λ is. looked_up site state ask end key is)
+      only_tells service objects number place root tree phases ask given new standing unseen idle at key asked served (lookup_comes site state place ask key)
 
   reserves : (asked : Call) (chain : List Entry) (name : List ℕ) → phases ask.from ≡ idle
       → Aims service objects root phases ask.caller asked (request.Reserve chain name) → Served (request.Reserve chain name)
       → Owed idle (request.Reserve chain name) asked given
   reserves (call.Mkdir text mode) chain name at aims served =
-      settles service objects number place root tree phases ask given new standing unseen idle at (request.Reserve chain name) (call.Mkdir text mode) Anything (λ e. IsReserved e.reply) served
-      (reserve_comes site state ask chain name)
+      settles service objects number place root tree phases ask given new standing unseen idle at (request.Reserve chain name) (call.Mkdir text mode) served
+      (reserve_comes site state place ask chain name)
       (λ error is. c.served_reservations_stand.ensures.refused service objects number root tree phases ask text aims.path name mode chain error standing at aims.told aims.names is)
-      (λ is kept. by given refl kept is)
-    where
-      by : (r : Reply) → given ≡ r → IsReserved r → Passes (request.Reserve chain name)
-          → Owed idle (request.Reserve chain name) (call.Mkdir text mode) r
-      by (reply.Reserved version) same kept is =
-          let first = gave (asked_of site state ask.from chain) _ end is in
-          let last : Entry = first.value in
-          let ends : last_of chain ≡ Some last = (is_open service objects number ask.from chain last first.is).last in
-          subst (λ (o : Option Entry). GoesOnOlder service place objects next root tree phases (with_phase ask.from (reserved_at_end o idle name version) phases)) (sym ends)
-          (goes (has_reserved (dir_of last.access) name (triple.Of last.access.id name version))
-          (c.served_reservations_stand.ensures.done service objects number version root tree phases ask aims.path name chain last end standing at aims.told ends is same))
-      by other_reply same kept is = absurd kept
+      (λ is done.
+      let last : Entry = done.passed.entry in
+      let ends : last_of chain ≡ Some last = done.passed.is_asked.last in
+      let version = least_version last.access.id name state.renames in
+      subst (Owed idle (request.Reserve chain name) (call.Mkdir text mode)) (sym done.said)
+      (subst (λ (o : Option Entry). GoesOnOlder service place objects next root tree phases (with_phase ask.from (reserved_at_end o idle name version) phases)) (sym ends)
+      (goes (has_reserved (dir_of last.access) name (triple.Of last.access.id name version))
+      (c.served_reservations_stand.ensures.done service objects number version root tree phases ask aims.path name chain last end standing at aims.told ends is done.said))))
   reserves other_call chain name at aims served = absurd aims
 
   makes : (asked : Call) (parent : DirRef) (name : List ℕ) (birth wanted : Triple) → phases ask.from ≡ has_reserved parent name birth
       → wanted ≡ birth → IsUnborn service objects place → Served (request.Make wanted) → Owed (has_reserved parent name birth) (request.Make wanted) asked given
   makes asked parent name birth wanted at fits unborn served =
       settles_fine_always service objects number place root tree phases ask given new standing unseen (has_reserved parent name birth) at (request.Make wanted) asked served
-      (make_comes site state place ask wanted)
-      (λ is. c.served_makes_stand.ensures service objects number place root tree phases ask parent name birth end standing at unborn
+      (make_comes site state place ask wanted) (λ done. done.said) (λ error denies. denies)
+      (λ is done. c.served_makes_stand.ensures service objects number place root tree phases ask parent name birth end standing at unborn
       (subst (λ (b : Triple). Passes (request.Make b)) fits is))
 
   cancels : (asked : Call) (parent dir : DirRef) (name : List ℕ) (birth : Triple) → phases ask.from ≡ has_reserved parent name birth
       → dir ≡ parent → Served (request.Cancel dir) → Owed (has_reserved parent name birth) (request.Cancel dir) asked given
   cancels asked parent dir name birth at fits served =
       settles_fine_always service objects number place root tree phases ask given new standing unseen (has_reserved parent name birth) at (request.Cancel dir) asked served
-      (cancel_comes site state ask dir)
-      (λ is. goes idle (c.served_clean_ups_stand.ensures.cancelled service objects number root tree phases ask parent name birth end standing at
+      (cancel_comes site state place ask dir) (λ done. done.said) (λ error denies. denies)
+      (λ is done. goes idle (c.served_clean_ups_stand.ensures.cancelled service objects number root tree phases ask parent name birth end standing at
       (subst (λ (d : DirRef). Passes (request.Cancel d)) fits is)))
 
   drops_made : (asked : Call) (parent made dir : DirRef) (name : List ℕ) (birth : Triple) → phases ask.from ≡ has_made parent name birth made
       → dir ≡ made → Served (request.Drop dir) → Owed (has_made parent name birth made) (request.Drop dir) asked given
   drops_made asked parent made dir name birth at fits served =
       settles_fine_always service objects number place root tree phases ask given new standing unseen (has_made parent name birth made) at (request.Drop dir) asked served
-      (drop_comes site state ask dir)
-      (λ is. goes (has_reserved parent name birth) (c.served_clean_ups_stand.ensures.made_dropped service objects number root tree phases ask parent made name birth end standing at
+      (drop_comes site state place ask dir) (λ done. done.said) (λ error denies. denies)
+      (λ is done. goes (has_reserved parent name birth) (c.served_clean_ups_stand.ensures.made_dropped service objects number root tree phases ask parent made name birth end standing at
       (subst (λ (d : DirRef). Passes (request.Drop d)) fits is)))
 
   drops_unlinked : (asked : Call) (target dir : DirRef) → phases ask.from ≡ has_unlinked target
       → dir ≡ target → Served (request.Drop dir) → Owed (has_unlinked target) (request.Drop dir) asked given
   drops_unlinked asked target dir at fits served =
       settles_fine_always service objects number place root tree phases ask given new standing unseen (has_unlinked target) at (request.Drop dir) asked served
-      (drop_comes site state ask dir)
-      (λ is. goes idle (c.served_clean_ups_stand.ensures.dropped service objects number root tree phases ask target end standing at
+      (drop_comes site state place ask dir) (λ done. done.said) (λ error denies. denies)
+      (λ is done. goes idle (c.served_clean_ups_stand.ensures.dropped service objects number root tree phases ask target end standing at
       (subst (λ (d : DirRef). Passes (request.Drop d)) fits is)))
 
   unseals : (asked : Call) (parent target dir : DirRef) (name : List ℕ) → phases ask.from ≡ has_sealed parent name target
       → dir ≡ target → Served (request.Unseal dir) → Owed (has_sealed parent name target) (request.Unseal dir) asked given
   unseals asked parent target dir name at fits served =
       settles_fine_always service objects number place root tree phases ask given new standing unseen (has_sealed parent name target) at (request.Unseal dir) asked served
-      (unseal_comes site state ask dir)
-      (λ is. goes idle (c.served_clean_ups_stand.ensures.unsealed service objects number root tree phases ask parent target name end standing at
+      (unseal_comes site state place ask dir) (λ done. done.said) (λ error denies. denies)
+      (λ is done. goes idle (c.served_clean_ups_stand.ensures.unsealed service objects number root tree phases ask parent target name end standing at
       (subst (λ (d : DirRef). Passes (request.Unseal d)) fits is)))
 
   forgets : (asked : Call) (parent : Id) (dir : DirRef) → phases ask.from ≡ idle → Served (request.Forget parent dir) → Owed idle (request.Forget parent dir) asked given
   forgets asked parent dir at served =
       settles_fine_always service objects number place root tree phases ask given new standing unseen idle at (request.Forget parent dir) asked served
-      (forget_comes site state parent dir)
-      (λ is. goes idle (stays_idle (λ (after : Phases). GoesOn service objects next root tree phases after) at
+      (forget_comes site state place ask parent dir) (λ done. done.said) (λ error denies. denies)
+      (λ is done. goes idle (stays_idle (λ (after : Phases). GoesOn service objects next root tree phases after) at
       (c.served_clean_ups_stand.ensures.forgotten service objects number root tree phases ask parent dir end standing is)))
 
   links : (asked : Call) (parent made dir : DirRef) (kept name : List ℕ) (birth : Triple) (chain : List Entry) (mode : ℕ) → phases ask.from ≡ has_made parent kept birth made
@@ -229,8 +221,8 @@ module _ (c : goal.After-served_clean_ups_stand) (service : Service) (objects : 
       → Owed (has_made parent kept birth made) (request.Link chain name dir mode) asked given
   links (call.Mkdir text mode) parent made dir kept name birth chain with_mode at fits aims served =
       settles_fine_always service objects number place root tree phases ask given new standing unseen (has_made parent kept birth made) at (request.Link chain name dir with_mode) (call.Mkdir text mode) served
-      (link_comes site state ask chain dir with_mode)
-      (λ is.
+      (link_comes site state place ask chain name dir with_mode) (λ done. done.said) (λ error denies. denies)
+      (λ is done.
       let aimed = aims.1 in
       let may = aims.2 in
       let last : Entry = may.last in
@@ -252,16 +244,14 @@ module _ (c : goal.After-served_clean_ups_stand) (service : Service) (objects : 
   seals : (asked : Call) (chain : List Entry) → phases ask.from ≡ idle
       → Aims service objects root phases ask.caller asked (request.Seal chain) → Served (request.Seal chain) → Owed idle (request.Seal chain) asked given
   seals (call.Rmdir text) chain at aims served =
-      settles_fine service objects number place root tree phases ask given new standing unseen idle at (request.Seal chain) (call.Rmdir text) Anything served
-      (seal_comes site state ask chain)
+      settles_fine service objects number place root tree phases ask given new standing unseen idle at (request.Seal chain) (call.Rmdir text) served
+      (seal_comes site state place ask chain) (λ done. done.said)
       (λ error is. c.served_seals_stand.ensures.refused service objects number root tree phases ask text aims.path aims.name chain error standing at aims.told aims.names is)
-      (λ is.
-      let above = gave (ok_or (last_of (before_last chain)) reply.Other) _ end is in
-      let parent : Entry = above.value in
-      let first = gave (asked_of site state ask.from chain) _ end above.rest in
-      let target : Entry = first.value in
-      let at_parent : last_of (before_last chain) ≡ Some parent = was_some (last_of (before_last chain)) reply.Other parent above.is in
-      let at_last : last_of chain ≡ Some target = (is_open service objects number ask.from chain target first.is).last in
+      (λ is done.
+      let parent : Entry = done.passed.parent in
+      let target : Entry = done.passed.entry in
+      let at_parent : last_of (before_last chain) ≡ Some parent = done.passed.above in
+      let at_last : last_of chain ≡ Some target = done.passed.is_asked.last in
       let keyed = last_key aims.name target parent aims.path chain aims.told.links at_last at_parent in
       subst (λ (p : Phase). GoesOnOlder service place objects next root tree phases (with_phase ask.from p phases))
       (sym (sealed_is idle chain parent target (dir_of parent.access) aims.name at_parent at_last keyed))
@@ -275,14 +265,13 @@ module _ (c : goal.After-served_clean_ups_stand) (service : Service) (objects : 
       → Owed (has_sealed above kept removed) (request.Unlink chain) asked given
   unlinks (call.Rmdir text) above removed kept chain at fits aims served =
       settles_fine_always service objects number place root tree phases ask given new standing unseen (has_sealed above kept removed) at (request.Unlink chain) (call.Rmdir text) served
-      (unlink_comes site state ask chain)
-      (λ is.
+      (unlink_comes site state place ask chain) (λ done. done.said) (λ error denies. denies)
+      (λ is done.
       let aimed = aims.0 in
       let may = aims.1 in
       let parent : Entry = may.last in
-      let first = gave (ok_or (last_of chain) reply.Other) _ end is in
-      let target : Entry = first.value in
-      let at_last : last_of chain ≡ Some target = was_some (last_of chain) reply.Other target first.is in
+      let target : Entry = done.passed.target in
+      let at_last : last_of chain ≡ Some target = done.passed.last in
       let ends_above : dir_of parent.access ≡ above = subst (λ (o : Option Entry). EndsIn o above) may.ends fits.0 in
       let ends_in : dir_of target.access ≡ removed = subst (λ (o : Option Entry). EndsIn o removed) at_last fits.1 in
       let at_kept : phases ask.from ≡ has_sealed (dir_of parent.access) kept (dir_of target.access) =

@@ -8,7 +8,6 @@ use Rattle.inf_base.specs.Same.{dir_of}
 use Rattle.inf_content.specs.Contents.{slots_found}
 use Rattle.inf_content.specs.Slots.{slot_in, with_slot}
 use Rattle.inf_message.specs.declared.ask.Ask.{Ask}
-use Rattle.inf_server.specs.Checks.{asked_of}
 use Rattle.inf_server.specs.Files.{create, new_file}
 use Rattle.inf_server.specs.Response.{Response}
 use Rattle.inf_laws_directory.specs.Leads.{Leads}
@@ -22,11 +21,16 @@ use Rattle.inf_laws_directory.proofs.AskedFacts.{IsThere, is_there}
 use Rattle.inf_laws_directory.proofs.OpenDirectories.{IsOpen, is_open}
 use Rattle.inf_content.proofs.Ordered.{with_file_in_order}
 use Rattle.inf_laws_directory.proofs.OwnedFacts.{led_not_loose, sealed_by}
-use Rattle.inf_laws_directory.proofs.PassedChecks.{gave}
-use Rattle.inf_laws_directory.proofs.PassedRequests.{HasPut, created}
 use Rattle.inf_laws_directory.proofs.ServedSlots.{slot_changes}
 use Rattle.inf_laws_directory.proofs.SlotFacts.{with_slot_apart, with_slot_here}
 use Rattle.inf_laws_directory.proofs.SlotSteps.{MayChange, slot_step_keeps}
+use Rattle.inf_laws_server.proofs.Came.{Did}
+use Rattle.inf_laws_server.specs.Passed.{MayPut}
+use Rattle.inf_laws_directory.proofs.ServedKinds.{created, has_edited}
+use Rattle.inf_server.specs.Chains.{last_of}
+use Rattle.inf_message.specs.declared.request.Request.TheVariants as request
+use Rattle.inf_laws_server.specs.Edits as edit
+use Rattle.inf_message.specs.declared.op.Op.TheVariants as op
 use Rattle.inf_laws_directory.proofs.phases.creating_keeps.Goals as goal
 
 module _ (service : Service) (objects : Objects) (number : ℕ) (root : Access) (phases : Phases) (ask : Ask)
@@ -40,18 +44,17 @@ module _ (service : Service) (objects : Objects) (number : ℕ) (root : Access) 
   abbrev new : Slot
   new = file (new_file ask.caller mode) None
 
-  put : HasPut (site_in service number) (objects number) ask chain name done (λ entry. new)
-  put = created (site_in service number) (objects number) ask chain name done mode is
+  was_created : Did (site_in service number) (objects number) 0 ask (request.Finish chain (op.Create name mode)) done
+  was_created = created (site_in service number) (objects number) ask done chain name mode is
+
+  abbrev put : MayPut (site_in service number) (objects number) ask chain name
+  put = was_created.passed
 
   abbrev dir : DirRef
   dir = dir_of put.entry.access
 
   opened : IsOpen service objects ask.from chain put.entry
-  opened =
-      let first = gave (asked_of (site_in service number) (objects number) ask.from chain) _ done is in
-      let asked = is_open service objects number ask.from chain first.value first.is in
-      let same : first.value ≡ put.entry = cc (asked.last, put.is_asked.last) in
-      subst (λ (e : Entry). IsOpen service objects ask.from chain e) same asked
+  opened = is_open service objects number ask.from chain put.entry put.is_asked
 
   there : IsThere (content_in service objects dir)
   there = is_there (content_in service objects dir) opened.there
@@ -85,7 +88,7 @@ module _ (service : Service) (objects : Objects) (number : ℕ) (root : Access) 
       subst (λ (after : Phases). Keeps service objects next root phases after)
       (ap (λ (phase : Phase). with_phase ask.from phase phases) (sym at_idle) ∙ same_phases ask.from phases)
       (slot_step_keeps service objects next root phases ask.from idle dir name None (Some new) owned
-      (slot_changes service objects number done.state owned.order dir (with_slot name new) (with_file_in_order dir name (new_file ask.caller mode)) put.has there.value there.there
+      (slot_changes service objects number done.state owned.order dir (with_slot name new) (with_file_in_order dir name (new_file ask.caller mode)) (has_edited (site_in service number) (objects number) done.state ask.from (last_of chain) put.entry (edit.puts name (new_file ask.caller mode)) put.is_asked was_created.did) there.value there.there
       name None (Some new) free (with_slot_here name new there.value.slots) (λ other apart. with_slot_apart name other new there.value.slots apart))
       may_create)
 

@@ -7,11 +7,10 @@ use Rattle.inf_base.specs.Content.{Content}
 use Rattle.inf_base.specs.Same.{dir_of, is_same_call}
 use Rattle.inf_content.specs.Contents.{may_drop_found, seal_left, seal_of, slots_found}
 use Rattle.inf_message.specs.declared.ask.Ask.{Ask}
-use Rattle.inf_message.specs.declared.reply.Reply.TheVariants as reply
 use Rattle.inf_message.specs.declared.request.Request.TheVariants as request
 use Rattle.inf_server.specs.Removals.{drop_dir, unseal}
 use Rattle.inf_server.specs.Response.{Response}
-use Rattle.inf_server.specs.State.{is_here}
+use Rattle.inf_server.specs.State.{State}
 use Rattle.inf_laws_directory.specs.Objects.{Objects, Service, content_in, site_in, with_state}
 use Rattle.inf_laws_directory.specs.Owned.{AreOwned, Has, StandsUnder}
 use Rattle.inf_laws_directory.specs.Phases.{IsLoose, IsReserving, IsSealing, Phase, Phases, has_sealed, has_unlinked, idle, with_phase}
@@ -21,11 +20,10 @@ use Rattle.inf_laws_directory.proofs.CallFacts.{none_not_some, same_call_self}
 use Rattle.inf_laws_directory.proofs.ContentSteps.{MayBecome, content_step_owned, content_step_told}
 use Rattle.inf_laws_directory.proofs.Kept.{Becomes, changed_becomes, dropped_becomes}
 use Rattle.inf_laws_directory.proofs.OwnedFacts.{IsInHands, loose_in, one_bearer, one_loose, sealing_in}
-use Rattle.inf_laws_directory.proofs.PassedChecks.{passed}
-use Rattle.inf_laws_directory.proofs.PassedRequests.{dropped, unsealed}
 use Rattle.inf_laws_directory.proofs.SameContents.{kept_stay}
-use Rattle.inf_laws_directory.proofs.ServedOrder.{change_order, forgot}
 use Rattle.inf_laws_directory.proofs.ServedSlots.{orders_after}
+use Rattle.inf_laws_server.proofs.Serves.{done_in_order}
+use Rattle.inf_laws_directory.proofs.ServedKinds.{dropped, forgot, unsealed}
 use Rattle.inf_laws_directory.proofs.phases.ending_keeps.Goals as goal
 
 own_seal : (by : CallRef) (seal : Option CallRef) → seal ≡ Some by → seal_left by seal ≡ None
@@ -53,13 +51,13 @@ module _ (service : Service) (objects : Objects) (number : ℕ) (root : Access) 
 
   drops : Becomes service objects after_drop target None
   drops =
-      let here = passed (is_here (site_in service number) target.id) reply.Other _ done is in
-      dropped_becomes service objects number done.state target here.holds ask.from (owned.order number)
-      (ap (may_drop_found ask.from) has_it.0.there ∙ may_drop_own ask.from has_it.0.content has_it.0.seal) (dropped (site_in service number) (objects number) ask done target is)
+      let was_dropped = dropped (site_in service number) (objects number) ask done target is in
+      dropped_becomes service objects number done.state target was_dropped.passed.here ask.from (owned.order number)
+      (ap (may_drop_found ask.from) has_it.0.there ∙ may_drop_own ask.from has_it.0.content has_it.0.seal) (ap (λ (s : State). s.contents) was_dropped.did)
 
   may_drop : MayBecome service objects after_drop root phases ask.from idle target None
   may_drop = record {
-    order = orders_after objects number done.state owned.order (change_order (site_in service number) (objects number) ask done (owned.order number) (request.Drop target) is);
+    order = orders_after objects number done.state owned.order (done_in_order (site_in service number) (objects number) 0 ask done.reply done.state (request.Drop target) (dropped (site_in service number) (objects number) ask done target is) (owned.order number));
     becomes = drops;
     same_slots = sym hands.empty;
     not_loose = λ call apart loose. apart (one_loose service objects root phases owned ask.from call target hands loose);
@@ -107,18 +105,18 @@ module _ (service : Service) (objects : Objects) (number : ℕ) (root : Access) 
 
   lifts : Becomes service objects after_unseal target (Some (record kept { seal = None }))
   lifts =
-      let here = passed (is_here (site_in service number) target.id) reply.Other _ done is in
+      let was_unsealed = unsealed (site_in service number) (objects number) ask done target is in
       subst (λ (s : Option CallRef). Becomes service objects after_unseal target (Some (record kept { seal = s }))) (own_seal ask.from kept.seal has_sealed_it.0.seal)
       (subst (λ (o : Option Content). Becomes service objects after_unseal target (option_map (λ (c : Content). record c { seal = seal_left ask.from c.seal }) o)) has_sealed_it.0.there
-      (changed_becomes service objects number done.state target here.holds (λ (c : Content). record c { seal = seal_left ask.from c.seal }) (λ c. refl)
-      (unsealed (site_in service number) (objects number) ask done target is)))
+      (changed_becomes service objects number done.state target was_unsealed.passed.here (λ (c : Content). record c { seal = seal_left ask.from c.seal }) (λ c. refl)
+      (ap (λ (s : State). s.contents) was_unsealed.did)))
 
   not_loose : (call : CallRef) → IsLoose (phases call) target → ⊥
   not_loose call loose = (loose_in service objects root phases owned call target loose).unlinked parent name stands.access stands.linked stands.same
 
   may_unseal : MayBecome service objects after_unseal root phases ask.from idle target (Some (record kept { seal = None }))
   may_unseal = record {
-    order = orders_after objects number done.state owned.order (change_order (site_in service number) (objects number) ask done (owned.order number) (request.Unseal target) is);
+    order = orders_after objects number done.state owned.order (done_in_order (site_in service number) (objects number) 0 ask done.reply done.state (request.Unseal target) (unsealed (site_in service number) (objects number) ask done target is) (owned.order number));
     becomes = lifts;
     same_slots = sym (ap slots_found has_sealed_it.0.there);
     not_loose = λ call apart. not_loose call;
@@ -157,4 +155,4 @@ returns-clause-unsealed c = unsealing
 
 pub returns-clause-forgotten : goal.returns-clause-forgotten
 returns-clause-forgotten c = λ service objects number root phases ask parent target done owned is.
-    kept_stay service objects number done.state (forgot (site_in service number) (objects number) ask done parent target is) root phases owned
+    kept_stay service objects number done.state (ap (λ (s : State). s.contents) (forgot (site_in service number) (objects number) ask done parent target is).did) root phases owned

@@ -22,11 +22,14 @@ use Rattle.inf_laws_directory.proofs.AskedFacts.{same_last}
 use Rattle.inf_content.proofs.Ordered.{filled_in_order}
 use Rattle.inf_laws_directory.proofs.OwnedFacts.{full_not_loose, full_not_sealed, loose_in, one_loose}
 use Rattle.inf_laws_directory.proofs.OwnSlots.{first_own}
-use Rattle.inf_laws_directory.proofs.PassedRequests.{HasLinked, has_linked}
 use Rattle.inf_laws_directory.proofs.ServedSlots.{HasSlot, has_slot, slot_changes, slots_in_order}
 use Rattle.inf_laws_directory.proofs.ServiceFacts.{HasChanged}
 use Rattle.inf_laws_directory.proofs.SlotFacts.{IsChanged, first_is_changed}
 use Rattle.inf_laws_directory.proofs.SlotSteps.{MayChange, MayStand, SlotChanges, at_itself, slot_step_keeps}
+use Rattle.inf_laws_server.proofs.Came.{Did}
+use Rattle.inf_laws_directory.proofs.ServedKinds.{has_edited, linked_so}
+use Rattle.inf_message.specs.declared.request.Request.TheVariants as request
+use Rattle.inf_laws_server.specs.Edits as edit
 use Rattle.inf_laws_directory.proofs.phases.linking_keeps.Goals as goal
 
 module _ (service : Service) (objects : Objects) (number mode : ℕ) (root : Access) (phases : Phases) (ask : Ask)
@@ -56,12 +59,15 @@ module _ (service : Service) (objects : Objects) (number mode : ℕ) (root : Acc
   now = directory access None
 
   -- the request changed the slots of the directory where the call keeps the name
-  put : HasLinked (site_in service number) (objects number) end.state ask.from chain as_made
-  put = has_linked (site_in service number) (objects number) ask end chain made mode is
+  was_linked : Did (site_in service number) (objects number) 0 ask (request.Link chain name made mode) end
+  was_linked = linked_so (site_in service number) (objects number) ask end chain name made mode is
 
   has : HasChanged (site_in service number) (objects number) end.state dir (filled_in ask.from as_made)
-  has = subst (λ (e : Entry). HasChanged (site_in service number) (objects number) end.state (dir_of e.access) (filled_in ask.from as_made))
-      (same_last chain put.entry last put.is_asked.last at_last) put.has
+  has =
+      let put = was_linked.passed in
+      subst (λ (e : Entry). HasChanged (site_in service number) (objects number) end.state (dir_of e.access) (filled_in ask.from as_made))
+      (same_last chain put.entry last put.is_asked.last at_last)
+      (has_edited (site_in service number) (objects number) end.state ask.from (last_of chain) put.entry (edit.fills ask.from made mode ask.caller) put.is_asked was_linked.did)
 
   slot : HasSlot (content_in service objects dir) name was
   slot = has_slot (content_in service objects dir) name was has_it.0.slot

@@ -1,21 +1,16 @@
-use Rattle.std.proofs.Common.{◌≡◌, ℕ, Bool, true, false, cond, List, Option, Some, None, is_some, inr, Ok, Result, refl, sym, ap, ◌∙◌, subst}
+use Rattle.std.proofs.Common.{◌≡◌, ℕ, true, List, Option, Some, None, is_some, inr, Ok, refl, sym, ap, ◌∙◌, subst}
 use Rattle.inf_base.specs.declared.access.Access.{Access}
 use Rattle.inf_base.specs.declared.directory.DirRef.{DirRef}
 use Rattle.inf_base.specs.declared.id.Id.{Id}
 use Rattle.inf_base.specs.declared.triple.Triple.{Triple}
-use Rattle.inf_base.specs.Checks.{◌>>◌}
 use Rattle.inf_base.specs.Content.{Content}
 use Rattle.inf_base.specs.Identity.{identity}
-use Rattle.inf_base.specs.Same.{is_same_triple}
-use Rattle.inf_content.specs.Contents.{bearer, content_of_id, empty_content, made_at, made_of, seal_of, slots_found}
+use Rattle.inf_content.specs.Contents.{empty_content, made_at, seal_of, slots_found}
 use Rattle.inf_content.specs.Slots.{slot_in}
-use Rattle.inf_content.specs.declared.made.Made.TheVariants as made
 use Rattle.inf_message.specs.declared.ask.Ask.{Ask}
-use Rattle.inf_message.specs.declared.reply.Reply.{Reply}
-use Rattle.inf_message.specs.declared.reply.Reply.TheVariants as reply
-use Rattle.inf_server.specs.Births.{make, unless_there}
+use Rattle.inf_server.specs.Births.{make}
 use Rattle.inf_server.specs.Response.{Response}
-use Rattle.inf_server.specs.State.{is_here}
+use Rattle.inf_server.specs.State.{State}
 use Rattle.inf_laws_directory.specs.Objects.{Objects, Service, content_in, directories_of, site_in, with_state}
 use Rattle.inf_content.specs.Order.{AreInOrder}
 use Rattle.inf_laws_directory.specs.Owned.{AreOwned, Has, IsUnlinked, KeepsName}
@@ -28,19 +23,11 @@ use Rattle.inf_laws_directory.proofs.ContentSteps.{MayBecome, content_step_owned
 use Rattle.inf_laws_directory.proofs.Kept.{Becomes, made_becomes}
 use Rattle.inf_content.proofs.Ordered.{made_in_order}
 use Rattle.inf_laws_directory.proofs.OwnedFacts.{loose_in, sealing_in}
-use Rattle.inf_laws_directory.proofs.PassedChecks.{passed}
-use Rattle.inf_laws_directory.proofs.PassedRequests.{made}
 use Rattle.inf_laws_directory.proofs.ServedSlots.{orders_after}
+use Rattle.inf_laws_server.proofs.Came.{Did}
+use Rattle.inf_message.specs.declared.request.Request.TheVariants as request
+use Rattle.inf_laws_directory.proofs.ServedKinds.{made}
 use Rattle.inf_laws_directory.proofs.phases.making_keeps.Goals as goal
-
--- nothing of the identifier was there
-was_new : {B : Type 0} (birth : Triple) (found : Option Content) (next : Result B Reply) (end : B) → (unless_there (made_of birth found) >> next) ≡ Ok end → found ≡ None
-was_new birth None next end is = refl
-was_new birth (Some c) next end is = absurd (by (is_same_triple c.triple birth) is)
-  where
-    by : (b : Bool) → (unless_there (cond b (made.Bearer (bearer c)) (made.Clash c.triple)) >> next) ≡ Ok end → ⊥
-    by true is = cc
-    by false is = cc
 
 not_there : (found : Option Content) → found ≡ None → is_some found ≡ true → ⊥
 not_there None none there = cc
@@ -68,14 +55,14 @@ module _ (service : Service) (objects : Objects) (number place : ℕ) (root : Ac
   kept : KeepsName service objects ask.from parent name birth
   kept = subst (λ (p : Phase). Has service objects ask.from p) phase (owned.has ask.from)
 
+  was_made : Did (site_in service number) (objects number) place ask (request.Make birth) end
+  was_made = made (site_in service number) (objects number) ask end place birth is
+
   contents_made : end.state.contents ≡ made_at id place birth ask.from (objects number).contents
-  contents_made = made (site_in service number) (objects number) ask end place birth is
+  contents_made = ap (λ (s : State). s.contents) was_made.did
 
   comes : Becomes service objects next dir (Some new)
-  comes =
-      let here = passed (is_here (site_in service number) id) reply.Other _ end is in
-      made_becomes service objects number end.state id place birth ask.from here.holds
-      (was_new birth (content_of_id id (objects number).contents) _ end here.rest) contents_made
+  comes = made_becomes service objects number end.state id place birth ask.from was_made.passed.here was_made.passed.is_new contents_made
 
   none_there : content_in service objects dir ≡ None
   none_there = unborn.contents dir refl

@@ -14,7 +14,6 @@ use Rattle.inf_message.specs.declared.reply.Reply.TheVariants as reply
 use Rattle.inf_renames.specs.Renames.{least_version}
 use Rattle.inf_server.specs.Births.{access_to_come, reserve}
 use Rattle.inf_server.specs.Chains.{last_of}
-use Rattle.inf_server.specs.Checks.{asked_of}
 use Rattle.inf_server.specs.Response.{Response}
 use Rattle.inf_laws_directory.specs.Leads.{Leads}
 use Rattle.inf_laws_directory.specs.Objects.{Objects, Service, content_in, directories_of, site_in, with_state}
@@ -27,11 +26,14 @@ use Rattle.inf_laws_directory.proofs.CallFacts.{none_not_some}
 use Rattle.inf_laws_directory.proofs.Kept.{content_here}
 use Rattle.inf_content.proofs.Ordered.{reserved_in_order}
 use Rattle.inf_laws_directory.proofs.OwnedFacts.{led_not_loose}
-use Rattle.inf_laws_directory.proofs.PassedChecks.{asked, gave, reply_done}
-use Rattle.inf_laws_directory.proofs.PassedRequests.{HasPut, may_put, reserved_name}
 use Rattle.inf_laws_directory.proofs.ServedSlots.{slot_changes}
 use Rattle.inf_laws_directory.proofs.SlotFacts.{with_slot_apart, with_slot_here}
 use Rattle.inf_laws_directory.proofs.SlotSteps.{MayChange, SlotChanges, slot_step_keeps}
+use Rattle.inf_laws_server.proofs.Came.{Did}
+use Rattle.inf_laws_server.specs.Passed.{MayPut}
+use Rattle.inf_laws_directory.proofs.ServedKinds.{has_edited, reserved_name}
+use Rattle.inf_message.specs.declared.request.Request.TheVariants as request
+use Rattle.inf_laws_server.specs.Edits as edit
 use Rattle.inf_laws_directory.proofs.phases.reserving_keeps.Goals as goal
 
 module _ (service : Service) (objects : Objects) (number version : ℕ) (root : Access) (phases : Phases) (ask : Ask)
@@ -45,8 +47,11 @@ module _ (service : Service) (objects : Objects) (number version : ℕ) (root : 
   abbrev birth_in : Entry → Triple
   birth_in e = triple.Of e.access.id name (least_version e.access.id name (objects number).renames)
 
-  put : HasPut (site_in service number) (objects number) ask chain name end (λ entry. reserved ask.from (access_to_come (site_in service number) ask.caller (birth_in entry)))
-  put = reserved_name (site_in service number) (objects number) ask chain name end is
+  was_reserved : Did (site_in service number) (objects number) 0 ask (request.Reserve chain name) end
+  was_reserved = reserved_name (site_in service number) (objects number) ask end chain name is
+
+  abbrev put : MayPut (site_in service number) (objects number) ask chain name
+  put = was_reserved.passed
 
   same_entry : put.entry ≡ last
   same_entry = same_last chain put.entry last put.is_asked.last at_last
@@ -65,11 +70,9 @@ module _ (service : Service) (objects : Objects) (number version : ℕ) (root : 
 
   birth_told : birth_in put.entry ≡ birth
   birth_told =
-      let may = may_put (site_in service number) (objects number) ask chain name end _ is in
-      let same : may.entry ≡ last = same_last chain may.entry last may.is_asked.last at_last in
-      let given = reply_done (reply.Reserved (least_version may.entry.access.id name (objects number).renames)) _ end may.rest in
-      let numbers : least_version may.entry.access.id name (objects number).renames ≡ version = let both : reply.Reserved (least_version may.entry.access.id name (objects number).renames) ≡ reply.Reserved version = sym given ∙ told in cc in
-      ap birth_in (same_entry ∙ sym same) ∙ ap (λ (v : ℕ). triple.Of may.entry.access.id name v) numbers ∙ ap (λ (e : Entry). triple.Of e.access.id name version) same
+      let least = least_version put.entry.access.id name (objects number).renames in
+      let numbers : least ≡ version = (let both : reply.Reserved least ≡ reply.Reserved version = sym was_reserved.said ∙ told in cc) in
+      ap (λ (v : ℕ). triple.Of put.entry.access.id name v) numbers ∙ ap (λ (e : Entry). triple.Of e.access.id name version) same_entry
 
   kept_here : content_in service objects dir ≡ content_at dir (objects number).contents
   kept_here = content_here service objects number end.state dir put.is_asked.here
@@ -82,18 +85,14 @@ module _ (service : Service) (objects : Objects) (number version : ℕ) (root : 
 
   changes : SlotChanges service objects next dir name None (Some slot)
   changes =
-      slot_changes service objects number end.state owned.order dir (with_slot name slot) (reserved_in_order dir name ask.from access) put.has content_there.value content_there.there
+      slot_changes service objects number end.state owned.order dir (with_slot name slot) (reserved_in_order dir name ask.from access) (has_edited (site_in service number) (objects number) end.state ask.from (last_of chain) put.entry (edit.keeps name ask.from access) put.is_asked was_reserved.did) content_there.value content_there.there
       name None (Some slot) free (with_slot_here name slot content_there.value.slots)
       (λ other apart. with_slot_apart name other slot content_there.value.slots apart)
 
   not_sealed : (call : CallRef) → IsSealing (phases call) dir → ⊥
   not_sealed =
-      let first = gave (asked_of (site_in service number) (objects number) ask.from chain) _ end is in
-      let was = asked (site_in service number) (objects number) ask.from chain first.value first.is in
-      let same : first.value ≡ put.entry = same_last chain first.value put.entry was.last put.is_asked.last in
-      subst (λ (e : Entry). (call : CallRef) → IsSealing (phases call) (dir_of e.access) → ⊥) same
-      (asked_not_sealed service objects number root phases owned ask.from chain first.value first.is
-      (λ sealing. subst (λ (p : Phase). IsSealing p (dir_of first.value.access)) phase sealing))
+      asked_not_sealed service objects number root phases owned ask.from (last_of chain) put.entry put.is_asked
+      (λ sealing. subst (λ (p : Phase). IsSealing p (dir_of put.entry.access)) phase sealing)
 
   may_reserve : MayChange service objects next root phases ask.from (has_reserved dir name birth) dir name None (Some slot)
   may_reserve = record {

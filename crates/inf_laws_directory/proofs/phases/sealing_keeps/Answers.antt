@@ -12,7 +12,7 @@ use Rattle.inf_message.specs.declared.request.Request.TheVariants as request
 use Rattle.inf_server.specs.Chains.{before_last, last_of}
 use Rattle.inf_server.specs.Removals.{seal}
 use Rattle.inf_server.specs.Response.{Response}
-use Rattle.inf_server.specs.State.{is_here}
+use Rattle.inf_server.specs.State.{State, is_here}
 use Rattle.inf_laws_directory.specs.Leads.{Leads}
 use Rattle.inf_laws_directory.specs.Objects.{Objects, Service, content_in, directories_of, site_in, with_state}
 use Rattle.inf_laws_directory.specs.Owned.{AreOwned, Links}
@@ -27,11 +27,10 @@ use Rattle.inf_laws_directory.proofs.Kept.{Becomes, changed_becomes, content_her
 use Rattle.inf_laws_directory.proofs.AskedFacts.{IsThere, is_there}
 use Rattle.inf_laws_directory.proofs.OpenDirectories.{IsOpen, is_open}
 use Rattle.inf_laws_directory.proofs.OwnedFacts.{led_not_loose, sealed_by}
-use Rattle.inf_laws_directory.proofs.PassedChecks.{asked}
-use Rattle.inf_laws_directory.proofs.PassedRequests.{HasSealed}
-use Rattle.inf_laws_directory.proofs.PassedRequests as passed
-use Rattle.inf_laws_directory.proofs.ServedOrder.{change_order}
 use Rattle.inf_laws_directory.proofs.ServedSlots.{orders_after}
+use Rattle.inf_laws_server.proofs.Came.{Did}
+use Rattle.inf_laws_server.proofs.Serves.{done_in_order}
+use Rattle.inf_laws_directory.proofs.ServedKinds.{sealed_so}
 use Rattle.inf_laws_directory.proofs.phases.sealing_keeps.Goals as goal
 
 module _ (service : Service) (objects : Objects) (number : ℕ) (root : Access) (phases : Phases) (ask : Ask)
@@ -49,14 +48,14 @@ module _ (service : Service) (objects : Objects) (number : ℕ) (root : Access) 
   abbrev phase : Phase
   phase = has_sealed (dir_of parent.access) name dir
 
-  seals_it : HasSealed (site_in service number) (objects number) done.state ask.from chain
-  seals_it = passed.has_sealed (site_in service number) (objects number) ask done chain is
+  seals_it : Did (site_in service number) (objects number) 0 ask (request.Seal chain) done
+  seals_it = sealed_so (site_in service number) (objects number) ask done chain is
 
-  opened_first : IsOpen service objects ask.from chain seals_it.entry
-  opened_first = is_open service objects number ask.from chain seals_it.entry seals_it.asked
+  same_entry : seals_it.passed.entry ≡ target
+  same_entry = let ends = seals_it.passed.is_asked.last in cc (ends, at_last)
 
-  same_entry : seals_it.entry ≡ target
-  same_entry = let ends = opened_first.last in cc (ends, at_last)
+  opened_first : IsOpen service objects ask.from chain seals_it.passed.entry
+  opened_first = is_open service objects number ask.from chain seals_it.passed.entry seals_it.passed.is_asked
 
   opened : IsOpen service objects ask.from chain target
   opened = subst (λ (e : Entry). IsOpen service objects ask.from chain e) same_entry opened_first
@@ -68,19 +67,19 @@ module _ (service : Service) (objects : Objects) (number : ℕ) (root : Access) 
   sealed = record there.value { seal = Some ask.from }
 
   here : is_here (site_in service number) dir.id ≡ true
-  here = subst (λ (e : Entry). is_here (site_in service number) e.access.id ≡ true) same_entry (asked (site_in service number) (objects number) ask.from chain seals_it.entry seals_it.asked).here
+  here = subst (λ (e : Entry). is_here (site_in service number) e.access.id ≡ true) same_entry seals_it.passed.is_asked.here
 
   empty : there.value.slots ≡ []
   empty =
       sym (ap slots_found there.there)
       ∙ ap slots_found (content_here service objects number done.state dir here)
-      ∙ subst (λ (e : Entry). slots_at (dir_of e.access) (objects number).contents ≡ []) same_entry seals_it.empty
+      ∙ subst (λ (e : Entry). slots_at (dir_of e.access) (objects number).contents ≡ []) same_entry seals_it.passed.empty
 
   becomes : Becomes service objects next dir (Some sealed)
   becomes =
       subst (λ (o : Option Content). Becomes service objects next dir (option_map (λ (c : Content). record c { seal = Some ask.from }) o)) there.there
       (changed_becomes service objects number done.state dir here (λ (c : Content). record c { seal = Some ask.from }) (λ c. refl)
-      (subst (λ (e : Entry). done.state.contents ≡ sealed_at (dir_of e.access) ask.from (objects number).contents) same_entry seals_it.contents))
+      (subst (λ (e : Entry). done.state.contents ≡ sealed_at (dir_of e.access) ask.from (objects number).contents) same_entry (ap (λ (s : State). s.contents) seals_it.did)))
 
   linked : Links (directories_of service objects) (dir_of parent.access) name target.access
   linked = last_links (directories_of service objects) name target parent root path chain leads at_last at_parent
@@ -96,7 +95,7 @@ module _ (service : Service) (objects : Objects) (number : ℕ) (root : Access) 
 
   may_seal : MayBecome service objects next root phases ask.from phase dir (Some sealed)
   may_seal = record {
-    order = orders_after objects number done.state owned.order (change_order (site_in service number) (objects number) ask done (owned.order number) (request.Seal chain) is);
+    order = orders_after objects number done.state owned.order (done_in_order (site_in service number) (objects number) 0 ask done.reply done.state (request.Seal chain) seals_it (owned.order number));
     becomes = becomes;
     same_slots = same_slots;
     not_loose = λ call apart. not_loose call;

@@ -11,11 +11,10 @@ use Rattle.inf_content.specs.Contents.{dropped_at, may_drop_found, slots_found}
 use Rattle.inf_content.specs.Slot.{let_go}
 use Rattle.inf_content.specs.Slots.{lifted, slot_in}
 use Rattle.inf_message.specs.declared.ask.Ask.{Ask}
-use Rattle.inf_message.specs.declared.reply.Reply.TheVariants as reply
 use Rattle.inf_server.specs.Births.{cancel}
 use Rattle.inf_server.specs.Removals.{drop_dir}
 use Rattle.inf_server.specs.Response.{Response}
-use Rattle.inf_server.specs.State.{is_here}
+use Rattle.inf_server.specs.State.{State}
 use Rattle.inf_laws_directory.specs.Objects.{Objects, Service, site_in, with_state}
 use Rattle.inf_content.specs.Order.{AreInOrder}
 use Rattle.inf_laws_directory.specs.Owned.{AreOwned, Has, IsUnheld, KeepsName}
@@ -27,11 +26,12 @@ use Rattle.inf_laws_directory.proofs.ContentSteps.{MayBecome, content_step_owned
 use Rattle.inf_laws_directory.proofs.Kept.{Becomes, dropped_becomes}
 use Rattle.inf_content.proofs.Ordered.{dropped_in_order, lifted_in_order}
 use Rattle.inf_laws_directory.proofs.OwnedFacts.{IsInHands, full_not_loose, full_not_sealed, loose_in, one_bearer, one_loose, sealing_in}
-use Rattle.inf_laws_directory.proofs.PassedChecks.{passed}
-use Rattle.inf_laws_directory.proofs.PassedRequests.{cancelled, dropped}
 use Rattle.inf_laws_directory.proofs.ServedSlots.{has_slot, orders_after, slot_changes, slots_in_order}
 use Rattle.inf_laws_directory.proofs.SlotFacts.{lifted_one, lifted_slot, same_self}
 use Rattle.inf_laws_directory.proofs.SlotSteps.{MayChange, at_itself, slot_step_keeps}
+use Rattle.inf_laws_server.proofs.Came.{Did}
+use Rattle.inf_laws_directory.proofs.ServedKinds.{cancelled, dropped, has_lifted}
+use Rattle.inf_message.specs.declared.request.Request.TheVariants as request
 use Rattle.inf_laws_directory.proofs.phases.undoing_keeps.Goals as goal
 
 -- a slot that nobody holds and that the call did not reserve is left as it is
@@ -83,11 +83,12 @@ module _ (service : Service) (objects : Objects) (number : ℕ) (root : Access) 
 
   cancelling : Keeps service objects (with_state number done.state objects) root phases (with_phase ask.from idle phases)
   cancelling =
+      let was_lifted = cancelled (site_in service number) (objects number) ask done parent is in
       let slot = has_slot _ name (reserved ask.from kept.access) kept.slot in
       let sorted = slots_in_order service objects owned.order parent slot.content slot.there in
       let in_parent = λ (other : List ℕ) (s : Slot) (at : slot_in other slot.content.slots ≡ Some s). ap (λ (o : Option Content). slot_in other (slots_found o)) slot.there ∙ at in
       slot_step_keeps service objects (with_state number done.state objects) root phases ask.from idle parent name was None owned
-      (slot_changes service objects number done.state owned.order parent (lifted ask.from) (lifted_in_order parent ask.from) (cancelled (site_in service number) (objects number) ask done parent is)
+      (slot_changes service objects number done.state owned.order parent (lifted ask.from) (lifted_in_order parent ask.from) (has_lifted (site_in service number) (objects number) done.state ask.from parent was_lifted.passed.here was_lifted.did)
       slot.content slot.there name was None slot.slot_is
       (lifted_slot ask.from name slot.content.slots sorted ∙ ap (lifted_one ask.from) slot.slot_is ∙ (let same = same_call_self ask.from in rw same refl))
       (λ other apart. lifted_slot ask.from other slot.content.slots sorted
@@ -112,13 +113,15 @@ module _ (service : Service) (objects : Objects) (number : ℕ) (root : Access) 
   hands : IsInHands service objects ask.from made
   hands = (loose_in service objects root phases owned ask.from made loose_made).hands
 
+  was_dropped : Did (site_in service number) (objects number) 0 ask (request.Drop made) done
+  was_dropped = dropped (site_in service number) (objects number) ask done made is
+
   contents_dropped : done.state.contents ≡ dropped_at made ask.from (objects number).contents
-  contents_dropped = dropped (site_in service number) (objects number) ask done made is
+  contents_dropped = ap (λ (s : State). s.contents) was_dropped.did
 
   drops : Becomes service objects next made None
   drops =
-      let here = passed (is_here (site_in service number) made.id) reply.Other _ done is in
-      dropped_becomes service objects number done.state made here.holds ask.from (owned.order number)
+      dropped_becomes service objects number done.state made was_dropped.passed.here ask.from (owned.order number)
       (ap (may_drop_found ask.from) has_it.1 ∙ same_call_self ask.from) contents_dropped
 
   may_drop : MayBecome service objects next root phases ask.from (has_reserved parent name birth) made None

@@ -16,12 +16,15 @@ use Rattle.inf_laws_directory.specs.Phases.{Phase, Phases, has_sealed, has_unlin
 use Rattle.inf_laws_directory.specs.Steps.{Keeps}
 use Rattle.inf_laws_directory.specs.Things.{a_dir, thing_in}
 use Rattle.inf_content.proofs.Ordered.{without_slot_in_order}
-use Rattle.inf_laws_directory.proofs.PassedRequests.{HasUnlinked, named_so}
-use Rattle.inf_laws_directory.proofs.PassedRequests as passed
 use Rattle.inf_laws_directory.proofs.ServedSlots.{HasSlot, has_slot, slot_changes, slots_in_order}
 use Rattle.inf_laws_directory.proofs.ServiceFacts.{HasChanged}
 use Rattle.inf_laws_directory.proofs.SlotFacts.{without_slot_apart, without_slot_gone}
 use Rattle.inf_laws_directory.proofs.UnlinkSteps.{unlink_keeps}
+use Rattle.inf_laws_server.proofs.Came.{Did}
+use Rattle.inf_laws_server.specs.Passed.{MayUnlink}
+use Rattle.inf_laws_directory.proofs.ServedKinds.{has_edited, named_so, unlinked_so}
+use Rattle.inf_message.specs.declared.request.Request.TheVariants as request
+use Rattle.inf_laws_server.specs.Edits as edit
 use Rattle.inf_laws_directory.proofs.phases.unlinking_keeps.Goals as goal
 
 -- a slot in which a directory stands
@@ -42,15 +45,19 @@ module _ (service : Service) (objects : Objects) (number : ℕ) (root : Access) 
   abbrev dir : DirRef
   dir = dir_of parent.access
 
-  taken : HasUnlinked (site_in service number) (objects number) done.state chain
-  taken = passed.has_unlinked (site_in service number) (objects number) ask done chain is
+  was_unlinked : Did (site_in service number) (objects number) 0 ask (request.Unlink chain) done
+  was_unlinked = unlinked_so (site_in service number) (objects number) ask done chain is
+
+  abbrev taken : MayUnlink (site_in service number) (objects number) ask chain
+  taken = was_unlinked.passed
 
   changed : HasChanged (site_in service number) (objects number) done.state dir (without_slot name)
   changed =
       let same_target : taken.target ≡ target = (let ends = taken.last in cc (ends, at_last)) in
       let same_parent : taken.entry ≡ parent = (let ends = taken.is_asked.last in cc (ends, at_parent)) in
       let named = named_so taken.target target at taken.name name taken.named same_target at_key in
-      subst₂ (λ (e : Entry) (n : List ℕ). HasChanged (site_in service number) (objects number) done.state (dir_of e.access) (without_slot n)) same_parent named taken.has
+      subst₂ (λ (e : Entry) (n : List ℕ). HasChanged (site_in service number) (objects number) done.state (dir_of e.access) (without_slot n)) same_parent named
+      (has_edited (site_in service number) (objects number) done.state ask.from (last_of (before_last chain)) taken.entry (edit.takes taken.name) taken.is_asked was_unlinked.did)
 
   stands : StandsUnder service objects dir name (dir_of target.access)
   stands = (subst (λ (p : Phase). Has service objects ask.from p) at_sealed (owned.has ask.from)).1

@@ -1,9 +1,10 @@
-use Rattle.std.proofs.Common.{refl, sym, subst}
+use Rattle.std.proofs.Common.{ap, refl, subst, sym}
 use Rattle.inf_laws_directory.specs.Objects.{directories_of, site_in, with_state}
 use Rattle.inf_laws_directory.specs.Phases.{IsLoose, Phase, has_reserved, idle, with_phase}
 use Rattle.inf_laws_directory.proofs.SameContents.{nothing_seen}
-use Rattle.inf_laws_directory.proofs.ServedOrder.{forgot}
 use Rattle.inf_laws_directory.proofs.StandingFacts.{goes_on_unseen, looks_same, looks_same_beside, loose_unreached}
+use Rattle.inf_server.specs.State.{State}
+use Rattle.inf_laws_directory.proofs.ServedKinds.{forgot}
 use Rattle.inf_laws_directory.proofs.served.served_clean_ups_stand.Goals as goal
 
 pub returns-clause-made_dropped : goal.returns-clause-made_dropped
@@ -50,5 +51,5 @@ returns-clause-forgotten c = λ service objects number root tree phases ask pare
     let next = with_state number done.state objects in
     goes_on_unseen service objects next root tree phases phases standing.sorted
     (c.unseen_changes_stand.ensures (directories_of service objects) (directories_of service next) root tree standing.stands
-    (looks_same service objects next root (nothing_seen service objects number done.state (forgot (site_in service number) (objects number) ask done parent target is))))
+    (looks_same service objects next root (nothing_seen service objects number done.state (ap (λ (s : State). s.contents) (forgot (site_in service number) (objects number) ask done parent target is).did))))
     (c.ending_keeps.ensures.forgotten service objects number root phases ask parent target done standing.owned is)

@@ -4,15 +4,15 @@ use Rattle.inf_base.specs.declared.call.Call.TheVariants as call
 use Rattle.inf_base.specs.declared.directory.DirRef.{DirRef}
 use Rattle.inf_base.specs.Same.{dir_of}
 use Rattle.inf_content.specs.Contents.{slots_found}
-use Rattle.inf_server.specs.Checks.{asked_of}
 use Rattle.inf_laws_directory.specs.Objects.{directories_of, kept_with, site_in, with_state}
 use Rattle.inf_laws_directory.specs.Owned.{Has}
 use Rattle.inf_laws_directory.specs.Phases.{IsLoose, IsReserving, Phase, has_made, idle, with_phase}
 use Rattle.inf_laws_directory.proofs.ContentFacts.{slots_sorted}
 use Rattle.inf_laws_directory.proofs.OwnSlots.{first_own}
-use Rattle.inf_laws_directory.proofs.PassedChecks.{gave}
 use Rattle.inf_laws_directory.proofs.StandingFacts.{decides, is_at, nothing_stands}
 use Rattle.inf_laws_directory.proofs.Unreached.{unreached}
+use Rattle.inf_laws_directory.proofs.ServedKinds.{linked_so}
+use Rattle.inf_laws_server.proofs.Asked.{asked_again}
 use Rattle.inf_laws_directory.proofs.served.served_links_stand.Goals as goal
 
 pub returns : goal.returns
@@ -20,8 +20,9 @@ returns c = λ service objects number root tree phases ask text path name mode c
     let dirs = directories_of service objects in
     let dir = dir_of last.access in
     let owned = standing.owned in
-    let first = gave (asked_of (site_in service number) (objects number) ask.from chain) _ done is in
-    let leads = c.chains_are_true.ensures service objects number root phases ask.from path chain first.value owned told.told told.links first.is
+    let put = (linked_so (site_in service number) (objects number) ask done chain name made mode is).passed in
+    let leads = c.chains_are_true.ensures service objects number root phases ask.from path chain put.entry owned told.told told.links
+    (asked_again (site_in service number) (objects number) ask.from chain put.entry put.is_asked)
     (λ unlinked. (cc (at_made, unlinked))) in
     let at = is_at service objects root tree phases path chain last standing leads at_last in
     let has : Has service objects ask.from (has_made dir name birth made) = subst (λ (phase : Phase). Has service objects ask.from phase) at_made (owned.has ask.from) in
