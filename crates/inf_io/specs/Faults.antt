@@ -10,6 +10,10 @@ raised count = min (count + 1) (2 ^ 64 - 1)
 abbrev pub Rose : ℕ → ℕ → Type 0
 Rose before now = (before < now) ⊎ (now ≡ 2 ^ 64 - 1)
 
+-- the count is as before: nothing failed
+abbrev pub Stays : ℕ → ℕ → Type 0
+Stays before now = now ≡ before
+
 -- the count is one more after a failure, and stays otherwise
 abbrev pub count_after : Bool → ℕ → ℕ
 count_after is_failure count = if is_failure then raised count else count

@@ -13,6 +13,13 @@ IfTooLarge (Err faults.Read) P = ⊤
 IfTooLarge (Err (faults.TooLarge front)) P = P front.items
 IfTooLarge (Err faults.NoMemory) P = ⊤
 
+-- a fact that holds unless a read failed
+abbrev pub UnlessRead : {T : Type 0} → Result T ReadFault → Type 0 → Type 0
+UnlessRead (Ok all) P = P
+UnlessRead (Err faults.Read) P = ⊤
+UnlessRead (Err (faults.TooLarge front)) P = P
+UnlessRead (Err faults.NoMemory) P = P
+
 -- these bytes and one more were taken
 abbrev pub TookOneMore : Option (List ℕ) → Option (List ℕ) → List ℕ → Type 0
 TookOneMore old new front = (last : ℕ) × Consumes old new (front ++ last ∷ [])

@@ -19,6 +19,11 @@ abbrev pub OnFailedGive : Give → Type 0 → Type 0
 OnFailedGive (gives.Gave n) P = ⊤
 OnFailedGive gives.Failed P = P
 
+-- a fact that holds unless the put failed
+abbrev pub UnlessFailedGive : Give → Type 0 → Type 0
+UnlessFailedGive (gives.Gave n) P = P
+UnlessFailedGive gives.Failed P = ⊤
+
 abbrev pub is_failed_give : Give → Bool
 is_failed_give (gives.Gave n) = false
 is_failed_give gives.Failed = true

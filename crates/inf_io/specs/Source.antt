@@ -22,6 +22,12 @@ OnFailedTake (takes.Taken n) P = ⊤
 OnFailedTake takes.End P = ⊤
 OnFailedTake takes.Failed P = P
 
+-- a fact that holds unless the take failed
+abbrev pub UnlessFailedTake : Take → Type 0 → Type 0
+UnlessFailedTake (takes.Taken n) P = P
+UnlessFailedTake takes.End P = P
+UnlessFailedTake takes.Failed P = ⊤
+
 abbrev pub is_failed_take : Take → Bool
 is_failed_take (takes.Taken n) = false
 is_failed_take takes.End = false

@@ -1,7 +1,7 @@
 //! A sink in memory, for tests: it takes bytes in pieces up to its room, and fails by plan.
 ghost use Rattle.std.specs.Prelude.{◌≡◌, ◌≤◌, ◌<◌, ◌^◌, [], length, Some, IfOk};
-ghost use Rattle.inf_io.specs.Faults.{Rose};
-ghost use Rattle.inf_io.specs.Sink.{GivesTo, GivesWithin, OnFailedGive};
+ghost use Rattle.inf_io.specs.Faults.{Rose, Stays};
+ghost use Rattle.inf_io.specs.Sink.{GivesTo, GivesWithin, OnFailedGive, UnlessFailedGive};
 ghost use Rattle.inf_io.specs.MemSink.{after_put, put_answer};
 
 use crate::fault_plan::FaultPlan;
@@ -77,6 +77,7 @@ impl Sink for MemSink {
         ensures count { GivesWithin (length bytes.now) result }
         ensures bytes { GivesTo (Some self.old.held) (Some self.new.held) result bytes.now }
         ensures failed { OnFailedGive result (Rose self.old.faults self.new.faults) }
+        ensures stays { UnlessFailedGive result (Stays self.old.faults self.new.faults) }
         ensures never_falls { self.old.faults ≤ self.new.faults }
 
         // All that a put does.

@@ -1,7 +1,7 @@
 //! A source in memory, for tests: it gives its bytes in pieces, and fails by plan.
 ghost use Rattle.std.specs.Prelude.{◌≡◌, ◌≤◌, ◌<◌, ◌^◌, [], length, Some};
-ghost use Rattle.inf_io.specs.Faults.{Rose};
-ghost use Rattle.inf_io.specs.Source.{OnFailedTake, TakesFrom, TakesWithin};
+ghost use Rattle.inf_io.specs.Faults.{Rose, Stays};
+ghost use Rattle.inf_io.specs.Source.{OnFailedTake, TakesFrom, TakesWithin, UnlessFailedTake};
 ghost use Rattle.inf_io.specs.MemSource.{FillsFront, after_take, take_answer};
 
 use crate::fault_plan::FaultPlan;
@@ -69,6 +69,7 @@ impl Source for MemSource {
         ensures count { TakesWithin (length buf.old) result }
         ensures bytes { TakesFrom (Some self.old.left) (Some self.new.left) result buf.new }
         ensures failed { OnFailedTake result (Rose self.old.faults self.new.faults) }
+        ensures stays { UnlessFailedTake result (Stays self.old.faults self.new.faults) }
         ensures never_falls { self.old.faults ≤ self.new.faults }
 
         // All that a take does.

@@ -2,8 +2,8 @@
 ghost use Rattle.std.specs.Prelude.{◌≡◌, ◌≤◌, ◌<◌, length};
 ghost use Rattle.std.specs.Io.{ReadsAtMost};
 ghost use Rattle.std.specs.Io.KnownBytes.{ReadConsumes};
-ghost use Rattle.inf_io.specs.Faults.{Rose, count_after};
-ghost use Rattle.inf_io.specs.Source.{OnFailedTake, TakesFrom, TakesWithin, is_failed_take};
+ghost use Rattle.inf_io.specs.Faults.{Rose, Stays, count_after};
+ghost use Rattle.inf_io.specs.Source.{OnFailedTake, TakesFrom, TakesWithin, UnlessFailedTake, is_failed_take};
 
 use crate::interrupts::{MOST_TRIES, is_interrupted};
 use crate::source::Source;
@@ -49,6 +49,7 @@ impl<R: Read> Source for ReadSource<R> {
         ensures count { TakesWithin (length buf.old) result }
         ensures bytes { TakesFrom (R.remaining self.old.0) (R.remaining self.new.0) result buf.new }
         ensures failed { OnFailedTake result (Rose self.old.1 self.new.1) }
+        ensures stays { UnlessFailedTake result (Stays self.old.1 self.new.1) }
         ensures never_falls { self.old.1 ≤ self.new.1 }
 
         // Exactly the takes that fail are counted.

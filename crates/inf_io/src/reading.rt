@@ -1,9 +1,9 @@
 //! Reads all bytes of a source.
 ghost use Rattle.std.specs.Prelude.{◌≡◌, ◌+◌, ◌≤◌, ◌<◌, length, take, vec_len, IfOk, IfSome, OnOk, OnErr, IsOkUnless, IsErrOf};
 ghost use Rattle.std.specs.Io.KnownBytes.{IsAtEnd};
-ghost use Rattle.inf_io.specs.Faults.{Rose};
-ghost use Rattle.inf_io.specs.Source.{OnFailedTake};
-ghost use Rattle.inf_io.specs.Reading.{IfTooLarge, LosesAtMost, MovesBy, TookOneMore};
+ghost use Rattle.inf_io.specs.Faults.{Rose, Stays};
+ghost use Rattle.inf_io.specs.Source.{OnFailedTake, UnlessFailedTake};
+ghost use Rattle.inf_io.specs.Reading.{IfTooLarge, LosesAtMost, MovesBy, TookOneMore, UnlessRead};
 
 use crate::source::Source;
 use crate::take::Take;
@@ -83,6 +83,9 @@ pub fn read_all<S: Source>(
     ensures read { IsErrOf result ReadFault.Read → Rose (S.faults source.old) (S.faults source.new) }
     ensures complete { ¬ Rose (S.faults source.old) (S.faults source.new) →
         IfSome (S.left source.old) (λ bytes. length bytes ≤ limit → IsOkUnless result ReadFault.NoMemory) }
+
+    // All other answers, and so want of memory, come only where the source did not fail.
+    ensures stays { UnlessRead result (Stays (S.faults source.old) (S.faults source.new)) }
     ensures never_falls { S.faults source.old ≤ S.faults source.new }
 
     // What the source has lost: at a read fault no more than the limit, and else at most one more.
@@ -117,8 +120,11 @@ fn take_more<S: Source>(
         all.old.items all.new.items) }
     ensures failed { IfOk result
         (λ take. OnFailedTake take (Rose (S.faults source.old) (S.faults source.new))) }
+    ensures stays { IfOk result
+        (λ take. UnlessFailedTake take (Stays (S.faults source.old) (S.faults source.new))) }
     ensures never_falls { S.faults source.old ≤ S.faults source.new }
     ensures err { OnErr result (LosesAtMost most (S.left source.old) (S.left source.new)) }
+    ensures memory { OnErr result (Stays (S.faults source.old) (S.faults source.new)) }
 {
     let room = chunk.len().min(most);
     let taken = source.take(&mut chunk[..room]);

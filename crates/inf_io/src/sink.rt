@@ -1,8 +1,8 @@
 //! What takes bytes in.
 ghost use Rattle.std.specs.Prelude.{◌≡◌, ◌≤◌, ◌<◌, ℕ, List, None, length};
 ghost use Rattle.std.specs.declared.option.Option.{Option};
-ghost use Rattle.inf_io.specs.Faults.{Rose};
-ghost use Rattle.inf_io.specs.Sink.{GivesTo, GivesWithin, OnFailedGive};
+ghost use Rattle.inf_io.specs.Faults.{Rose, Stays};
+ghost use Rattle.inf_io.specs.Sink.{GivesTo, GivesWithin, OnFailedGive, UnlessFailedGive};
 
 use crate::give::Give;
 
@@ -20,6 +20,7 @@ pub trait Sink {
         ensures count { GivesWithin (length bytes.now) result }
         ensures bytes { GivesTo (held self.old) (held self.new) result bytes.now }
         ensures failed { OnFailedGive result (Rose (faults self.old) (faults self.new)) }
+        ensures stays { UnlessFailedGive result (Stays (faults self.old) (faults self.new)) }
         ensures never_falls { faults self.old ≤ faults self.new };
 
     /// How many faults there were. The count stops at the greatest `u64`.

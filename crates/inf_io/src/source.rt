@@ -1,8 +1,8 @@
 //! What gives bytes.
 ghost use Rattle.std.specs.Prelude.{◌≡◌, ◌≤◌, ◌<◌, ℕ, List, None, length};
 ghost use Rattle.std.specs.declared.option.Option.{Option};
-ghost use Rattle.inf_io.specs.Faults.{Rose};
-ghost use Rattle.inf_io.specs.Source.{OnFailedTake, TakesFrom, TakesWithin};
+ghost use Rattle.inf_io.specs.Faults.{Rose, Stays};
+ghost use Rattle.inf_io.specs.Source.{OnFailedTake, TakesFrom, TakesWithin, UnlessFailedTake};
 
 use crate::take::Take;
 
@@ -20,6 +20,7 @@ pub trait Source {
         ensures count { TakesWithin (length buf.old) result }
         ensures bytes { TakesFrom (left self.old) (left self.new) result buf.new }
         ensures failed { OnFailedTake result (Rose (faults self.old) (faults self.new)) }
+        ensures stays { UnlessFailedTake result (Stays (faults self.old) (faults self.new)) }
         ensures never_falls { faults self.old ≤ faults self.new };
 
     /// How many faults there were. The count stops at the greatest `u64`.

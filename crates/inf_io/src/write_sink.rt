@@ -2,8 +2,8 @@
 ghost use Rattle.std.specs.Prelude.{◌≡◌, ◌≤◌, ◌<◌, length};
 ghost use Rattle.std.specs.Io.{WritesAtMost};
 ghost use Rattle.std.specs.Io.KnownBytes.{WriteAppends};
-ghost use Rattle.inf_io.specs.Faults.{Rose, count_after};
-ghost use Rattle.inf_io.specs.Sink.{GivesTo, GivesWithin, OnFailedGive, is_failed_give};
+ghost use Rattle.inf_io.specs.Faults.{Rose, Stays, count_after};
+ghost use Rattle.inf_io.specs.Sink.{GivesTo, GivesWithin, OnFailedGive, UnlessFailedGive, is_failed_give};
 
 use crate::give::Give;
 use crate::interrupts::{MOST_TRIES, is_interrupted};
@@ -50,6 +50,7 @@ impl<W: Write> Sink for WriteSink<W> {
         ensures count { GivesWithin (length bytes.now) result }
         ensures bytes { GivesTo (W.contents self.old.0) (W.contents self.new.0) result bytes.now }
         ensures failed { OnFailedGive result (Rose self.old.1 self.new.1) }
+        ensures stays { UnlessFailedGive result (Stays self.old.1 self.new.1) }
         ensures never_falls { self.old.1 ≤ self.new.1 }
 
         // Exactly the puts that fail are counted.

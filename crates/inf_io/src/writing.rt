@@ -1,7 +1,7 @@
 //! Writes all of some bytes to a sink.
 ghost use Rattle.std.specs.Prelude.{◌≡◌, ◌≤◌, [], IsOk, OnOk, OnErr};
 ghost use Rattle.std.specs.Io.KnownBytes.{Appends};
-ghost use Rattle.inf_io.specs.Faults.{Rose};
+ghost use Rattle.inf_io.specs.Faults.{Rose, Stays};
 ghost use Rattle.inf_io.specs.Writing.{AppendsPrefix};
 
 use crate::give::Give;
@@ -30,6 +30,7 @@ pub fn write_all<K: Sink>(sink: &mut K, bytes: &[u8]) -> Result<(), WriteFault>
     // A fault comes only where the sink's count rose, and a front was then taken.
     ensures fault { OnErr result (Rose (K.faults sink.old) (K.faults sink.new)) }
     ensures prefix { OnErr result (AppendsPrefix (K.held sink.old) (K.held sink.new) bytes.now) }
+    ensures stays { OnOk result (Stays (K.faults sink.old) (K.faults sink.new)) }
     ensures never_falls { K.faults sink.old ≤ K.faults sink.new }
 {
     let mut rest = bytes;

@@ -1,9 +1,9 @@
 -- What writing a report does: its text waits in a buffer and goes to a sink in pieces.
-use Rattle.std.specs.Prelude.{◌≡◌, ℕ, ◌+◌, ◌-◌, ◌<◌, ◌≤◌, List, [], ◌++◌, length, filter, take, slice_get, slice_set, Option, Some, None, Result, Ok, Err}
+use Rattle.std.specs.Prelude.{◌≡◌, ℕ, ◌+◌, ◌-◌, ◌<◌, List, [], ◌++◌, length, filter, take, slice_get, slice_set, Option, Some, None, Result, Ok, Err}
 use Rattle.std.specs.Option.{option_to_list}
 use Rattle.std.specs.Io.KnownBytes.{Appends}
 use Rattle.inf_duty.specs.Outcome.{stands_at}
-use Rattle.inf_io.specs.Faults.{Rose}
+use Rattle.inf_io.specs.Faults.{Rose, Stays}
 use Rattle.inf_message.specs.declared.call_result.CallResult.{CallResult}
 use Rattle.inf_report.specs.declared.fault.ReportFault.{ReportFault}
 use Rattle.inf_report.specs.declared.fault.ReportFault.TheVariants as fault
@@ -27,7 +27,7 @@ pub record Moves (before after : Output) (text : List ℕ) : Type 0 where
   pub sent : List ℕ
   pub written : Appends before.held after.held sent
   pub whole : sent ++ after.waiting ≡ before.waiting ++ text
-  pub never_falls : before.faults ≤ after.faults
+  pub stays : Stays before.faults after.faults
 
 -- of the bytes that waited and this text, a front is written
 abbrev pub WritesFront : Output → Output → List ℕ → Type 0
@@ -36,7 +36,7 @@ WritesFront before after text = AppendsFront before.held after.held (before.wait
 -- what a fault leaves of putting this text
 abbrev pub FailsToPut : ReportFault → Output → Output → List ℕ → Type 0
 FailsToPut fault.Write before after text = Rose before.faults after.faults × WritesFront before after text
-FailsToPut fault.NoMemory before after text = WritesFront before after text
+FailsToPut fault.NoMemory before after text = Stays before.faults after.faults × WritesFront before after text
 
 -- what putting this text does
 abbrev pub Puts : {T : Type 0} → Result T ReportFault → Output → Output → List ℕ → Type 0

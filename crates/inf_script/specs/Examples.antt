@@ -5,17 +5,14 @@ use Rattle.std.specs.Str.{is_utf8}
 use Rattle.inf_base.specs.declared.call.Call.{Call}
 use Rattle.inf_base.specs.declared.call.Call.TheVariants as call
 use Rattle.inf_base.specs.declared.setup.ClientLine.{ClientLine}
-use Rattle.inf_base.specs.declared.limits.TheConstants.{MOST_CLIENTS, MOST_CALLS}
 use Rattle.inf_base.specs.Setup.{call_count}
 use Rattle.inf_order.specs.declared.moves.Move.{Move}
 use Rattle.inf_order.specs.declared.moves.Move.TheVariants as move
-use Rattle.inf_order.specs.declared.moves.TheConstants.{MOST_MOVES}
 use Rattle.inf_script.specs.declared.draft.Draft.{Draft}
 use Rattle.inf_script.specs.declared.refusal.Why.{Why}
 use Rattle.inf_script.specs.declared.refusal.Why.TheVariants as why
 use Rattle.inf_script.specs.declared.refusal.ScriptRefusal.{ScriptRefusal}
 use Rattle.inf_script.specs.declared.script.Script.{Script}
-use Rattle.inf_script.specs.declared.script.TheConstants.{MOST_LINE_BYTES, MOST_SCRIPT_BYTES}
 use Rattle.inf_script.specs.CallLine.{with_call}
 use Rattle.inf_script.specs.ClientLine.{with_client}
 use Rattle.inf_script.specs.Lines.{lines_of}
