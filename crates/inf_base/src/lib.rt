@@ -17,7 +17,6 @@ mod memory;
 mod name;
 mod sequence;
 mod setup;
-mod shared;
 mod text;
 mod triple;
 
@@ -40,6 +39,5 @@ pub use memory::{NoMemory, TryClone};
 pub use name::{Name, Names};
 pub use sequence::Sequence;
 pub use setup::{ClientLine, Clients, Setup};
-pub use shared::Shared;
 pub use text::Text;
 pub use triple::Triple;
