@@ -6,35 +6,29 @@ ghost use Rattle.inf_base.specs.declared.limits.TheConstants.{MOST_NAME_BYTES};
 use crate::limits::MOST_NAME_BYTES;
 use crate::memory::{NoMemory, TryClone};
 use crate::sequence::Sequence;
-use smallvec::SmallVec;
 use std::alloc::Global;
 use std::cmp::Ordering;
 use std::hash::{Hash, Hasher};
 use std::marker::Model;
 
-/// How many bytes of a name lie in the value itself. With the tag and the length that is half a cache line.
-const INLINE_BYTES: usize = 15;
-
 /// The bytes of a name, from 1 to 255 of them. Which bytes may stand in it is said where names are read.
-///
-/// A name of up to 15 bytes takes no memory beside the value.
 #[derive(Debug, Drop)]
 pub struct Name {
-    bytes: SmallVec<u8, INLINE_BYTES>,
+    bytes: Vec<u8>,
 }
 
 /// The names of a path, in path order.
 pub type Names = Sequence<Name>;
 
 impl Model for Name {
-    ghost use Rattle.std.specs.Prelude.{ℕ, List, ◌<◌, ◌≤◌, length};
+    ghost use Rattle.std.specs.Prelude.{ℕ, List, ◌<◌, ◌≤◌, vec_len};
     ghost use Rattle.inf_base.specs.declared.limits.TheConstants.{MOST_NAME_BYTES};
 
     ghost Value = { List ℕ };
 
     ghost view = { λ n. n.bytes.items };
 
-    ghost invariant = { λ n. (0 < length n.bytes.items) × (length n.bytes.items ≤ MOST_NAME_BYTES) };
+    ghost invariant = { λ n. (0 < vec_len n.bytes) × (vec_len n.bytes ≤ MOST_NAME_BYTES) };
 }
 
 impl Name {
@@ -43,9 +37,7 @@ impl Name {
         requires fits { vec_len bytes ≤ MOST_NAME_BYTES }
         ensures { result ≡ bytes.items }
     {
-        Name {
-            bytes: SmallVec::from_vec(bytes),
-        }
+        Name { bytes }
     }
 
     pub fn from_slice(alloc: Global, bytes: &[u8]) -> Result<Self, NoMemory>
@@ -53,9 +45,7 @@ impl Name {
         requires fits { length bytes.now ≤ MOST_NAME_BYTES }
         ensures { IfOk result (λ name. name ≡ bytes.now) }
     {
-        Ok(Name {
-            bytes: SmallVec::from_slice(alloc, bytes)?,
-        })
+        Ok(Name::new(Vec::from_slice(alloc, bytes)?))
     }
 
     pub fn as_slice(&self) -> &[u8]
