@@ -1,8 +1,11 @@
 -- Why a call is answered Again: the change in flight that touched it; and why IdClash: two births with one identifier.
 use Rattle.std.specs.Prelude.{◌≡◌, ◌≢◌, ℕ, suc, nat_lt, true, if◌then◌else◌, List, [], ◌∷◌, length, Some}
 use Rattle.inf_base.specs.declared.caller.CallRef.{CallRef}
+use Rattle.inf_base.specs.declared.id.Id.{Id}
 use Rattle.inf_base.specs.declared.triple.Triple.{Triple}
+use Rattle.inf_base.specs.Content.{Content}
 use Rattle.inf_base.specs.Identity.{identity}
+use Rattle.inf_content.specs.Contents.{content_of_id}
 use Rattle.inf_laws_history.specs.Flight.{InFlight, touches}
 use Rattle.inf_laws_history.specs.Legal.{server_after}
 use Rattle.inf_duty.specs.World.{World}
@@ -13,6 +16,7 @@ use Rattle.inf_message.specs.declared.reply.Reply.TheVariants as reply
 use Rattle.inf_message.specs.declared.reply.Spot.{Spot}
 use Rattle.inf_message.specs.declared.request.Request.TheVariants as request
 use Rattle.inf_message.specs.History.{Posted, asked_at, event_at}
+use Rattle.inf_server.specs.State.{State}
 
 -- the events of smaller places
 abbrev pub before : ℕ → List Event → List Event
@@ -41,6 +45,12 @@ pub record IsAgainBecause (world : World) (h : List Event) (result : CallResult)
   -- and at the server that replied it touched what was asked for, at the spot told
   pub touched : touches by spot posted.ask.request (server_after world number (before place h)) ≡ true
 
+-- the server keeps a directory of this identifier, and it is of this birth
+pub record KeepsBirth (state : State) (id : Id) (birth : Triple) : Type 0 where
+  pub content : Content
+  pub found : content_of_id id state.contents ≡ Some content
+  pub is_born : content.triple ≡ birth
+
 -- the call of this result was answered IdClash, for the directory that it was to make has the identifier of another
 pub record IsClashBecause (world : World) (h : List Event) (result : CallResult) (own kept : Triple) : Type 0 where
   -- the result has a place
@@ -58,3 +68,5 @@ pub record IsClashBecause (world : World) (h : List Event) (result : CallResult)
   -- the births differ, and their identifiers are equal
   pub unlike : own ≢ kept
   pub clash : identity world.digest own ≡ identity world.digest kept
+  -- and just before, that server kept the directory of the other one
+  pub keeps : KeepsBirth (server_after world number (before place h)) (identity world.digest own) kept
