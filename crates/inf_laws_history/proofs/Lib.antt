@@ -13,11 +13,13 @@ pub mod ContentBirths
 pub mod CourseFacts
 pub mod DecisionFacts
 pub mod DrivenFacts
+pub mod GivingUp
 pub mod GroupMessages
 pub mod HeldPlaces
 pub mod HistoryFacts
 pub mod IdleReplies
 pub mod LinkBirths
+pub mod Numbered
 pub mod Open
 pub mod Ordered
 pub mod OwnHistory
@@ -27,6 +29,8 @@ pub mod PendingFacts
 pub mod PhaseFacts
 pub mod PhaseFits
 pub mod PhaseTurns
+pub mod PlacedAnswers
+pub mod ReplayedAnswers
 pub mod ResultFacts
 pub mod ServeFacts
 pub mod ServeSteps

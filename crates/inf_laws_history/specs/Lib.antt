@@ -1,4 +1,5 @@
 pub mod Causes
+pub mod Counted
 pub mod Decisions
 pub mod Flight
 pub mod Kept
