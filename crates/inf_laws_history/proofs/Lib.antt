@@ -19,6 +19,7 @@ pub mod HeldPlaces
 pub mod HistoryFacts
 pub mod IdleReplies
 pub mod LinkBirths
+pub mod LinkReplies
 pub mod Numbered
 pub mod Open
 pub mod Ordered
