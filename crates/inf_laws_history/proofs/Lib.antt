@@ -4,9 +4,12 @@ pub mod AnswerOrder
 pub mod AskSteps
 pub mod AskedGroups
 pub mod BearerCauses
+pub mod Begun
+pub mod BehindEntries
 pub mod BirthFacts
 pub mod BlockedRequests
 pub mod BusyFacts
+pub mod BusyRounds
 pub mod ClashCauses
 pub mod ClientSteps
 pub mod ContentBirths
@@ -20,6 +23,7 @@ pub mod HistoryFacts
 pub mod IdleReplies
 pub mod LinkBirths
 pub mod LinkReplies
+pub mod NextAsks
 pub mod Numbered
 pub mod Open
 pub mod Ordered
@@ -31,6 +35,7 @@ pub mod PhaseFacts
 pub mod PhaseFits
 pub mod PhaseTurns
 pub mod PlacedAnswers
+pub mod PlacedResults
 pub mod ReplayedAnswers
 pub mod ResultFacts
 pub mod ServeFacts
@@ -39,3 +44,4 @@ pub mod StepFacts
 pub mod ToldResults
 pub mod TreeReplays
 pub mod Turns
+pub mod UnderWayFacts

@@ -47,11 +47,11 @@ pub record IsOfServes (P : Of) : Type 0 where
   pub clash : (own kept : Triple) (place : ℕ) → P (answer.IdClash own kept) (Some place)
   pub wanting : P answer.NoMemory None
 
-abbrev EndingIs : Of → Ending → Type 0
+abbrev pub EndingIs : Of → Ending → Type 0
 EndingIs P (answers given at) = P given at
 EndingIs P retries = Unit {0}
 
-abbrev StageIs : Of → Stage → Type 0
+abbrev pub StageIs : Of → Stage → Type 0
 StageIs P (winds ending m ms) = EndingIs P ending
 StageIs P other_stage = Unit {0}
 
@@ -59,7 +59,7 @@ abbrev TurnIs : Of → Turn → Type 0
 TurnIs P (goes_on next) = StageIs P next
 TurnIs P (winds_up ending more) = EndingIs P ending
 
-abbrev ResultIs : Of → CallResult → Type 0
+abbrev pub ResultIs : Of → CallResult → Type 0
 ResultIs P result = P result.answer result.place
 
 module _ (P : Of) (of : IsOfServes P) where
@@ -211,6 +211,9 @@ module _ (P : Of) (of : IsOfServes P) where
   answers_after world client (event.Serve number ask_place given ∷ h) =
       served_are ask_place (told_reply (suc (length h)) (heard given)) (client_after world client h) (answers_after world client h)
 
+  pub all_given_up_are : (s : Client) → AllAre s → AllAre (all_given_up s.left s)
+  all_given_up_are s are = kept_all_given_up AllAre kept s.left s are
+
   -- ---- all results
 
   module _ (open_yet : P answer.Unanswered None) where
@@ -235,7 +238,7 @@ module _ (P : Of) (of : IsOfServes P) where
         ⊎_elim
         (λ (same : mine ≡ results_of s). subst (All (ResultIs P)) (sym same) (results_are s are))
         (λ (gave : (s.sent ≡ []) × (mine ≡ results_of (all_given_up s.left s))).
-        subst (All (ResultIs P)) (sym gave.1) (results_are (all_given_up s.left s) (kept_all_given_up AllAre kept s.left s are)))
+        subst (All (ResultIs P)) (sym gave.1) (results_are (all_given_up s.left s) (all_given_up_are s are)))
         agrees
 
     -- the answers of all results, with their places

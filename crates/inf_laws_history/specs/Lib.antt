@@ -9,3 +9,4 @@ pub mod Pending
 pub mod Phases
 pub mod Replayed
 pub mod Sites
+pub mod UnderWay
