@@ -1,6 +1,6 @@
 -- A lookup under a name leads to the answer Again only where the client's Ask before it was told of a directory of the birth
 -- that the Busy reply names.
-use Rattle.std.proofs.Common.{◌≡◌, ◌≢◌, ◌⊎◌, inl, inr, ℕ, zero, suc, ◌<◌, ◌≤◌, true, eqb, List, [], ◌∷◌, length, map, slice_get, Option, Some, None, IfSome, All, refl, sym, ap, subst, ◌∙◌, arith}
+use Rattle.std.proofs.Common.{◌≡◌, inl, inr, ℕ, zero, suc, ◌<◌, ◌≤◌, true, eqb, List, [], ◌∷◌, length, map, slice_get, Option, Some, None, IfSome, All, refl, sym, ap, subst, ◌∙◌, arith}
 use Rattle.inf_base.specs.declared.access.Access.{Access}
 use Rattle.inf_base.specs.declared.answer.Answer.{Answer}
 use Rattle.inf_base.specs.declared.caller.CallRef.{CallRef}
@@ -16,7 +16,7 @@ use Rattle.inf_flow_dir.specs.Client.{Client, Sent, Stage, act, call_ref, has_pl
 use Rattle.inf_flow_dir.specs.Flow.{Flow, Who, finishes, links, makes, message_of, reserves, seals, unlinks}
 use Rattle.inf_flow_dir.specs.Group.{Course, group, keys_of, next_course}
 use Rattle.inf_flow_dir.specs.Heard.{heard}
-use Rattle.inf_flow_dir.specs.Turn.{act_turn, after_round, recorded}
+use Rattle.inf_flow_dir.specs.Turn.{act_turn, after_round}
 use Rattle.inf_laws_client.specs.Asked.{AreAskedFor}
 use Rattle.inf_laws_client.specs.Paths.{StandsOnPath}
 use Rattle.inf_laws_history.specs.Causes.{IsBehindEntry, before}
@@ -24,12 +24,12 @@ use Rattle.inf_laws_history.specs.Kept.{Kept}
 use Rattle.inf_laws_history.specs.Legal.{Legal, MayServe}
 use Rattle.inf_laws_history.specs.Objects.{WasAskedIn}
 use Rattle.inf_laws_history.proofs.AskedGroups.{asks_group, group_stays}
-use Rattle.inf_laws_history.proofs.BusyRounds.{IsBehind, IsFirst, IsToldIn, busy_round}
+use Rattle.inf_laws_history.proofs.BusyRounds.{IsBehind, IsToldIn, busy_round}
 use Rattle.inf_laws_history.proofs.NextAsks.{AreNext, NoneBetween, next_still, places_of, places_stay, two_of}
-use Rattle.inf_laws_history.proofs.PlacedResults.{IsBrought, ResultHas, outcome_has}
+use Rattle.inf_laws_history.proofs.PlacedResults.{IsBrought, outcome_has}
 use Rattle.inf_laws_history.proofs.StepFacts.{client_is}
 use Rattle.inf_laws_history.proofs.ToldResults.{AreServed, IsServedFor, IsServedIf, all_recorded, asked_before, before_stays, caused_after, newly_served, sent_stays}
-use Rattle.inf_laws_history.proofs.Turns.{IsAt, TurnOf, act_turn_at, first_told, weaker_turn}
+use Rattle.inf_laws_history.proofs.Turns.{IsAt, TurnOf, act_turn_at, weaker_turn}
 use Rattle.inf_message.specs.declared.call_result.CallResult.{CallResult}
 use Rattle.inf_message.specs.declared.event.Event.{Event}
 use Rattle.inf_message.specs.declared.event.Event.TheVariants as event

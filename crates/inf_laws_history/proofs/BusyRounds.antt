@@ -1,6 +1,6 @@
 -- Which lookup of a round leads to the answer that another call is in the way: the first, of the root, or one whose reply is
 -- of the directory that the lookup before it told.
-use Rattle.std.proofs.Common.{◌≡◌, ◌⊎◌, inl, inr, ℕ, zero, suc, ◌==◌, Bool, true, false, if◌then◌else◌, List, [], ◌∷◌, ◌++◌, slice_get, Option, Some, None, refl, sym, ap, subst, ◌∙◌}
+use Rattle.std.proofs.Common.{◌≡◌, ◌⊎◌, inl, inr, ℕ, zero, suc, ◌==◌, Bool, true, false, if◌then◌else◌, List, [], ◌∷◌, ◌++◌, slice_get, Option, Some, None, refl, sym, ap, ◌∙◌}
 use Rattle.std.proofs.lemmas.Bool.Decides.{Decides-eqb}
 use Rattle.inf_base.specs.declared.access.Access.{Access}
 use Rattle.inf_base.specs.declared.answer.Answer.{Answer}
@@ -46,7 +46,7 @@ abbrev pub IsToldIn : List Sent → Answer → ℕ → Type 0
 IsToldIn sent given place = IsFirst sent place ⊎ IsBehind sent place
 
 -- an Ask of the group that was told of an entry
-record Told1 (x : Sent) (key : Key) (access : Access) (stamp : ℕ) : Type 0 where
+record HasEntry (x : Sent) (key : Key) (access : Access) (stamp : ℕ) : Type 0 where
   is : x.told ≡ Some (record { serve_place = stamp; reply = reply.Found key access })
 
 -- ---- along the names
@@ -75,11 +75,11 @@ behind_one x y ys given place is = record {
 
 -- the next name steps on to an entry that its own Ask was told of, or stops, or is behind
 abbrev NextIs : Sent → Sent → List Sent → Next → Type 0
-NextIs x y ys (steps e) = Told1 y e.key e.access e.stamp
+NextIs x y ys (steps e) = HasEntry y e.key e.access e.stamp
 NextIs x y ys stops = Unit {0}
 NextIs x y ys (is_busy given place) = IsFrom x (y ∷ ys) given place
 
-module _ (x y : Sent) (ys : List Sent) (key : Key) (access : Access) (stamp : ℕ) (known : Told1 x key access stamp) where
+module _ (x y : Sent) (ys : List Sent) (key : Key) (access : Access) (stamp : ℕ) (known : HasEntry x key access stamp) where
   abbrev ahead : Entry
   ahead = told_entry key access stamp
 
@@ -116,7 +116,7 @@ module _ (x y : Sent) (ys : List Sent) (key : Key) (access : Access) (stamp : �
   next_is (Some told) is = by_reply told told.reply refl is
 
 -- the answer of a round is behind an entry that an Ask before it was told of
-follow_is : (course : Course) (chain : List Entry) (x : Sent) (key : Key) (access : Access) (stamp : ℕ) (names : List (List ℕ)) (xs : List Sent) → Told1 x key access stamp
+follow_is : (course : Course) (chain : List Entry) (x : Sent) (key : Key) (access : Access) (stamp : ℕ) (names : List (List ℕ)) (xs : List Sent) → HasEntry x key access stamp
     → TurnOf (IsFrom x xs) (follow course chain (told_entry key access stamp) names xs)
 follow_is course chain x key access stamp [] xs known = tt
 follow_is course chain x key access stamp (name ∷ names) [] known = tt
@@ -125,7 +125,7 @@ follow_is course chain x key access stamp (name ∷ names) (y ∷ ys) known =
     (λ k a at is. follow_is course (chain ++ told_entry k a at ∷ []) y k a at names ys is)
   where
     by : (next : Next) → NextIs x y ys next
-        → ((k : Key) (a : Access) (at : ℕ) → Told1 y k a at → TurnOf (IsFrom y ys) (follow course (chain ++ told_entry k a at ∷ []) (told_entry k a at) names ys))
+        → ((k : Key) (a : Access) (at : ℕ) → HasEntry y k a at → TurnOf (IsFrom y ys) (follow course (chain ++ told_entry k a at ∷ []) (told_entry k a at) names ys))
         → TurnOf (IsFrom x (y ∷ ys)) (by_next course chain name names (λ e. follow course (chain ++ e ∷ []) e names ys) next)
     by (steps e) is rest = weaker_turn (IsFrom y ys) (IsFrom x (y ∷ ys)) (behind_one x y ys) (follow course (chain ++ e ∷ []) e names ys) (rest e.key e.access e.stamp is)
     by stops is rest = tt

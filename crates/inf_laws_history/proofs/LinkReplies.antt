@@ -1,6 +1,6 @@
 -- A server that is asked to link a directory finds what the call reserved: it keeps the parent, and no other reply but this
 -- would say that it was not asked for.
-use Rattle.std.proofs.Common.{◌≡◌, ◌≢◌, ℕ, zero, suc, ◌==◌, Bool, true, false, cond, List, [], ◌∷◌, length, slice_get, Option, Some, None, is_some, Result, Ok, refl, sym, ap, ◌∙◌, subst, arith}
+use Rattle.std.proofs.Common.{◌≡◌, ◌≢◌, ℕ, Bool, true, false, cond, List, [], ◌∷◌, slice_get, Option, Some, None, is_some, Result, Ok, refl, sym, ap, ◌∙◌, subst}
 use Rattle.std.specs.Option.{ok_or}
 use Rattle.std.proofs.lemmas.Bool.Decides.{Decides-eqb}
 use Rattle.inf_base.specs.declared.caller.CallRef.{CallRef}
@@ -20,7 +20,6 @@ use Rattle.inf_flow_dir.specs.Client.{Client, Stage, act, call_ref, compose, rou
 use Rattle.inf_flow_dir.specs.Flow.{Flow, Who, finishes, id_or_root, last_id, links, made_dir, makes, message_of, reserves as keeps_name, seals, unlinks}
 use Rattle.inf_flow_dir.specs.Group.{group}
 use Rattle.inf_laws_directory.specs.Fits.{EndsIn, Fits}
-use Rattle.inf_laws_directory.specs.Objects.{directories_of}
 use Rattle.inf_laws_directory.specs.Owned.{Has}
 use Rattle.inf_laws_directory.specs.Phases.{Phase, Phases, has_made}
 use Rattle.inf_laws_directory.proofs.CallFacts.{same_call_self}
@@ -32,7 +31,6 @@ use Rattle.inf_laws_history.specs.Pending.{Waits}
 use Rattle.inf_laws_history.specs.Phases.{HasPhase}
 use Rattle.inf_laws_history.specs.Sites.{site_of}
 use Rattle.inf_laws_history.proofs.AgainCauses.{asker_fits, waits}
-use Rattle.inf_laws_history.proofs.ClientSteps.{who_after}
 use Rattle.inf_laws_history.proofs.GroupMessages.{look_in, only_one}
 use Rattle.inf_laws_history.proofs.PastLinks.{LinksAt, asker_links}
 use Rattle.inf_laws_history.proofs.PhaseFacts.{IsCleanUp}

@@ -1,5 +1,5 @@
 -- What each group of a legal history that comes to an answer with a place brings, each result with a place has.
-use Rattle.std.proofs.Common.{◌≡◌, ℕ, suc, ◌+◌, Bool, true, eqb, List, [], ◌∷◌, ◌++◌, length, slice_get, Option, None, Some, IfSome, All, refl, sym, subst, ⊎_elim}
+use Rattle.std.proofs.Common.{◌≡◌, ℕ, suc, ◌+◌, true, eqb, List, [], ◌∷◌, length, slice_get, Option, None, Some, IfSome, All, refl, sym, subst, ⊎_elim}
 use Rattle.std.proofs.lemmas.List.Elements.{All-append, All-cons, All-nil, All-push, All-weaker}
 use Rattle.inf_base.specs.declared.answer.Answer.{Answer}
 use Rattle.inf_base.specs.declared.answer.Answer.TheVariants as answer
@@ -17,7 +17,7 @@ use Rattle.inf_flow_dir.specs.Client.{Client, Ending, Stage, act, answers, call_
 use Rattle.inf_flow_dir.specs.Flow.{Flow, Who, clean_up}
 use Rattle.inf_flow_dir.specs.Group.{Course, composed_stage, keys_of, next_course}
 use Rattle.inf_flow_dir.specs.Heard.{heard}
-use Rattle.inf_flow_dir.specs.Turn.{Turn, act_turn, after_round, goes_on, is_complete, recorded, served, turn_at, turned, winds_up}
+use Rattle.inf_flow_dir.specs.Turn.{Turn, act_turn, after_round, goes_on, recorded, served, turn_at, turned, winds_up}
 use Rattle.inf_laws_history.specs.Legal.{Legal, MayServe}
 use Rattle.inf_laws_history.proofs.ClientSteps.{by_answer}
 use Rattle.inf_laws_history.proofs.Turns.{TurnOf}

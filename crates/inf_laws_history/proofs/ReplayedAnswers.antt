@@ -1,13 +1,10 @@
 -- Each result whose answer was decided has a place, and is among those that are replayed.
-use Rattle.std.proofs.Common.{◌≡◌, ℕ, zero, suc, ◌-◌, ◌≤◌, Bool, true, false, cond, List, [], ◌∷◌, ◌++◌, length, filter, get_or, slice_get, Option, None, Some, is_some, IfSome, All, refl, sym, ap, subst, ◌∙◌, ⊎_elim, arith}
+use Rattle.std.proofs.Common.{◌≡◌, ℕ, zero, suc, ◌-◌, ◌≤◌, Bool, true, false, cond, List, [], ◌∷◌, length, filter, get_or, Option, None, Some, is_some, IfSome, All, refl, sym, ap, subst, ◌∙◌, ⊎_elim, arith}
 use Rattle.std.specs.List.{Contains, cons_option, filter_map}
 use Rattle.std.proofs.lemmas.Bool.{cases_eq}
 use Rattle.std.proofs.lemmas.List.Elements.{Contains-append_left, Contains-append_right, Contains-get_or}
 use Rattle.inf_base.specs.declared.answer.Answer.{Answer}
-use Rattle.inf_base.specs.declared.call.Call.{Call}
-use Rattle.inf_base.specs.declared.setup.ClientLine.{ClientLine}
 use Rattle.inf_duty.specs.Outcome.{Outcome, in_order, is_place, stands_at}
-use Rattle.inf_duty.specs.Places.{HaveOwnPlaces}
 use Rattle.inf_duty.specs.World.{World}
 use Rattle.inf_laws_history.specs.Counted.{IsCounted, IsOfScript, answered, is_decided}
 use Rattle.inf_laws_history.specs.Replayed.{decided_by, decided_call, decided_of, decisions}
@@ -17,7 +14,6 @@ use Rattle.inf_laws_history.proofs.PlacedAnswers.{IsOfServes, outcome_are}
 use Rattle.inf_message.specs.declared.call_result.CallResult.{CallResult}
 use Rattle.inf_message.specs.declared.event.Event.{Event}
 use Rattle.inf_message.proofs.HistoryLaws.{itself}
-use Rattle.inf_tree.specs.Replay.{Decided}
 
 -- ---- an answer that was decided has a place
 

@@ -1,5 +1,5 @@
 -- A call that has something in hand at a place began before it, and ends behind it: its result tells so.
-use Rattle.std.proofs.Common.{◌≡◌, ◌≢◌, ◌⊎◌, inl, inr, ℕ, zero, suc, ◌+◌, ◌<◌, ◌≤◌, nat_lt, Bool, true, false, cond, eqb, List, [], ◌∷◌, ◌++◌, length, slice_get, Option, Some, None, is_some, IfSome, refl, sym, ap, subst, ◌∙◌, ⊎_elim, arith}
+use Rattle.std.proofs.Common.{◌≡◌, ◌≢◌, ◌⊎◌, inl, inr, ℕ, zero, suc, ◌+◌, ◌<◌, ◌≤◌, nat_lt, Bool, true, false, cond, eqb, List, [], ◌∷◌, ◌++◌, length, Option, Some, None, is_some, IfSome, refl, sym, ap, subst, ◌∙◌, ⊎_elim, arith}
 use Rattle.std.specs.List.{Contains}
 use Rattle.std.proofs.lemmas.Bool.{cases_eq}
 use Rattle.std.proofs.lemmas.Bool.Decides.{nat_tests}
@@ -23,12 +23,11 @@ use Rattle.inf_flow_dir.specs.Turn.{Turn, goes_on, later_place, recorded, served
 use Rattle.inf_laws_directory.specs.Phases.{Phase, idle}
 use Rattle.inf_laws_history.specs.Causes.{before}
 use Rattle.inf_laws_history.specs.Kept.{Kept}
-use Rattle.inf_laws_history.specs.Legal.{Legal}
 use Rattle.inf_laws_history.specs.Phases.{FlowHas, HasPhase}
 use Rattle.inf_laws_history.specs.Counted.{IsOfScript}
 use Rattle.inf_laws_history.specs.UnderWay.{IsAround, WasUnderWay}
 use Rattle.inf_laws_history.proofs.AgainCauses.{under_way}
-use Rattle.inf_laws_history.proofs.Begun.{IsBegun, IsInFlow, begun_after}
+use Rattle.inf_laws_history.proofs.Begun.{IsInFlow, begun_after}
 use Rattle.inf_laws_history.proofs.ClientSteps.{Lasts, by_answer, lasts_kept, turned_lasts}
 use Rattle.inf_laws_history.proofs.DrivenFacts.{others_stay}
 use Rattle.inf_laws_history.proofs.Numbered.{IsNumbered, IsUnder, is_of_script, numbered_after, so_far_call, total_of}
