@@ -55,10 +55,14 @@ ClashesAreOfBirths = (world : World) (h : List Event) (results : List CallResult
     → All (λ (result : CallResult). (own kept : Triple) → result.answer ≡ answer.IdClash own kept → IsClashBecause world h result own kept) results
 
 abbrev pub UnansweredAreLeft : Type 0
-UnansweredAreLeft = (world : World) (order : List Move) (h : List Event) (results : List CallResult) → ByOrder world order h results
-    → All (λ (result : CallResult). result.answer ≡ answer.Unanswered → IsLeftOpen world h result) results
+UnansweredAreLeft = (world : World) (order : List Move) (h : List Event) (results : List CallResult) (by : ByOrder world order h results)
+    → All (λ (result : CallResult). result.answer ≡ answer.Unanswered → IsLeftOpen world by.scene result) results
 
-module _ (counts : ResultsAreCounted) (agains : AgainsAreOfChanges) (clashes : ClashesAreOfBirths) (lefts : UnansweredAreLeft)
+abbrev pub LeftAreUnanswered : Type 0
+LeftAreUnanswered = (world : World) (order : List Move) (h : List Event) (results : List CallResult) (by : ByOrder world order h results)
+    → All (λ (result : CallResult). IsLeftOpen world by.scene result → result.answer ≡ answer.Unanswered) results
+
+module _ (counts : ResultsAreCounted) (agains : AgainsAreOfChanges) (clashes : ClashesAreOfBirths) (lefts : UnansweredAreLeft) (opens : LeftAreUnanswered)
     (script : Script) (events : List Event) (results : List CallResult)
     (valid : IsValid script.setup)
     (legal : Legal (world_of script.setup) (reverse events))
@@ -82,6 +86,7 @@ module _ (counts : ResultsAreCounted) (agains : AgainsAreOfChanges) (clashes : C
       again = λ by is. agains (world_of script.setup) (reverse events) results legal outcome k d inside by is;
       clash = λ own kept is. clashes (world_of script.setup) (reverse events) results legal outcome k d inside own kept is;
       unanswered = λ is. lefts (world_of script.setup) script.order (reverse events) results by_order k d inside is;
+      left_open = λ is. opens (world_of script.setup) script.order (reverse events) results by_order k d inside is;
     };
     told = ap (λ es. report script.setup es results) (sym (reverse-reverse events));
   }

@@ -21,7 +21,7 @@ use inf_laws_history::{
     again_names_a_change_in_flight, answers_are_replayed, clashes_are_of_two_births,
 };
 use inf_report::{ReportFault, write_report};
-use inf_sched::{schedule, unanswered_calls_are_left};
+use inf_sched::{calls_left_open_are_unanswered, schedule, unanswered_calls_are_left};
 use inf_script::{Script, ScriptRefusal, Why};
 use std::alloc::Global;
 
@@ -88,6 +88,7 @@ fn run_script<K: Sink>(alloc: Global, script: &Script, sink: &mut K) -> Status
     again_names_a_change_in_flight();
     clashes_are_of_two_births();
     unanswered_calls_are_left();
+    calls_left_open_are_unanswered();
     match schedule(alloc, &script.setup, script.order.as_slice()) {
         Ok(outcome) => write_outcome(alloc, &script.setup, &outcome, sink),
         Err(NoMemory) => Status::NoMemory,
