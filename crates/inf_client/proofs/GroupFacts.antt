@@ -1,17 +1,18 @@
 -- The asks of a group as they are kept and handed out, and how they find the client.
 use Rattle.std.proofs.Common.{◌≡◌, ℕ, ◌+◌, ◌-◌, ◌<◌, ◌≤◌, Bool, true, false, List, [], ◌∷◌, ◌++◌, length, map, slice_get, Option, Some, None, cond, is_some, refl, sym, ap, subst, ◌∙◌, arith}
 use Rattle.std.proofs.lemmas.List.{append-nil, append_assoc}
+use Rattle.inf_base.specs.declared.id.Id.{Id}
 use Rattle.inf_base.specs.declared.answer.Answer.TheVariants as answer
 use Rattle.inf_base.specs.declared.call.Call.{Call}
 use Rattle.inf_base.specs.declared.key.LookKey.{LookKey}
-use Rattle.inf_client.specs.Actor.{group_asks}
+use Rattle.inf_client.specs.Client.{group_asks}
 use Rattle.inf_client.specs.Group.{IsFound, IsPassed, IsReadied, posted_of, with_asks}
 use Rattle.inf_client.specs.Room.{room_between, room_within}
 use Rattle.inf_duty.specs.ClientStep.{is_ask}
 use Rattle.inf_duty.specs.Duty.{Next, asks, found_at, given_up, given_up_in, is_acting, is_over, lifts, next_in, next_of, next_step, waits}
 use Rattle.inf_duty.specs.Messages.{is_winding, post_of}
 use Rattle.inf_duty.specs.Outcome.{are_none, is_free}
-use Rattle.inf_flow_dir.specs.Client.{Client, Stage, act, answers, call_ref, compose, round, winds, wound}
+use Rattle.inf_flow_dir.specs.Client.{ClientState, Stage, act, answers, call_ref, compose, round, winds, wound}
 use Rattle.inf_flow_dir.specs.Flow.{Flow, Who, clean_up, finishes, links, makes, message_of, reserves, seals, unlinks}
 use Rattle.inf_flow_dir.specs.Group.{Course, composed, composed_stage, group, keys_of, lookup_of, next_course}
 use Rattle.inf_message.specs.declared.ask.Ask.{Ask}
@@ -40,7 +41,7 @@ kept_room (post ∷ posts) log fits =
 
 -- ---- an ask by its message
 
-pub record Sends (s : Client) (number : ℕ) (ask : Ask) : Type 0 where
+pub record Sends (s : ClientState) (number : ℕ) (ask : Ask) : Type 0 where
   pub message : Message
   pub at : slice_get (group s.who s.stage) (length s.sent) ≡ Some message
   pub post : post_of s message ≡ (number, ask)
@@ -50,7 +51,7 @@ post_in (asks number ask) other_post = (number, ask)
 post_in waits other_post = other_post
 post_in is_over other_post = other_post
 
-sends_of : (s : Client) (o : Option Message) (number : ℕ) (ask : Ask) → slice_get (group s.who s.stage) (length s.sent) ≡ o
+sends_of : (s : ClientState) (o : Option Message) (number : ℕ) (ask : Ask) → slice_get (group s.who s.stage) (length s.sent) ≡ o
     → next_of s o ≡ asks number ask → Sends s number ask
 sends_of s None number ask at is = absurd (cc)
 sends_of s (Some message) number ask at is = record {
@@ -59,25 +60,25 @@ sends_of s (Some message) number ask at is = record {
   post = ap (λ next. post_in next (number, ask)) is;
 }
 
-sends_in : (s : Client) (left : List Call) (number : ℕ) (ask : Ask) → next_in s left ≡ asks number ask → Sends s number ask
+sends_in : (s : ClientState) (left : List Call) (number : ℕ) (ask : Ask) → next_in s left ≡ asks number ask → Sends s number ask
 sends_in s [] number ask is = absurd (cc)
 sends_in s (call ∷ calls) number ask is = sends_of s (slice_get (group s.who s.stage) (length s.sent)) number ask refl is
 
-pub sends : (s : Client) (number : ℕ) (ask : Ask) → next_step s ≡ asks number ask → Sends s number ask
+pub sends : (s : ClientState) (number : ℕ) (ask : Ask) → next_step s ≡ asks number ask → Sends s number ask
 sends s number ask is = sends_in s s.left number ask is
 
-pub from_is : (s : Client) (number : ℕ) (ask : Ask) → next_step s ≡ asks number ask → ask.from ≡ call_ref s
+pub from_is : (s : ClientState) (number : ℕ) (ask : Ask) → next_step s ≡ asks number ask → ask.from ≡ call_ref s
 from_is s number ask is = sym (ap (λ (post : ℕ × Ask). post.1.from) (sends s number ask is).post)
 
-request_is : (s : Client) (number : ℕ) (ask : Ask) (sent : Sends s number ask) → ask.request ≡ sent.message.request
+request_is : (s : ClientState) (number : ℕ) (ask : Ask) (sent : Sends s number ask) → ask.request ≡ sent.message.request
 request_is s number ask sent = sym (ap (λ (post : ℕ × Ask). post.1.request) sent.post)
 
-posts_of : (s : Client) (messages : List Message) → map posted_of (map (post_of s) messages)
+posts_of : (s : ClientState) (messages : List Message) → map posted_of (map (post_of s) messages)
     ≡ map (λ (m : Message). posted_ask m.number (record { from = call_ref s; caller = s.who.caller; request = m.request })) messages
 posts_of s [] = refl
 posts_of s (m ∷ messages) = ap (λ later. posted_of (post_of s m) ∷ later) (posts_of s messages)
 
-first_in : (s : Client) (left : List Call) (messages : List Message) (number : ℕ) (ask : Ask) (others : List (ℕ × Ask)) (index : ℕ)
+first_in : (s : ClientState) (left : List Call) (messages : List Message) (number : ℕ) (ask : Ask) (others : List (ℕ × Ask)) (index : ℕ)
     → group s.who s.stage ≡ messages → length s.sent ≡ index → index ≡ 0
     → is_ask (next_in s left) ≡ true → map (post_of s) messages ≡ (number, ask) ∷ others → next_in s left ≡ asks number ask
 first_in s [] messages number ask others index all at first asking is = absurd (cc)
@@ -93,7 +94,7 @@ within_two (round keys) going = omega arith
 within_two (act flow) going = omega arith
 within_two (winds ending m ms) going = absurd (cc)
 
-pub whole_readied : (s : Client) (posts kept others : List (ℕ × Ask)) (number : ℕ) (ask : Ask) (before log : AskLog)
+pub whole_readied : (s : ClientState) (posts kept others : List (ℕ × Ask)) (number : ℕ) (ask : Ask) (before log : AskLog)
     → s.sent ≡ [] → is_ask (next_step s) ≡ true → is_winding s.stage ≡ false → before.ready ≡ []
     → posts ≡ map (post_of s) (group s.who s.stage) → kept ≡ map (post_of s) (group s.who s.stage) → posts ≡ (number, ask) ∷ others
     → log ≡ with_asks kept (with_room (length kept + 2) before) → IsReadied number ask others s before log
@@ -139,7 +140,7 @@ winding_room who (round keys) room winding fits = absurd (cc)
 winding_room who (act flow) room winding fits = absurd (cc)
 winding_room who (winds ending m ms) room winding fits = omega arith
 
-winding_asks : (s : Client) (number : ℕ) (ask : Ask) → is_winding s.stage ≡ true → s.sent ≡ [] → next_step s ≡ asks number ask
+winding_asks : (s : ClientState) (number : ℕ) (ask : Ask) → is_winding s.stage ≡ true → s.sent ≡ [] → next_step s ≡ asks number ask
     → group_asks s ≡ posted_ask number ask ∷ []
 winding_asks s number ask winding between next =
     let sent = sends s number ask next in
@@ -149,7 +150,7 @@ winding_asks s number ask winding between next =
     ∙ ap (λ messages. map posted_of (map (post_of s) messages)) (winding_group s.who s.stage sent.message winding at)
     ∙ ap (λ post. posted_of post ∷ []) sent.post
 
-pub winding_readied : (s : Client) (number number_kept : ℕ) (ask ask_kept : Ask) (others : List (ℕ × Ask)) (before log : AskLog)
+pub winding_readied : (s : ClientState) (number number_kept : ℕ) (ask ask_kept : Ask) (others : List (ℕ × Ask)) (before log : AskLog)
     → is_winding s.stage ≡ true → s.sent ≡ [] → before.ready ≡ [] → room_between s.who s.stage ≤ before.room
     → next_step s ≡ asks number_kept ask_kept → next_step s ≡ asks number ask → others ≡ []
     → log ≡ with_ready number_kept ask_kept before → IsReadied number ask others s before log
@@ -170,20 +171,20 @@ winding_readied s number number_kept ask ask_kept others before log winding betw
 
 -- ---- how the asks find the client
 
-same_winding : (s : Client) (stage : Stage) (asked : Request) → s.stage ≡ stage → is_winding stage ≡ true → s ≡ found_at asked s
-same_winding s compose asked at winding = absurd (cc)
-same_winding s (round keys) asked at winding = absurd (cc)
-same_winding s (act flow) asked at winding = absurd (cc)
-same_winding s (winds ending m ms) asked at winding = by (lifts asked)
+same_winding : (digest : List ℕ → Id) (s : ClientState) (stage : Stage) (asked : Request) → s.stage ≡ stage → is_winding stage ≡ true → s ≡ found_at digest asked s
+same_winding digest s compose asked at winding = absurd (cc)
+same_winding digest s (round keys) asked at winding = absurd (cc)
+same_winding digest s (act flow) asked at winding = absurd (cc)
+same_winding digest s (winds ending m ms) asked at winding = by (lifts asked)
   where
-    by : (b : Bool) → s ≡ cond b (cond (is_acting s.stage) (given_up s) s) (composed s)
+    by : (b : Bool) → s ≡ cond b (cond (is_acting s.stage) (given_up s) s) (composed digest s)
     by true = rw at refl
     by false = ap (λ stage. record s { stage = stage }) (rw at refl)
 
-pub winding_found : (s : Client) (number : ℕ) (ask : Ask) → is_winding s.stage ≡ true → next_step s ≡ asks number ask → IsFound ask s s
-winding_found s number ask winding next = record {
+pub winding_found : (digest : List ℕ → Id) (s : ClientState) (number : ℕ) (ask : Ask) → is_winding s.stage ≡ true → next_step s ≡ asks number ask → IsFound digest ask s s
+winding_found digest s number ask winding next = record {
   here = from_is s number ask next;
-  state = same_winding s s.stage ask.request refl winding;
+  state = same_winding digest s s.stage ask.request refl winding;
 }
 
 -- a group that does not wind its call up lifts nothing
@@ -197,8 +198,8 @@ keys_lift who (key ∷ keys) index message first at =
 flow_lifts : (who : Who) (flow : Flow) → lifts (message_of who flow).request ≡ false
 flow_lifts who (finishes chain asked) = refl
 flow_lifts who (reserves chain name mode) = refl
-flow_lifts who (makes chain name mode version) = refl
-flow_lifts who (links chain name mode version born) = refl
+flow_lifts who (makes chain name mode version id) = refl
+flow_lifts who (links chain name mode version dir) = refl
 flow_lifts who (seals chain) = refl
 flow_lifts who (unlinks chain) = refl
 
@@ -211,53 +212,53 @@ going_lifts who (act flow) message going at =
     ap (λ (m : Message). lifts m.request) (sym one) ∙ flow_lifts who flow
 going_lifts who (winds ending m ms) message going at = absurd (cc)
 
-keys_go : (who : Who) (course : Option Course) → is_winding (keys_of who course) ≡ false
-keys_go who None = refl
-keys_go who (Some course) = refl
+keys_go : (digest : List ℕ → Id) (who : Who) (course : Option Course) → is_winding (keys_of digest who course) ≡ false
+keys_go digest who None = refl
+keys_go digest who (Some course) = refl
 
-composed_goes_in : (s : Client) (stage : Stage) → is_winding stage ≡ false → is_winding (composed_stage s stage) ≡ false
-composed_goes_in s compose going = keys_go s.who (next_course s.left)
-composed_goes_in s (round keys) going = refl
-composed_goes_in s (act flow) going = refl
-composed_goes_in s (winds ending m ms) going = going
+composed_goes_in : (digest : List ℕ → Id) (s : ClientState) (stage : Stage) → is_winding stage ≡ false → is_winding (composed_stage digest s stage) ≡ false
+composed_goes_in digest s compose going = keys_go digest s.who (next_course s.left)
+composed_goes_in digest s (round keys) going = refl
+composed_goes_in digest s (act flow) going = refl
+composed_goes_in digest s (winds ending m ms) going = going
 
-pub composed_goes : (s : Client) → is_winding s.stage ≡ false → is_winding (composed s).stage ≡ false
-composed_goes s going = composed_goes_in s s.stage going
+pub composed_goes : (digest : List ℕ → Id) (s : ClientState) → is_winding s.stage ≡ false → is_winding (composed digest s).stage ≡ false
+composed_goes digest s going = composed_goes_in digest s s.stage going
 
-pub composed_found : (s : Client) (number : ℕ) (ask : Ask) → is_winding s.stage ≡ false → s.sent ≡ [] → next_step (composed s) ≡ asks number ask
-    → IsFound ask s (composed s)
-composed_found s number ask going between next =
-    let sent = sends (composed s) number ask next in
-    let at : slice_get (group s.who (composed s).stage) 0 ≡ Some sent.message =
-    ap (λ (index : ℕ). slice_get (group s.who (composed s).stage) index) (sym (ap length between)) ∙ sent.at in
+pub composed_found : (digest : List ℕ → Id) (s : ClientState) (number : ℕ) (ask : Ask) → is_winding s.stage ≡ false → s.sent ≡ [] → next_step (composed digest s) ≡ asks number ask
+    → IsFound digest ask s (composed digest s)
+composed_found digest s number ask going between next =
+    let sent = sends (composed digest s) number ask next in
+    let at : slice_get (group s.who (composed digest s).stage) 0 ≡ Some sent.message =
+    ap (λ (index : ℕ). slice_get (group s.who (composed digest s).stage) index) (sym (ap length between)) ∙ sent.at in
     let other : lifts ask.request ≡ false =
-    ap lifts (request_is (composed s) number ask sent) ∙ going_lifts s.who (composed s).stage sent.message (composed_goes s going) at in
+    ap lifts (request_is (composed digest s) number ask sent) ∙ going_lifts s.who (composed digest s).stage sent.message (composed_goes digest s going) at in
     record {
-      here = from_is (composed s) number ask next;
-      state = sym (ap (λ b. cond b (cond (is_acting s.stage) (given_up s) s) (composed s)) other);
+      here = from_is (composed digest s) number ask next;
+      state = sym (ap (λ b. cond b (cond (is_acting s.stage) (given_up s) s) (composed digest s)) other);
     }
 
 -- ---- giving a call up
 
-given_composed_in : (s : Client) (stage : Stage) → s.stage ≡ stage → given_up_in (composed s) (composed_stage s stage) ≡ given_up_in s stage
-given_composed_in s compose at = by (next_course s.left)
+given_composed_in : (digest : List ℕ → Id) (s : ClientState) (stage : Stage) → s.stage ≡ stage → given_up_in (composed digest s) (composed_stage digest s stage) ≡ given_up_in s stage
+given_composed_in digest s compose at = by (next_course s.left)
   where
-    by : (course : Option Course) → given_up_in (composed s) (keys_of s.who course) ≡ given_up_in s compose
+    by : (course : Option Course) → given_up_in (composed digest s) (keys_of digest s.who course) ≡ given_up_in s compose
     by None = refl
     by (Some course) = refl
-given_composed_in s (round keys) at = refl
-given_composed_in s (act flow) at = by (clean_up s.who flow)
+given_composed_in digest s (round keys) at = refl
+given_composed_in digest s (act flow) at = by (clean_up s.who flow)
   where
-    by : (messages : List Message) → wound (answers answer.NoMemory None) messages (composed s) ≡ wound (answers answer.NoMemory None) messages s
+    by : (messages : List Message) → wound (answers answer.NoMemory None) messages (composed digest s) ≡ wound (answers answer.NoMemory None) messages s
     by [] = refl
     by (m ∷ ms) = refl
-given_composed_in s (winds ending m ms) at = ap (λ stage. record s { stage = stage }) (rw at refl)
+given_composed_in digest s (winds ending m ms) at = ap (λ stage. record s { stage = stage }) (rw at refl)
 
 -- what is settled does not matter where the call is given up
-pub given_composed : (s : Client) → given_up (composed s) ≡ given_up s
-given_composed s = given_composed_in s s.stage refl
+pub given_composed : (digest : List ℕ → Id) (s : ClientState) → given_up (composed digest s) ≡ given_up s
+given_composed digest s = given_composed_in digest s s.stage refl
 
-given_room_in : (s : Client) (stage : Stage) → is_winding stage ≡ false
+given_room_in : (s : ClientState) (stage : Stage) → is_winding stage ≡ false
     → room_between (given_up_in s stage).who (given_up_in s stage).stage ≤ room_between s.who stage
 given_room_in s compose going = omega arith
 given_room_in s (round keys) going = omega arith
@@ -269,13 +270,13 @@ given_room_in s (act flow) going = by (clean_up s.who flow)
 given_room_in s (winds ending m ms) going = absurd (cc)
 
 -- there is room for the clean-up
-pub given_room : (s now : Client) (room : ℕ) → is_winding s.stage ≡ false → now ≡ given_up s → room_between s.who s.stage ≤ room
+pub given_room : (s now : ClientState) (room : ℕ) → is_winding s.stage ≡ false → now ≡ given_up s → room_between s.who s.stage ≤ room
     → room_between now.who now.stage ≤ room
 given_room s now room going is fits =
     let less = given_room_in s s.stage going in
-    subst (λ (t : Client). room_between t.who t.stage ≤ room) (sym is) (omega arith)
+    subst (λ (t : ClientState). room_between t.who t.stage ≤ room) (sym is) (omega arith)
 
-given_between_in : (s : Client) (stage : Stage) → is_winding stage ≡ false → (given_up_in s stage).sent ≡ []
+given_between_in : (s : ClientState) (stage : Stage) → is_winding stage ≡ false → (given_up_in s stage).sent ≡ []
 given_between_in s compose going = refl
 given_between_in s (round keys) going = refl
 given_between_in s (act flow) going = by (clean_up s.who flow)
@@ -285,10 +286,10 @@ given_between_in s (act flow) going = by (clean_up s.who flow)
     by (m ∷ ms) = refl
 given_between_in s (winds ending m ms) going = absurd (cc)
 
-pub given_between : (s : Client) → is_winding s.stage ≡ false → (given_up s).sent ≡ []
+pub given_between : (s : ClientState) → is_winding s.stage ≡ false → (given_up s).sent ≡ []
 given_between s going = given_between_in s s.stage going
 
-pub record WindsUp (s : Client) (asked : Request) : Type 0 where
+pub record WindsUp (s : ClientState) (asked : Request) : Type 0 where
   pub here : call_ref (given_up s) ≡ call_ref s
   pub lifted : lifts asked ≡ true
   pub acting : is_acting s.stage ≡ true
@@ -300,15 +301,15 @@ first_lifts (m ∷ messages) = lifts m.request
 clean_up_lifts : (who : Who) (flow : Flow) → first_lifts (clean_up who flow) ≡ true
 clean_up_lifts who (finishes chain asked) = refl
 clean_up_lifts who (reserves chain name mode) = refl
-clean_up_lifts who (makes chain name mode version) = refl
-clean_up_lifts who (links chain name mode version born) = refl
+clean_up_lifts who (makes chain name mode version id) = refl
+clean_up_lifts who (links chain name mode version dir) = refl
 clean_up_lifts who (seals chain) = refl
 clean_up_lifts who (unlinks chain) = refl
 
 cleans : (who : Who) (flow : Flow) (m : Message) (ms : List Message) → clean_up who flow ≡ m ∷ ms → lifts m.request ≡ true
 cleans who flow m ms is = sym (ap first_lifts is) ∙ clean_up_lifts who flow
 
-winds_in : (s : Client) (stage : Stage) (message : Message) → s.stage ≡ stage → is_winding stage ≡ false → is_winding (given_up_in s stage).stage ≡ true
+winds_in : (s : ClientState) (stage : Stage) (message : Message) → s.stage ≡ stage → is_winding stage ≡ false → is_winding (given_up_in s stage).stage ≡ true
     → slice_get (group s.who (given_up_in s stage).stage) 0 ≡ Some message → WindsUp s message.request
 winds_in s compose message at going winding there = absurd (cc)
 winds_in s (round keys) message at going winding there = absurd (cc)
@@ -326,7 +327,7 @@ winds_in s (act flow) message at going winding there = by (clean_up s.who flow) 
         }
 winds_in s (winds ending m ms) message at going winding there = absurd (cc)
 
-who_in : (s : Client) (stage : Stage) → (given_up_in s stage).who ≡ s.who
+who_in : (s : ClientState) (stage : Stage) → (given_up_in s stage).who ≡ s.who
 who_in s compose = refl
 who_in s (round keys) = refl
 who_in s (act flow) = by (clean_up s.who flow)
@@ -337,9 +338,9 @@ who_in s (act flow) = by (clean_up s.who flow)
 who_in s (winds ending m ms) = refl
 
 -- the clean-up of a call that is given up finds it
-pub given_up_found : (s : Client) (number : ℕ) (ask : Ask) → is_winding s.stage ≡ false → is_winding (given_up s).stage ≡ true
-    → next_step (given_up s) ≡ asks number ask → IsFound ask s (given_up s)
-given_up_found s number ask going winding next =
+pub given_up_found : (digest : List ℕ → Id) (s : ClientState) (number : ℕ) (ask : Ask) → is_winding s.stage ≡ false → is_winding (given_up s).stage ≡ true
+    → next_step (given_up s) ≡ asks number ask → IsFound digest ask s (given_up s)
+given_up_found digest s number ask going winding next =
     let sent = sends (given_up s) number ask next in
     let at : slice_get (group s.who (given_up s).stage) 0 ≡ Some sent.message =
     ap (λ (who : Who). slice_get (group who (given_up s).stage) 0) (sym (who_in s s.stage))
@@ -348,10 +349,10 @@ given_up_found s number ask going winding next =
     let lifted : lifts ask.request ≡ true = ap lifts (request_is (given_up s) number ask sent) ∙ up.lifted in
     record {
       here = from_is (given_up s) number ask next ∙ up.here;
-      state = sym (ap (λ b. cond b (cond (is_acting s.stage) (given_up s) s) (composed s)) lifted ∙ ap (λ b. cond b (given_up s) s) up.acting);
+      state = sym (ap (λ b. cond b (cond (is_acting s.stage) (given_up s) s) (composed digest s)) lifted ∙ ap (λ b. cond b (given_up s) s) up.acting);
     }
 
-passes_in : (s : Client) (stage : Stage) → s.stage ≡ stage → is_winding stage ≡ false → is_winding (given_up_in s stage).stage ≡ false → is_free s.who stage ≡ true
+passes_in : (s : ClientState) (stage : Stage) → s.stage ≡ stage → is_winding stage ≡ false → is_winding (given_up_in s stage).stage ≡ false → is_free s.who stage ≡ true
 passes_in s compose at going passed = refl
 passes_in s (round keys) at going passed = refl
 passes_in s (act flow) at going passed = by (clean_up s.who flow) passed
@@ -361,9 +362,9 @@ passes_in s (act flow) at going passed = by (clean_up s.who flow) passed
     by (m ∷ ms) passed = absurd (cc)
 passes_in s (winds ending m ms) at going passed = absurd (cc)
 
-pub passed : (s now : Client) → is_winding s.stage ≡ false → is_some (next_course s.left) ≡ true → now ≡ given_up s → is_winding now.stage ≡ false
+pub passed : (s now : ClientState) → is_winding s.stage ≡ false → is_some (next_course s.left) ≡ true → now ≡ given_up s → is_winding now.stage ≡ false
     → IsPassed s now
 passed s now going built is winds_not = record {
-  free = rw built (passes_in s s.stage refl going (ap (λ (t : Client). is_winding t.stage) (sym is) ∙ winds_not));
+  free = rw built (passes_in s s.stage refl going (ap (λ (t : ClientState). is_winding t.stage) (sym is) ∙ winds_not));
   state = is;
 }

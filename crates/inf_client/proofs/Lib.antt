@@ -1,4 +1,4 @@
-pub mod ActorFacts
+pub mod ClientFacts
 pub mod GroupFacts
 pub mod TestFacts
 pub mod ToldFacts

@@ -3,12 +3,13 @@ use Rattle.std.proofs.Common.{◌≡◌, ◌≢◌, ℕ, ◌<◌, ◌≤◌, Boo
 use Rattle.std.proofs.lemmas.Bool.{eqb-true}
 use Rattle.std.proofs.lemmas.List.{drop_all, length-map}
 use Rattle.std.specs.List.{cons_option, list_all, list_any}
-use Rattle.inf_client.specs.Actor.{IsAtRest, asks_left, group_asks, ready_in}
+use Rattle.inf_base.specs.declared.id.Id.{Id}
+use Rattle.inf_client.specs.Client.{IsAtRest, asks_left, group_asks, ready_in}
 use Rattle.inf_client.specs.Group.{IsKept, not_handed}
 use Rattle.inf_client.specs.Room.{room_in, room_needed, room_within}
-use Rattle.inf_client.proofs.ActorFacts.{asks_length, between_in, inside_room, ready_inside}
+use Rattle.inf_client.proofs.ClientFacts.{asks_length, between_in, inside_room, ready_inside}
 use Rattle.inf_client.proofs.TurnRoom.{next_fits, turned_between}
-use Rattle.inf_flow_dir.specs.Client.{Client, Sent, has_place, is_told, told_at}
+use Rattle.inf_flow_dir.specs.Client.{ClientState, Sent, has_place, is_told, told_at}
 use Rattle.inf_flow_dir.specs.Group.{group}
 use Rattle.inf_flow_dir.specs.Turn.{after_record, is_complete, recorded, served, settled, turn_at, turned}
 use Rattle.inf_message.specs.declared.ask.Ask.{Ask}
@@ -49,7 +50,7 @@ told_nothing place told log apart = ap (λ asks. record log { asks = asks }) (sy
 
 -- ---- the client
 
-kept_log : (s : Client) (gone : Bool) (log new : AskLog) (handed : Bool) (outbox : List (ℕ × Ask)) → IsKept s gone log handed outbox
+kept_log : (s : ClientState) (gone : Bool) (log new : AskLog) (handed : Bool) (outbox : List (ℕ × Ask)) → IsKept s gone log handed outbox
     → new.ready ≡ log.ready → new.room ≡ log.room → IsKept s gone new handed outbox
 kept_log s gone log new handed outbox kept ready room = record {
   at_rest = kept.at_rest;
@@ -68,16 +69,16 @@ told_inside : (place : ℕ) (told : Told) (sent : List Sent) → sent ≢ [] →
 told_inside place told [] inside = absurd (inside refl)
 told_inside place told (x ∷ sent) inside = λ none. absurd (cc)
 
-still_here : (s : Client) (gone : Bool) → IsAtRest s gone → s.sent ≢ [] → gone ≡ false
+still_here : (s : ClientState) (gone : Bool) → IsAtRest s gone → s.sent ≢ [] → gone ≡ false
 still_here s true rest inside = absurd (inside rest.0)
 still_here s false rest inside = refl
 
 -- within a group
-ready_within : (handed : Bool) (sent : List Sent) (s : Client) → sent ≢ [] → ready_in handed sent s ≡ asks_left s
+ready_within : (handed : Bool) (sent : List Sent) (s : ClientState) → sent ≢ [] → ready_in handed sent s ≡ asks_left s
 ready_within true sent s inside = refl
 ready_within false sent s inside = ready_inside sent s inside
 
-room_inside : (handed : Bool) (sent : List Sent) (s : Client) → sent ≢ [] → room_in handed sent s ≡ room_within s.stage
+room_inside : (handed : Bool) (sent : List Sent) (s : ClientState) → sent ≢ [] → room_in handed sent s ≡ room_within s.stage
 room_inside true sent s inside = refl
 room_inside false sent s inside = inside_room sent s inside
 
@@ -85,7 +86,7 @@ both_first : (a b : Bool) → (a && b) ≡ true → a ≡ true
 both_first true b e = refl
 both_first false b e = absurd (cc)
 
-module _ (s : Client) (gone : Bool) (log : AskLog) (handed : Bool) (outbox : List (ℕ × Ask)) (place : ℕ) (told : Told) (kept : IsKept s gone log handed outbox)
+module _ (digest : List ℕ → Id) (s : ClientState) (gone : Bool) (log : AskLog) (handed : Bool) (outbox : List (ℕ × Ask)) (place : ℕ) (told : Told) (kept : IsKept s gone log handed outbox)
     (inside : s.sent ≢ []) where
   sent_same : length (recorded place told s).sent ≡ length s.sent
   sent_same = length-map s.sent (told_at place told)
@@ -123,16 +124,16 @@ module _ (s : Client) (gone : Bool) (log : AskLog) (handed : Bool) (outbox : Lis
 
   -- the group is over
   kept_turned : is_complete (recorded place told s) ≡ true
-      → IsKept (turned (turn_at (recorded place told s) s.stage) (recorded place told s)) gone log handed outbox
+      → IsKept (turned (turn_at digest (recorded place told s) s.stage) (recorded place told s)) gone log handed outbox
   kept_turned complete =
       let r = recorded place told s in
-      let next = turned (turn_at r s.stage) r in
+      let next = turned (turn_at digest r s.stage) r in
       let all : length r.sent ≡ length (group s.who s.stage) =
       eqb-true (length r.sent) (length (group s.who s.stage)) (both_first (eqb (length r.sent) (length (group s.who s.stage))) (list_all is_told r.sent) complete) in
       let quiet : handed ≡ false = not_to_ask handed refl all in
       let many = asks_length s in
       let none : log.ready ≡ [] = left_same ∙ drop_all (length r.sent) (group_asks s) (omega arith) in
-      let between : next.sent ≡ [] = turned_between (turn_at r s.stage) r in
+      let between : next.sent ≡ [] = turned_between (turn_at digest r s.stage) r in
       record {
         at_rest = subst (IsAtRest next) (sym (still_here s gone kept.at_rest inside)) tt;
         in_step = record {
@@ -146,23 +147,23 @@ module _ (s : Client) (gone : Bool) (log : AskLog) (handed : Bool) (outbox : Lis
             let within : room_within s.stage ≤ log.room = subst (λ (n : ℕ). n ≤ log.room) (room_inside handed s.sent s inside) kept.room in
             subst (λ (n : ℕ). n ≤ log.room)
             (sym (ap (λ h. room_in h next.sent next) quiet ∙ ap (λ (sent : List Sent). room_in false sent next) between))
-            (next_fits r log.room within);
+            (next_fits digest r log.room within);
       }
 
-  kept_settled : (b : Bool) → is_complete (recorded place told s) ≡ b → IsKept (settled b (recorded place told s)) gone log handed outbox
+  kept_settled : (b : Bool) → is_complete (recorded place told s) ≡ b → IsKept (settled digest b (recorded place told s)) gone log handed outbox
   kept_settled true is = kept_turned is
   kept_settled false is = kept_recorded
 
-  kept_after : IsKept (after_record (recorded place told s)) gone log handed outbox
+  kept_after : IsKept (after_record digest (recorded place told s)) gone log handed outbox
   kept_after = kept_settled (is_complete (recorded place told s)) refl
 
-kept_served : (s : Client) (gone : Bool) (log : AskLog) (handed : Bool) (outbox : List (ℕ × Ask)) (place : ℕ) (told : Told) → IsKept s gone log handed outbox
-    → (b : Bool) → has_place place s.sent ≡ b → IsKept (cond b (after_record (recorded place told s)) s) gone log handed outbox
-kept_served s gone log handed outbox place told kept true has = kept_after s gone log handed outbox place told kept (has_inside place s.sent has)
-kept_served s gone log handed outbox place told kept false has = kept
+kept_served : (digest : List ℕ → Id) (s : ClientState) (gone : Bool) (log : AskLog) (handed : Bool) (outbox : List (ℕ × Ask)) (place : ℕ) (told : Told) → IsKept s gone log handed outbox
+    → (b : Bool) → has_place place s.sent ≡ b → IsKept (cond b (after_record digest (recorded place told s)) s) gone log handed outbox
+kept_served digest s gone log handed outbox place told kept true has = kept_after digest s gone log handed outbox place told kept (has_inside place s.sent has)
+kept_served digest s gone log handed outbox place told kept false has = kept
 
-pub kept_told : (s : Client) (gone : Bool) (log : AskLog) (handed : Bool) (outbox : List (ℕ × Ask)) (place : ℕ) (told told_log_with : Told)
-    → IsKept s gone log handed outbox → IsKept (served place told s) gone (told_log place told_log_with log) handed outbox
-kept_told s gone log handed outbox place told answer kept =
-    kept_log (served place told s) gone log (told_log place answer log) handed outbox
-    (kept_served s gone log handed outbox place told kept (has_place place s.sent) refl) refl refl
+pub kept_told : (digest : List ℕ → Id) (s : ClientState) (gone : Bool) (log : AskLog) (handed : Bool) (outbox : List (ℕ × Ask)) (place : ℕ) (told told_log_with : Told)
+    → IsKept s gone log handed outbox → IsKept (served digest place told s) gone (told_log place told_log_with log) handed outbox
+kept_told digest s gone log handed outbox place told answer kept =
+    kept_log (served digest place told s) gone log (told_log place answer log) handed outbox
+    (kept_served digest s gone log handed outbox place told kept (has_place place s.sent) refl) refl refl

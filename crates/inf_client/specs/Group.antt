@@ -1,10 +1,11 @@
 -- The asks of a group as code has them, and what is kept true of a client.
 use Rattle.std.specs.Prelude.{◌≡◌, ℕ, ◌≤◌, ◌<◌, Bool, true, false, List, [], ◌∷◌, length, map, drop}
-use Rattle.inf_client.specs.Actor.{IsAtRest, IsInStep, group_asks}
+use Rattle.inf_base.specs.declared.id.Id.{Id}
+use Rattle.inf_client.specs.Client.{IsAtRest, IsInStep, group_asks}
 use Rattle.inf_client.specs.Room.{room_needed, room_within}
 use Rattle.inf_duty.specs.Duty.{asks, found_at, given_up, next_step}
 use Rattle.inf_duty.specs.Outcome.{may_give_up}
-use Rattle.inf_flow_dir.specs.Client.{Client, call_ref}
+use Rattle.inf_flow_dir.specs.Client.{ClientState, call_ref}
 use Rattle.inf_message.specs.declared.ask.Ask.{Ask}
 use Rattle.inf_message.specs.History.{Posted, posted_ask}
 use Rattle.inf_trips.specs.AskLog.{AskLog, with_ready}
@@ -22,7 +23,7 @@ abbrev pub not_handed : Bool → List Posted → List Posted
 not_handed true ready = drop 1 ready
 not_handed false ready = ready
 
-pub record IsKept (s : Client) (gone : Bool) (log : AskLog) (handed : Bool) (outbox : List (ℕ × Ask)) : Type 0 where
+pub record IsKept (s : ClientState) (gone : Bool) (log : AskLog) (handed : Bool) (outbox : List (ℕ × Ask)) : Type 0 where
   pub at_rest : IsAtRest s gone
   pub in_step : IsInStep s log handed
   -- a client that was told to ask has not given up
@@ -33,7 +34,7 @@ pub record IsKept (s : Client) (gone : Bool) (log : AskLog) (handed : Bool) (out
   pub room : room_needed handed s ≤ log.room
 
 -- the client is to make this ask, and then the others of its group; they were kept, behind none
-pub record IsReadied (number : ℕ) (ask : Ask) (others : List (ℕ × Ask)) (s : Client) (before log : AskLog) : Type 0 where
+pub record IsReadied (number : ℕ) (ask : Ask) (others : List (ℕ × Ask)) (s : ClientState) (before log : AskLog) : Type 0 where
   pub next : next_step s ≡ asks number ask
   pub between : s.sent ≡ []
   pub asks_same : log.asks ≡ before.asks
@@ -42,11 +43,11 @@ pub record IsReadied (number : ℕ) (ask : Ask) (others : List (ℕ × Ask)) (s 
   pub room : room_within s.stage ≤ log.room
 
 -- nothing had to be cleaned up behind the call that was given up
-pub record IsPassed (old new : Client) : Type 0 where
+pub record IsPassed (old new : ClientState) : Type 0 where
   pub free : may_give_up old ≡ true
   pub state : new ≡ given_up old
 
 -- the ask is of the call under way, and finds the client there
-pub record IsFound (ask : Ask) (old new : Client) : Type 0 where
+pub record IsFound (digest : List ℕ → Id) (ask : Ask) (old new : ClientState) : Type 0 where
   pub here : ask.from ≡ call_ref old
-  pub state : new ≡ found_at ask.request old
+  pub state : new ≡ found_at digest ask.request old

@@ -1,5 +1,4 @@
-pub mod Actor
-pub mod ActorBy
+pub mod Client
 pub mod Group
 pub mod Planned
 pub mod Room

@@ -1,6 +1,6 @@
 -- For how many asks a client has to have room that it may come to make where memory is wanting: those that wind its call up.
 use Rattle.std.specs.Prelude.{ℕ, ◌+◌, Bool, false, List, [], length}
-use Rattle.inf_flow_dir.specs.Client.{Client, Sent, Stage, act, compose, round, winds}
+use Rattle.inf_flow_dir.specs.Client.{ClientState, Sent, Stage, act, compose, round, winds}
 use Rattle.inf_flow_dir.specs.Flow.{Who, clean_up}
 
 -- between two groups: for the clean-up of the next step, or for what the call is wound up by
@@ -17,9 +17,9 @@ room_within (round keys) = 2
 room_within (act flow) = 2
 room_within (winds ending m ms) = length ms
 
-abbrev pub room_in : Bool → List Sent → Client → ℕ
+abbrev pub room_in : Bool → List Sent → ClientState → ℕ
 room_in false [] s = room_between s.who s.stage
 room_in handed sent s = room_within s.stage
 
-abbrev pub room_needed : Bool → Client → ℕ
+abbrev pub room_needed : Bool → ClientState → ℕ
 room_needed handed s = room_in handed s.sent s

@@ -3,9 +3,7 @@
 ghost use Rattle.std.specs.Prelude.{◌≡◌, ◌+◌, ◌<◌, ◌≤◌, ◌^◌, true, false, length, IfOk};
 ghost use Rattle.inf_base.specs.declared.limits.TheConstants.{MOST_CALLS};
 ghost use Rattle.inf_base.specs.Setup.{call_count};
-ghost use Rattle.inf_client.specs.Actor.{Steps, actor, trips_of_actor};
-ghost use Rattle.inf_client.specs.ActorBy.{actor_by};
-ghost use Rattle.inf_duty.specs.ClientBy.{client_by};
+ghost use Rattle.inf_client.specs.Client.{Steps, client_with, trips_of_client};
 ghost use Rattle.inf_duty.specs.Outcome.{results_of};
 ghost use Rattle.inf_duty.specs.Start.{start};
 ghost use Rattle.inf_duty.specs.World.{world_by};
@@ -18,7 +16,7 @@ ghost use Rattle.inf_trips.specs.AskLog.{IsLater, asked_log, no_asks, told_log};
 use crate::group::{Group, next_group};
 use inf_base::{NoMemory, Place, Setup};
 use inf_birth::IdRule;
-use inf_duty::{ClientMachine, ClientStep};
+use inf_duty::{ClientState, ClientStep};
 use inf_message::{Ask, CallResult, Reply, Trip};
 use inf_trips::AskLog;
 use std::alloc::Global;
@@ -31,8 +29,8 @@ const USUAL_TRIPS: usize = 4;
 
 /// A client of a run. What it is told takes no memory, nor does what winds a call up.
 #[derive(Drop)]
-pub struct Client<R: IdRule> {
-    machine: ClientMachine<R>,
+pub struct Client {
+    state: ClientState,
     log: AskLog,
     /// The asks of the group that are still to be handed out, each with the server that it is for.
     outbox: VecDeque<(u32, Ask)>,
@@ -41,30 +39,34 @@ pub struct Client<R: IdRule> {
     is_handed: bool,
 }
 
-impl<R: IdRule> Model for Client<R> {
-    ghost use Rattle.inf_client.specs.ActorBy.{ActorBy};
+impl Model for Client {
+    ghost use Rattle.inf_client.specs.Client.{Client};
     ghost use Rattle.inf_client.specs.Group.{IsKept};
-    ghost use Rattle.inf_duty.specs.ClientBy.{client_by};
 
-    ghost Value = { ActorBy R };
+    ghost Value = { Client };
 
-    ghost view = { λ c. record { state = c.machine; gone = c.has_given_up; log = c.log; handed = c.is_handed } };
+    ghost view = { λ c. record { state = c.state; gone = c.has_given_up; log = c.log; handed = c.is_handed } };
 
-    ghost invariant = { λ c. IsKept (client_by R.digest_of c.machine) c.has_given_up c.log c.is_handed c.outbox.items };
+    ghost invariant = { λ c. IsKept c.state c.has_given_up c.log c.is_handed c.outbox.items };
 }
 
-impl<R: IdRule> Client<R> {
+impl Client {
     /// The client of this number before its first call.
-    pub fn new(alloc: Global, rule: R, setup: &Setup, client: u32) -> Result<Self, NoMemory>
+    pub fn new<R: IdRule>(
+        alloc: Global,
+        rule: &R,
+        setup: &Setup,
+        client: u32,
+    ) -> Result<Self, NoMemory>
         requires some_servers { 1 ≤ setup.now.servers }
         requires few_calls { call_count setup.now.clients ≤ MOST_CALLS }
-        ensures { IfOk result (λ made. actor_by R.digest_of made
-            ≡ actor (start (world_by (R.digest_of rule) setup.now) client) false no_asks false) }
+        ensures { IfOk result (λ made. made
+            ≡ client_with (start (world_by (R.digest_of rule.now) setup.now) client) false no_asks false) }
     {
-        let machine = ClientMachine::start(alloc, rule, setup, client)?;
-        let trips = machine.calls_left().saturating_mul(USUAL_TRIPS);
+        let state = ClientState::start(alloc, rule, setup, client)?;
+        let trips = state.calls_left().saturating_mul(USUAL_TRIPS);
         Ok(Client {
-            machine,
+            state,
             log: AskLog::with_capacity(alloc, trips)?,
             outbox: VecDeque::new(alloc),
             has_given_up: false,
@@ -73,25 +75,25 @@ impl<R: IdRule> Client<R> {
     }
 
     /// What to do next. Where memory is wanting for a group, its call is given up, and the next one tried.
-    #[tactic(auto, using(crate::proofs::ActorFacts::rests_gone, crate::proofs::ActorFacts::rests_unbuilt, crate::proofs::ActorFacts::full, crate::proofs::ActorFacts::none_ready, crate::proofs::ActorFacts::room_ready))]
-    pub fn step(&mut self, alloc: Global) -> ClientStep
+    #[tactic(auto, using(crate::proofs::ClientFacts::rests_gone, crate::proofs::ClientFacts::rests_unbuilt, crate::proofs::ClientFacts::full, crate::proofs::ClientFacts::none_ready, crate::proofs::ClientFacts::room_ready))]
+    pub fn step<R: IdRule>(&mut self, alloc: Global, rule: &R) -> ClientStep
         requires { self.old.handed ≡ false }
-        ensures { Steps (actor_by R.digest_of self.old) result (actor_by R.digest_of self.new) }
+        ensures { Steps (R.digest_of rule.now) self.old result self.new }
     {
         if self.has_given_up {
-            return self.machine.rest();
+            return self.state.rest();
         }
         if let Some((number, ask)) = self.outbox.pop_front() {
             self.is_handed = true;
             return ClientStep::Ask(number, ask);
         }
-        if !self.machine.is_between() {
-            return self.machine.rest();
+        if !self.state.is_between() {
+            return self.state.rest();
         }
-        if !self.machine.is_built() {
-            return self.machine.rest();
+        if !self.state.is_built() {
+            return self.state.rest();
         }
-        match next_group(alloc, &mut self.machine, &mut self.log) {
+        match next_group(alloc, rule, &mut self.state, &mut self.log) {
             Some(group) => {
                 let Group {
                     number,
@@ -104,39 +106,39 @@ impl<R: IdRule> Client<R> {
             }
             None => {
                 self.has_given_up = true;
-                self.machine.rest()
+                self.state.rest()
             }
         }
     }
 
     /// The ask that was handed out was made, and stands at this place.
-    #[tactic(auto, using(crate::proofs::ActorFacts::ready_some, crate::proofs::ActorFacts::kept_asked))]
+    #[tactic(auto, using(crate::proofs::ClientFacts::ready_some, crate::proofs::ClientFacts::kept_asked))]
     pub fn asked(&mut self, place: Place)
         requires handed { self.old.handed ≡ true }
         requires later { IsLater place self.old.log.asks }
         requires room { self.old.state.counts.messages + 1 < 2 ^ 64 }
-        ensures { actor_by R.digest_of self.new
-            ≡ actor (placed place (client_by R.digest_of self.old.state)) false (asked_log place self.old.log) false }
+        ensures { self.new
+            ≡ client_with (placed place self.old.state) false (asked_log place self.old.log) false }
     {
-        self.machine.place_ask(place);
+        self.state.place_ask(place);
         self.log.asked(place);
         self.is_handed = false;
     }
 
     /// The Ask at a place was served.
     #[tactic(auto, using(crate::proofs::ToldFacts::kept_told))]
-    pub fn told(&mut self, ask_place: Place, serve_place: Place, reply: Reply)
-        ensures { actor_by R.digest_of self.new
-            ≡ actor (served ask_place (told_reply serve_place (heard reply)) (client_by R.digest_of self.old.state))
+    pub fn told<R: IdRule>(&mut self, rule: &R, ask_place: Place, serve_place: Place, reply: Reply)
+        ensures { self.new
+            ≡ client_with (served (R.digest_of rule.now) ask_place (told_reply serve_place (heard reply)) self.old.state)
             self.old.gone (told_log ask_place (told_reply serve_place reply) self.old.log) self.old.handed }
     {
-        self.machine.told(ask_place, serve_place, &reply);
+        self.state.told(rule, ask_place, serve_place, &reply);
         answer(&mut self.log, ask_place, serve_place, reply);
     }
 
     /// Its own Asks that were answered, each with its answer and both places, in the order of asking.
     pub fn trips(&self) -> &[Trip]
-        ensures { result.now ≡ trips_of_actor (actor_by R.digest_of self.now) }
+        ensures { result.now ≡ trips_of_client self.now }
     {
         self.log.trips()
     }
@@ -145,14 +147,14 @@ impl<R: IdRule> Client<R> {
     pub fn results(&self) -> &[CallResult]
         ensures { result.now ≡ self.now.state.results }
     {
-        self.machine.results()
+        self.state.results()
     }
 
     /// Whether the client gave up all that it had left.
     pub fn has_given_up(&self) -> bool
         ensures { result ≡ self.now.gone }
     {
-        let _ = &self.machine;
+        let _ = &self.state;
         self.has_given_up
     }
 
@@ -160,22 +162,22 @@ impl<R: IdRule> Client<R> {
     pub fn number(&self) -> u32
         ensures { result ≡ self.now.state.number }
     {
-        self.machine.number()
+        self.state.number()
     }
 
     /// How many calls are left, the one under way among them.
     pub fn calls_left(&self) -> usize
         ensures { result ≡ length self.now.state.left }
     {
-        self.machine.calls_left()
+        self.state.calls_left()
     }
 
     /// One result for each call; those that have not ended are unanswered.
     pub fn into_results(self) -> Vec<CallResult>
-        ensures { result.items ≡ results_of (client_by R.digest_of self.state) }
+        ensures { result.items ≡ results_of self.state }
     {
-        let Client { machine, .. } = self;
-        machine.into_results()
+        let Client { state, .. } = self;
+        state.into_results()
     }
 }
 

@@ -3,7 +3,6 @@
 ghost use Rattle.std.specs.Prelude.{◌≡◌, ◌≤◌, ◌<◌, true, false, [], length, is_some, None, IfOk, IfSome, OnErr};
 ghost use Rattle.inf_client.specs.Group.{IsFound, IsPassed, IsReadied, with_asks};
 ghost use Rattle.inf_client.specs.Room.{room_between};
-ghost use Rattle.inf_duty.specs.ClientBy.{client_by};
 ghost use Rattle.inf_duty.specs.ClientStep.{is_ask};
 ghost use Rattle.inf_duty.specs.Duty.{begun, given_up, next_step};
 ghost use Rattle.inf_duty.specs.Messages.{is_winding};
@@ -12,7 +11,7 @@ ghost use Rattle.inf_flow_dir.specs.Group.{composed, next_course};
 
 use inf_base::NoMemory;
 use inf_birth::IdRule;
-use inf_duty::ClientMachine;
+use inf_duty::ClientState;
 use inf_message::Ask;
 use inf_trips::AskLog;
 use std::alloc::Global;
@@ -38,16 +37,16 @@ fn keep_all(log: &mut AskLog, asks: Vec<(u32, Ask)>)
 
 /// The ask that a call is wound up by. Takes no memory.
 #[tactic(auto, using(crate::proofs::GroupFacts::winding_readied, crate::proofs::GroupFacts::winding_room))]
-fn winding_group<R: IdRule>(alloc: Global, machine: &ClientMachine<R>, log: &mut AskLog) -> Group
-    requires winding { is_winding machine.now.stage ≡ true }
-    requires between { machine.now.sent ≡ [] }
+fn winding_group(alloc: Global, state: &ClientState, log: &mut AskLog) -> Group
+    requires winding { is_winding state.now.stage ≡ true }
+    requires between { state.now.sent ≡ [] }
     requires none { log.old.ready ≡ [] }
-    requires room { room_between (client_by R.digest_of machine.now).who machine.now.stage ≤ log.old.room }
-    ensures { IsReadied result.number result.ask result.others.items (client_by R.digest_of machine.now) log.old log.new }
+    requires room { room_between state.now.who state.now.stage ≤ log.old.room }
+    ensures { IsReadied result.number result.ask result.others.items state.now log.old log.new }
 {
-    let (number, kept) = machine.winding_ask();
+    let (number, kept) = state.winding_ask();
     log.keep(number, kept);
-    let (number, ask) = machine.winding_ask();
+    let (number, ask) = state.winding_ask();
     Group {
         number,
         ask,
@@ -59,25 +58,26 @@ fn winding_group<R: IdRule>(alloc: Global, machine: &ClientMachine<R>, log: &mut
 #[tactic(auto, using(crate::proofs::GroupFacts::whole_readied, crate::proofs::GroupFacts::composed_found, crate::proofs::GroupFacts::composed_goes, crate::proofs::GroupFacts::given_composed))]
 fn whole_group<R: IdRule>(
     alloc: Global,
-    machine: &mut ClientMachine<R>,
+    rule: &R,
+    state: &mut ClientState,
     log: &mut AskLog,
 ) -> Result<Group, NoMemory>
-    requires between { machine.old.sent ≡ [] }
-    requires asking { is_ask (next_step (composed (client_by R.digest_of machine.old))) ≡ true }
-    requires going { is_winding machine.old.stage ≡ false }
+    requires between { state.old.sent ≡ [] }
+    requires asking { is_ask (next_step (composed (R.digest_of rule.now) state.old)) ≡ true }
+    requires going { is_winding state.old.stage ≡ false }
     requires none { log.old.ready ≡ [] }
-    requires room { room_between (client_by R.digest_of machine.old).who machine.old.stage ≤ log.old.room }
+    requires room { room_between state.old.who state.old.stage ≤ log.old.room }
     ensures readied { IfOk result (λ group. IsReadied group.number group.ask group.others.items
-        (client_by R.digest_of machine.new) log.old log.new) }
-    ensures found { IfOk result (λ group. IsFound group.ask (client_by R.digest_of machine.old) (client_by R.digest_of machine.new)) }
-    ensures err_call { OnErr result (given_up (client_by R.digest_of machine.new) ≡ given_up (client_by R.digest_of machine.old)) }
-    ensures err_going { OnErr result (is_winding machine.new.stage ≡ false) }
-    ensures err_left { OnErr result (machine.new.left ≡ machine.old.left) }
+        state.new log.old log.new) }
+    ensures found { IfOk result (λ group. IsFound (R.digest_of rule.now) group.ask state.old state.new) }
+    ensures err_call { OnErr result (given_up state.new ≡ given_up state.old) }
+    ensures err_going { OnErr result (is_winding state.new.stage ≡ false) }
+    ensures err_left { OnErr result (state.new.left ≡ state.old.left) }
     ensures err_log { OnErr result (log.new ≡ log.old) }
 {
-    machine.take_up(alloc)?;
-    let mut others = VecDeque::from_vec(machine.asks(alloc)?);
-    let kept = machine.asks(alloc)?;
+    state.take_up(alloc, rule)?;
+    let mut others = VecDeque::from_vec(state.asks(alloc)?);
+    let kept = state.asks(alloc)?;
     log.reserve(kept.len() + 2)?;
     keep_all(log, kept);
     let Some((number, ask)) = others.pop_front() else {
@@ -95,29 +95,30 @@ fn whole_group<R: IdRule>(
 #[tactic(auto, using(crate::proofs::GroupFacts::winding_found, crate::proofs::GroupFacts::given_up_found, crate::proofs::GroupFacts::given_room, crate::proofs::GroupFacts::given_between, crate::proofs::GroupFacts::passed))]
 fn attempt<R: IdRule>(
     alloc: Global,
-    machine: &mut ClientMachine<R>,
+    rule: &R,
+    state: &mut ClientState,
     log: &mut AskLog,
 ) -> Option<Group>
-    requires between { machine.old.sent ≡ [] }
-    requires built { is_some (next_course machine.old.left) ≡ true }
-    requires asking { is_ask (next_step (composed (client_by R.digest_of machine.old))) ≡ true }
+    requires between { state.old.sent ≡ [] }
+    requires built { is_some (next_course state.old.left) ≡ true }
+    requires asking { is_ask (next_step (composed (R.digest_of rule.now) state.old)) ≡ true }
     requires none { log.old.ready ≡ [] }
-    requires room { room_between (client_by R.digest_of machine.old).who machine.old.stage ≤ log.old.room }
+    requires room { room_between state.old.who state.old.stage ≤ log.old.room }
     ensures readied { IfSome result (λ group. IsReadied group.number group.ask group.others.items
-        (client_by R.digest_of machine.new) log.old log.new) }
-    ensures found { IfSome result (λ group. IsFound group.ask (client_by R.digest_of machine.old) (client_by R.digest_of machine.new)) }
-    ensures passed { result ≡ None → IsPassed (client_by R.digest_of machine.old) (client_by R.digest_of machine.new) }
+        state.new log.old log.new) }
+    ensures found { IfSome result (λ group. IsFound (R.digest_of rule.now) group.ask state.old state.new) }
+    ensures passed { result ≡ None → IsPassed state.old state.new }
     ensures same { result ≡ None → log.new ≡ log.old }
 {
-    if machine.is_winding() {
-        return Some(winding_group(alloc, machine, log));
+    if state.is_winding() {
+        return Some(winding_group(alloc, state, log));
     }
-    if let Ok(group) = whole_group(alloc, machine, log) {
+    if let Ok(group) = whole_group(alloc, rule, state, log) {
         return Some(group);
     }
-    machine.give_up_call();
-    if machine.is_winding() {
-        return Some(winding_group(alloc, machine, log));
+    state.give_up_call();
+    if state.is_winding() {
+        return Some(winding_group(alloc, state, log));
     }
     None
 }
@@ -126,26 +127,27 @@ fn attempt<R: IdRule>(
 #[tactic(auto, using(crate::proofs::WayFacts::way_starts, crate::proofs::WayFacts::way_goes, crate::proofs::WayFacts::way_found, crate::proofs::WayFacts::way_own, crate::proofs::WayFacts::way_ends, crate::proofs::WayFacts::passed_room, crate::proofs::WayFacts::shorter))]
 pub(crate) fn next_group<R: IdRule>(
     alloc: Global,
-    machine: &mut ClientMachine<R>,
+    rule: &R,
+    state: &mut ClientState,
     log: &mut AskLog,
 ) -> Option<Group>
-    requires between { machine.old.sent ≡ [] }
+    requires between { state.old.sent ≡ [] }
     requires none { log.old.ready ≡ [] }
-    requires room { room_between (client_by R.digest_of machine.old).who machine.old.stage ≤ log.old.room }
+    requires room { room_between state.old.who state.old.stage ≤ log.old.room }
     ensures readied { IfSome result (λ group. IsReadied group.number group.ask group.others.items
-        (client_by R.digest_of machine.new) log.old log.new) }
-    ensures begun { IfSome result (λ group. client_by R.digest_of machine.new
-        ≡ begun group.ask machine.old.sent (client_by R.digest_of machine.old)) }
-    ensures own { IfSome result (λ group. group.ask.from.client ≡ machine.old.who.client) }
-    ensures gave_up { result ≡ None → client_by R.digest_of machine.new
-        ≡ all_given_up machine.old.left (client_by R.digest_of machine.old) }
-    ensures rests { result ≡ None → is_some (next_course machine.new.left) ≡ false }
-    ensures still_between { result ≡ None → machine.new.sent ≡ [] }
-    ensures still_room { result ≡ None → room_between (client_by R.digest_of machine.new).who machine.new.stage ≤ log.new.room }
+        state.new log.old log.new) }
+    ensures begun { IfSome result (λ group. state.new
+        ≡ begun (R.digest_of rule.now) group.ask state.old.sent state.old) }
+    ensures own { IfSome result (λ group. group.ask.from.client ≡ state.old.who.client) }
+    ensures gave_up { result ≡ None → state.new
+        ≡ all_given_up state.old.left state.old }
+    ensures rests { result ≡ None → is_some (next_course state.new.left) ≡ false }
+    ensures still_between { result ≡ None → state.new.sent ≡ [] }
+    ensures still_room { result ≡ None → room_between state.new.who state.new.stage ≤ log.new.room }
     ensures same { result ≡ None → log.new ≡ log.old }
 {
-    while machine.is_built() {
-        if let Some(group) = attempt(alloc, machine, log) {
+    while state.is_built() {
+        if let Some(group) = attempt(alloc, rule, state, log) {
             return Some(group);
         }
     }

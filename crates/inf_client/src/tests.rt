@@ -42,18 +42,18 @@ fn setup(alloc: Global) -> Result<Setup, NoMemory>
 
 /// The client before its first ask.
 #[tactic(auto, using(crate::proofs::TestFacts::start_few, crate::proofs::TestFacts::start_later))]
-fn open(alloc: Global) -> Result<Client<ShaRule>, NoMemory>
+fn open(alloc: Global) -> Result<Client, NoMemory>
     ensures quiet { IfOk result (λ client. client.handed ≡ false) }
     ensures later { IfOk result (λ client. IsLater 1 client.log.asks) }
     ensures few { IfOk result (λ client. client.state.counts.messages ≡ 0) }
 {
     let setup = setup(alloc)?;
-    Client::new(alloc, WHOLE, &setup, 0)
+    Client::new(alloc, &WHOLE, &setup, 0)
 }
 
 /// The next ask is made, and stands at this place. Its server.
 #[tactic(auto, using(crate::proofs::TestFacts::asks_few, crate::proofs::TestFacts::asks_later, crate::proofs::TestFacts::placed_few, crate::proofs::TestFacts::placed_later, crate::proofs::TestFacts::placed_quiet))]
-fn make(client: &mut Client<ShaRule>, alloc: Global, place: Place) -> Result<u32, NoMemory>
+fn make(client: &mut Client, alloc: Global, place: Place) -> Result<u32, NoMemory>
     requires quiet { client.old.handed ≡ false }
     requires later { IsLater place client.old.log.asks }
     requires few { client.old.state.counts.messages < place }
@@ -62,7 +62,7 @@ fn make(client: &mut Client<ShaRule>, alloc: Global, place: Place) -> Result<u32
     ensures later { IfOk result (λ server. IsLater (place + 1) client.new.log.asks) }
     ensures few { IfOk result (λ server. client.new.state.counts.messages < place + 1) }
 {
-    let ClientStep::Ask(server, _) = client.step(alloc) else {
+    let ClientStep::Ask(server, _) = client.step(alloc, &WHOLE) else {
         return Err(NoMemory);
     };
     client.asked(place);
@@ -85,7 +85,7 @@ fn are_trips(trips: &[Trip], wanted: &[(u32, Place, Place)]) -> bool {
 }
 
 /// Whether the lookups that are asked one after another, at 1, 2 and 3, go to the servers 0, 0 and 1.
-fn asks_in_order(client: &mut Client<ShaRule>, alloc: Global) -> Result<bool, NoMemory>
+fn asks_in_order(client: &mut Client, alloc: Global) -> Result<bool, NoMemory>
     requires quiet { client.old.handed ≡ false }
     requires later { IsLater 1 client.old.log.asks }
     requires few { client.old.state.counts.messages ≡ 0 }
@@ -97,19 +97,19 @@ fn asks_in_order(client: &mut Client<ShaRule>, alloc: Global) -> Result<bool, No
     Ok(first == 0 && second == 0 && third == 1)
 }
 
-fn waits(client: &mut Client<ShaRule>, alloc: Global) -> bool
+fn waits(client: &mut Client, alloc: Global) -> bool
     requires { client.old.handed ≡ false }
 {
-    match client.step(alloc) {
+    match client.step(alloc, &WHOLE) {
         ClientStep::Waiting => true,
         _ => false,
     }
 }
 
-fn answer_all(client: &mut Client<ShaRule>) {
-    client.told(3, 4, Reply::Other);
-    client.told(1, 5, Reply::Other);
-    client.told(2, 6, Reply::Other);
+fn answer_all(client: &mut Client) {
+    client.told(&WHOLE, 3, 4, Reply::Other);
+    client.told(&WHOLE, 1, 5, Reply::Other);
+    client.told(&WHOLE, 2, 6, Reply::Other);
 }
 
 #[test]

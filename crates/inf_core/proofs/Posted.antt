@@ -21,8 +21,8 @@ use Rattle.inf_duty.specs.After.{client_after}
 use Rattle.inf_duty.specs.Duty.{asked, asks, begun, given_up_in, next_in, next_of}
 use Rattle.inf_duty.specs.Start.{starting}
 use Rattle.inf_duty.specs.World.{World}
-use Rattle.inf_flow_dir.specs.Client.{Client, Ending, Sent, Stage, act, answers, compose, finished, retries, round, winds, wound}
-use Rattle.inf_flow_dir.specs.Flow.{Flow, Who, after_unlink, birth_of, clean_up, finishes, forget_in, last_dir, last_entry, last_id, lift, links, lives_at, made_dir, makes, message_of, reserves, row_of, seals, to, unlinks, way_to}
+use Rattle.inf_flow_dir.specs.Client.{ClientState, Ending, Sent, Stage, act, answers, compose, finished, retries, round, winds, wound}
+use Rattle.inf_flow_dir.specs.Flow.{Flow, Who, after_unlink, birth_of, clean_up, finishes, forget_in, last_dir, last_entry, last_id, lift, links, lives_at, makes, message_of, reserves, row_of, seals, to, unlinks, way_to}
 use Rattle.inf_flow_dir.specs.Group.{Course, asked_id, composed_stage, course_at, course_in, group, keys_of, lookup_of, next_course, rmdir_stop, split, text_of}
 use Rattle.inf_flow_dir.specs.Heard.{heard}
 use Rattle.inf_flow_dir.specs.Turn.{Next, Turn, act_turn, after_act, after_make, after_round, by_next, fails, follow, from_root, goes_on, is_busy, next_entry, recorded, served, steps, stops, told_entry, turn_at, turned, winds_up}
@@ -77,10 +77,10 @@ one_chain chain short = search (rules, arith)
 -- ---- flows
 
 abbrev IsKnownFlow : Flow → Type 0
-IsKnownFlow (finishes chain asked) = IsShort chain × (is_built_op asked ≡ true)
+IsKnownFlow (finishes chain what) = IsShort chain × (is_built_op what ≡ true)
 IsKnownFlow (reserves chain name mode) = IsShort chain
-IsKnownFlow (makes chain name mode version) = IsShort chain
-IsKnownFlow (links chain name mode version born) = IsShort chain
+IsKnownFlow (makes chain name mode version id) = IsShort chain
+IsKnownFlow (links chain name mode version dir) = IsShort chain
 IsKnownFlow (seals chain) = IsShort chain
 IsKnownFlow (unlinks chain) = IsShort chain
 
@@ -88,10 +88,10 @@ module _ (who : Who) where
   flow_known : (flow : Flow) → IsKnownFlow flow → IsKnownMessage who.servers (message_of who flow)
   flow_known (finishes chain with) is = known who (last_id who chain) (request.Finish chain with) is.1 (one_chain chain is.0)
   flow_known (reserves chain name mode) is = known who (last_id who chain) (request.Reserve chain name) refl (one_chain chain is)
-  flow_known (makes chain name mode version) is =
-      known who (identity who.digest (birth_of who chain name version)) (request.Make (birth_of who chain name version)) refl no_chain
-  flow_known (links chain name mode version born) is =
-      known who (last_id who chain) (request.Link chain name (made_dir who chain name version born) mode) refl (one_chain chain is)
+  flow_known (makes chain name mode version id) is =
+      known who id (request.Make (birth_of who chain name version)) refl no_chain
+  flow_known (links chain name mode version dir) is =
+      known who (last_id who chain) (request.Link chain name dir mode) refl (one_chain chain is)
   flow_known (seals chain) is = known who (last_id who chain) (request.Seal chain) refl (one_chain chain is)
   flow_known (unlinks chain) is = known who (last_id who (way_to chain)) (request.Unlink chain) refl (one_chain chain is)
 
@@ -107,8 +107,8 @@ module _ (who : Who) where
   clean_up_known : (flow : Flow) → AreKnown who.servers (clean_up who flow)
   clean_up_known (finishes chain with) = tt
   clean_up_known (reserves chain name mode) = tt
-  clean_up_known (makes chain name mode version) = (cancel_known (last_dir chain), tt)
-  clean_up_known (links chain name mode version born) = (drop_known (made_dir who chain name version born), (cancel_known (last_dir chain), tt))
+  clean_up_known (makes chain name mode version id) = (cancel_known (last_dir chain), tt)
+  clean_up_known (links chain name mode version dir) = (drop_known dir, (cancel_known (last_dir chain), tt))
   clean_up_known (seals chain) = tt
   clean_up_known (unlinks chain) = (unseal_known (last_dir chain), tt)
 
@@ -252,91 +252,92 @@ module _ (who : Who) where
   make_known flow own place (reply.Clash kept) = clean_up_known who flow
   make_known flow own place any_reply = fails_known flow place any_reply
 
-  act_known : (flow : Flow) (asked place : ℕ) (given : Reply) → IsKnownFlow flow → IsKnownTurn who.servers (after_act who flow asked place given)
+module _ (digest : List ℕ → Id) (who : Who) where
+  act_known : (flow : Flow) (asked place : ℕ) (given : Reply) → IsKnownFlow flow → IsKnownTurn who.servers (after_act digest who flow asked place given)
   act_known (finishes chain (op.Create name mode)) asked place reply.Fine is = tt
   act_known (finishes chain (op.Stat name)) asked place (reply.Stat kind meta) is = tt
   act_known (reserves chain name mode) asked place (reply.Reserved version) is = is
-  act_known (makes chain name mode version) asked place reply.Fine is = is
-  act_known (makes chain name mode version) asked place given is =
-      make_known (makes chain name mode version) (birth_of who chain name version) place given
-  act_known (links chain name mode version born) asked place reply.Fine is = tt
+  act_known (makes chain name mode version id) asked place reply.Fine is = is
+  act_known (makes chain name mode version id) asked place given is =
+      make_known who (makes chain name mode version id) (birth_of who chain name version) place given
+  act_known (links chain name mode version dir) asked place reply.Fine is = tt
   act_known (seals chain) asked place reply.Fine is = is
   act_known (unlinks chain) asked place reply.Fine is = after_unlink_known who chain
-  act_known flow asked place given is = fails_known flow place given
+  act_known flow asked place given is = fails_known who flow place given
 
   told_known : (flow : Flow) (place : ℕ) (told : Option Told) (xs : List Sent) → IsKnownFlow flow
-      → IsKnownTurn who.servers (act_turn who flow (record { place = place; told = told } ∷ xs))
+      → IsKnownTurn who.servers (act_turn digest who flow (record { place = place; told = told } ∷ xs))
   told_known flow place None xs is = tt
   told_known flow place (Some told) xs is = act_known flow place told.serve_place told.reply is
 
-  act_turn_known : (flow : Flow) (sent : List Sent) → IsKnownFlow flow → IsKnownTurn who.servers (act_turn who flow sent)
+  act_turn_known : (flow : Flow) (sent : List Sent) → IsKnownFlow flow → IsKnownTurn who.servers (act_turn digest who flow sent)
   act_turn_known flow [] is = tt
   act_turn_known flow (x ∷ xs) is = told_known flow x.place x.told xs is
 
-turn_known : (s : Client) (stage : Stage) → IsKnownStage s.who.servers stage → IsKnownTurn s.who.servers (turn_at s stage)
-turn_known s compose is = tt
-turn_known s (round keys) is = round_known s.who.servers (next_course s.left) s.sent (next_known s.left)
-turn_known s (act flow) is = act_turn_known s.who flow s.sent is
-turn_known s (winds ending m ms) is = is.1
+turn_known : (digest : List ℕ → Id) (s : ClientState) (stage : Stage) → IsKnownStage s.who.servers stage → IsKnownTurn s.who.servers (turn_at digest s stage)
+turn_known digest s compose is = tt
+turn_known digest s (round keys) is = round_known s.who.servers (next_course s.left) s.sent (next_known s.left)
+turn_known digest s (act flow) is = act_turn_known digest s.who flow s.sent is
+turn_known digest s (winds ending m ms) is = is.1
 
 -- ---- what a client asks for next
 
 -- what a client knows of the servers, and where it stands
-record Knows (world : World) (s : Client) : Type 0 where
+record Knows (world : World) (s : ClientState) : Type 0 where
   servers : s.who.servers ≡ world.setup.servers
   stage : IsKnownStage s.who.servers s.stage
 
-keys_known : (servers : ℕ) (who : Who) (found : Option Course) → IsKnownStage servers (keys_of who found)
-keys_known servers who None = tt
-keys_known servers who (Some course) = tt
+keys_known : (digest : List ℕ → Id) (servers : ℕ) (who : Who) (found : Option Course) → IsKnownStage servers (keys_of digest who found)
+keys_known digest servers who None = tt
+keys_known digest servers who (Some course) = tt
 
-composed_known : (servers : ℕ) (s : Client) (stage : Stage) → IsKnownStage servers stage → IsKnownStage servers (composed_stage s stage)
-composed_known servers s compose is = keys_known servers s.who (next_course s.left)
-composed_known servers s (round keys) is = is
-composed_known servers s (act flow) is = is
-composed_known servers s (winds ending m ms) is = is
+composed_known : (digest : List ℕ → Id) (servers : ℕ) (s : ClientState) (stage : Stage) → IsKnownStage servers stage → IsKnownStage servers (composed_stage digest s stage)
+composed_known digest servers s compose is = keys_known digest servers s.who (next_course s.left)
+composed_known digest servers s (round keys) is = is
+composed_known digest servers s (act flow) is = is
+composed_known digest servers s (winds ending m ms) is = is
 
 module _ (world : World) where
-  finished_knows : (ending : Ending) (s : Client) → Knows world s → Knows world (finished ending s)
+  finished_knows : (ending : Ending) (s : ClientState) → Knows world s → Knows world (finished ending s)
   finished_knows (answers given place) s knows = record { servers = knows.servers; stage = tt }
   finished_knows retries s knows = record { servers = knows.servers; stage = tt }
 
-  wound_knows : (ending : Ending) (more : List Message) (s : Client) → AreKnown s.who.servers more → Knows world s → Knows world (wound ending more s)
+  wound_knows : (ending : Ending) (more : List Message) (s : ClientState) → AreKnown s.who.servers more → Knows world s → Knows world (wound ending more s)
   wound_knows ending [] s are knows = finished_knows ending s knows
   wound_knows ending (m ∷ ms) s are knows = record { servers = knows.servers; stage = are }
 
-  turned_knows : (turn : Turn) (s : Client) → IsKnownTurn s.who.servers turn → Knows world s → Knows world (turned turn s)
+  turned_knows : (turn : Turn) (s : ClientState) → IsKnownTurn s.who.servers turn → Knows world s → Knows world (turned turn s)
   turned_knows (goes_on next) s is knows = record { servers = knows.servers; stage = is }
   turned_knows (winds_up ending more) s is knows = wound_knows ending more s is knows
 
-  given_up_at : (s : Client) (stage : Stage) → Knows world s → Knows world (given_up_in s stage)
+  given_up_at : (s : ClientState) (stage : Stage) → Knows world s → Knows world (given_up_in s stage)
   given_up_at s (act flow) knows = wound_knows (answers answer.NoMemory None) (clean_up s.who flow) s (clean_up_known s.who flow) knows
   given_up_at s (winds ending m ms) knows = knows
   given_up_at s compose knows = record { servers = knows.servers; stage = tt }
   given_up_at s (round keys) knows = record { servers = knows.servers; stage = tt }
 
-  knows_kept : IsKept (Knows world)
+  knows_kept : IsKept world.digest (Knows world)
   knows_kept = record {
-    composing = λ s knows. record { servers = knows.servers; stage = composed_known s.who.servers s s.stage knows.stage };
+    composing = λ s knows. record { servers = knows.servers; stage = composed_known world.digest s.who.servers s s.stage knows.stage };
     giving_up = λ s knows. given_up_at s s.stage knows;
   }
 
-  begun_knows : (ask : Ask) (sent : List Sent) (s : Client) → Knows world s → Knows world (begun ask sent s)
-  begun_knows ask sent s knows = kept_begun (Knows world) knows_kept ask sent s knows
+  begun_knows : (ask : Ask) (sent : List Sent) (s : ClientState) → Knows world s → Knows world (begun world.digest ask sent s)
+  begun_knows ask sent s knows = kept_begun world.digest (Knows world) knows_kept ask sent s knows
 
-  asked_knows : (place : ℕ) (ask : Ask) (s : Client) → Knows world s → Knows world (asked place ask s)
+  asked_knows : (place : ℕ) (ask : Ask) (s : ClientState) → Knows world s → Knows world (asked world.digest place ask s)
   asked_knows place ask s knows =
       let now = begun_knows ask s.sent s knows in
       record { servers = now.servers; stage = now.stage }
 
-  served_knows : (ask_place : ℕ) (told : Told) (s : Client) → Knows world s → Knows world (served ask_place told s)
+  served_knows : (ask_place : ℕ) (told : Told) (s : ClientState) → Knows world s → Knows world (served world.digest ask_place told s)
   served_knows ask_place told s knows =
       let now : Knows world (recorded ask_place told s) = record { servers = knows.servers; stage = knows.stage } in
-      by_answer (Knows world) ask_place told s
+      by_answer world.digest (Knows world) ask_place told s
       (λ apart. knows)
       (λ here going. now)
-      (λ here over. turned_knows (turn_at (recorded ask_place told s) s.stage) (recorded ask_place told s)
-      (turn_known (recorded ask_place told s) s.stage knows.stage) now)
+      (λ here over. turned_knows (turn_at world.digest (recorded ask_place told s) s.stage) (recorded ask_place told s)
+      (turn_known world.digest (recorded ask_place told s) s.stage knows.stage) now)
 
   starting_knows : (client : ℕ) (line : Option ClientLine) → Knows world (starting world client line)
   starting_knows client None = record { servers = refl; stage = tt }
@@ -372,7 +373,7 @@ message_known servers (suc index) (first ∷ messages) message are found = messa
 
 -- ---- an Ask that is the client's duty
 
-duty_known : (t : Client) (number : ℕ) (ask : Ask) → IsKnownStage t.who.servers t.stage → (left : List Call) → next_in t left ≡ asks number ask → IsKnown t.who.servers number ask.request
+duty_known : (t : ClientState) (number : ℕ) (ask : Ask) → IsKnownStage t.who.servers t.stage → (left : List Call) → next_in t left ≡ asks number ask → IsKnown t.who.servers number ask.request
 duty_known t number ask is [] duty = absurd (cc)
 duty_known t number ask is (next ∷ left) duty = by (slice_get (group t.who t.stage) (length t.sent)) refl duty
   where
@@ -387,8 +388,8 @@ duty_known t number ask is (next ∷ left) duty = by (slice_get (group t.who t.s
 
 may_ask_known : (world : World) (h : List Event) (number : ℕ) (ask : Ask) → MayAsk world h number ask → IsKnown world.setup.servers number ask.request
 may_ask_known world h number ask may =
-    let s : Client = client_after world ask.from.client h in
-    let t : Client = begun ask s.sent s in
+    let s : ClientState = client_after world ask.from.client h in
+    let t : ClientState = begun world.digest ask s.sent s in
     let knows : Knows world t = begun_knows world ask s.sent s (knows_after world ask.from.client h) in
     subst (λ n. IsKnown n number ask.request) knows.servers (duty_known t number ask knows.stage t.left may.duty)
 

@@ -63,6 +63,13 @@ impl<R: IdRule> Core<R> {
         })
     }
 
+    /// The rule by which identifiers are made.
+    pub fn rule(&self) -> R
+        ensures { result ≡ self.now.rule }
+    {
+        self.rule
+    }
+
     pub fn setup(&self) -> &Setup
         ensures { result.now ≡ self.now.setup }
     {

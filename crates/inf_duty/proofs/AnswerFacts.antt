@@ -1,10 +1,9 @@
 -- One answer that comes in, as code keeps it: for the Ask at hand, and for the one message of a group.
 use Rattle.std.proofs.Common.{◌≡◌, ℕ, Bool, false, ◌∷◌, IsTrue, ◌↔◌, arith, ◌+◌, ◌<◌, true, List, [], length, get_or, refl, sym, ap, ◌∙◌, subst}
 use Rattle.std.proofs.Math.ListN.{set}
-use Rattle.inf_duty.specs.ClientBy.{ClientBy, client_by}
 use Rattle.inf_duty.specs.Messages.{has_one_message}
 use Rattle.inf_duty.specs.Tally.{with_serve}
-use Rattle.inf_flow_dir.specs.Client.{Counts, Sent, compose, has_place, is_told, one_if, told_at}
+use Rattle.inf_flow_dir.specs.Client.{ClientState, Counts, Sent, compose, has_place, is_told, one_if, told_at}
 use Rattle.inf_flow_dir.specs.Turn.{Turn, recorded, served, turn_at, turned}
 use Rattle.inf_base.specs.declared.id.Id.{Id}
 use Rattle.inf_message.specs.History.{Told}
@@ -20,15 +19,15 @@ keeps_answer place told before now rooms_before rooms next_rooms i x y kept with
     (subst (λ (w : Sent). next_rooms + one_if (is_told w) ≡ rooms + one_if (is_told x)) answered took))
 
 -- the client between its two parts: the turn is taken, the Serve counted, and what follows is still to come
-pub ends_alone : {A : Type 0} (digest_of : A → List ℕ → Id) (s taken : ClientBy A) (counts : Counts) (t : Turn) (place : ℕ) (told : Told)
+pub ends_alone : (digest : List ℕ → Id) (s taken : ClientState) (counts : Counts) (t : Turn) (place : ℕ) (told : Told)
     → length s.sent ≡ 1 → has_place place s.sent ≡ true → has_one_message s.stage ≡ true
-    → t ≡ turn_at (recorded place told (client_by digest_of s)) s.stage → taken ≡ record s { stage = compose; sent = [] }
+    → t ≡ turn_at digest (recorded place told s) s.stage → taken ≡ record s { stage = compose; sent = [] }
     → counts ≡ with_serve told.serve_place taken.counts
-    → turned t (client_by digest_of (record taken { counts = counts })) ≡ served place told (client_by digest_of s)
-ends_alone {A = A} digest_of s taken counts t place told alone here one turn after counted =
-    alone_ends (client_by digest_of s) (client_by digest_of (record taken { counts = counts })) _ t place told alone here one turn
-    (ap (λ (c : Counts). client_by digest_of (record taken { counts = c })) counted
-    ∙ ap (λ (v : ClientBy A). client_by digest_of (record v { counts = with_serve told.serve_place v.counts })) after)
+    → turned t (record taken { counts = counts }) ≡ served digest place told s
+ends_alone digest s taken counts t place told alone here one turn after counted =
+    alone_ends digest s (record taken { counts = counts }) _ t place told alone here one turn
+    (ap (λ (c : Counts). record taken { counts = c }) counted
+    ∙ ap (λ (v : ClientState). record v { counts = with_serve told.serve_place v.counts }) after)
     refl
 
 -- a list that a test tells from the empty one

@@ -1,12 +1,13 @@
 -- Where an ask finds a client that has sent nothing: calls that it gave up, and the call that it takes up.
 use Rattle.std.proofs.Common.{◌≡◌, ◌≢◌, ◌⊎◌, inl, inr, ⊎_elim, ℕ, ◌+◌, ◌<◌, Bool, true, false, cond, eqb, List, [], ◌∷◌, length, None, is_some, refl, sym, ap, ◌∙◌, arith}
 use Rattle.std.proofs.lemmas.Bool.Decides.{nat_tests}
+use Rattle.inf_base.specs.declared.id.Id.{Id}
 use Rattle.inf_base.specs.declared.answer.Answer.TheVariants as answer
 use Rattle.inf_base.specs.declared.call.Call.{Call}
 use Rattle.inf_duty.specs.Duty.{at_call, begun, found_at, given_up, given_up_in, is_acting, lifts}
 use Rattle.inf_duty.specs.Kept.{weight}
 use Rattle.inf_duty.specs.Messages.{is_compose, is_winding}
-use Rattle.inf_flow_dir.specs.Client.{Client, Ending, Sent, Stage, act, answers, compose, rest_of, retries, round, winds, wound}
+use Rattle.inf_flow_dir.specs.Client.{ClientState, Ending, Sent, Stage, act, answers, compose, rest_of, retries, round, winds, wound}
 use Rattle.inf_flow_dir.specs.Flow.{clean_up}
 use Rattle.inf_flow_dir.specs.Group.{composed, composed_stage, course_of, next_course}
 use Rattle.inf_message.specs.declared.ask.Ask.{Ask}
@@ -15,24 +16,24 @@ use Rattle.inf_message.specs.declared.step.Message.{Message}
 
 -- ---- a client that winds up gives nothing up
 
-winding_given_in : (s : Client) (x : Stage) → is_winding x ≡ true → given_up_in s x ≡ s
+winding_given_in : (s : ClientState) (x : Stage) → is_winding x ≡ true → given_up_in s x ≡ s
 winding_given_in s compose is = absurd (cc)
 winding_given_in s (round keys) is = absurd (cc)
 winding_given_in s (act flow) is = absurd (cc)
 winding_given_in s (winds ending m ms) is = refl
 
-settled_stage : (s : Client) (x : Stage) → is_compose x ≡ false → x ≡ composed_stage s x
-settled_stage s compose settled = absurd (cc)
-settled_stage s (round keys) settled = refl
-settled_stage s (act flow) settled = refl
-settled_stage s (winds ending m ms) settled = refl
+settled_stage : (digest : List ℕ → Id) (s : ClientState) (x : Stage) → is_compose x ≡ false → x ≡ composed_stage digest s x
+settled_stage digest s compose settled = absurd (cc)
+settled_stage digest s (round keys) settled = refl
+settled_stage digest s (act flow) settled = refl
+settled_stage digest s (winds ending m ms) settled = refl
 
-same_stage : (s : Client) (next : Stage) → s.stage ≡ next → s ≡ record s { stage = next }
+same_stage : (s : ClientState) (next : Stage) → s.stage ≡ next → s ≡ record s { stage = next }
 same_stage s next is = ap (λ (x : Stage). record s { stage = x }) is
 
 -- what is settled stays
-pub stays_composed : (s : Client) → is_compose s.stage ≡ false → s ≡ composed s
-stays_composed s settled = same_stage s (composed_stage s s.stage) (settled_stage s s.stage settled)
+pub stays_composed : (digest : List ℕ → Id) (s : ClientState) → is_compose s.stage ≡ false → s ≡ composed digest s
+stays_composed digest s settled = same_stage s (composed_stage digest s s.stage) (settled_stage digest s s.stage settled)
 
 winding_acts : (x : Stage) → is_winding x ≡ true → is_acting x ≡ false
 winding_acts compose is = absurd (cc)
@@ -46,77 +47,77 @@ winding_settled (round keys) is = absurd (cc)
 winding_settled (act flow) is = absurd (cc)
 winding_settled (winds ending m ms) is = refl
 
-either_same : (b c : Bool) (x y s : Client) → c ≡ false → y ≡ s → cond b (cond c x s) y ≡ s
+either_same : (b c : Bool) (x y s : ClientState) → c ≡ false → y ≡ s → cond b (cond c x s) y ≡ s
 either_same true c x y s idle same = rw idle refl
 either_same false c x y s idle same = same
 
-found_stays : (asked : Request) (s : Client) → is_winding s.stage ≡ true → found_at asked s ≡ s
-found_stays asked s is =
-    either_same (lifts asked) (is_acting s.stage) (given_up s) (composed s) s (winding_acts s.stage is)
-    (sym (stays_composed s (winding_settled s.stage is)))
+found_stays : (digest : List ℕ → Id) (asked : Request) (s : ClientState) → is_winding s.stage ≡ true → found_at digest asked s ≡ s
+found_stays digest asked s is =
+    either_same (lifts asked) (is_acting s.stage) (given_up s) (composed digest s) s (winding_acts s.stage is)
+    (sym (stays_composed digest s (winding_settled s.stage is)))
 
-all_same : (b c : Bool) (x y s : Client) → x ≡ s → y ≡ s → cond b x (cond c y s) ≡ s
+all_same : (b c : Bool) (x y s : ClientState) → x ≡ s → y ≡ s → cond b x (cond c y s) ≡ s
 all_same true c x y s here there = here
 all_same false true x y s here there = there
 all_same false false x y s here there = refl
 
-pub winding_stays : (number : ℕ) (asked : Request) (calls : List Call) (s : Client) → is_winding s.stage ≡ true → at_call number asked calls s ≡ s
-winding_stays number asked [] s is = refl
-winding_stays number asked (next ∷ calls) s is =
-    all_same (eqb number s.number) (is_some (course_of next)) (found_at asked s) (at_call number asked calls (given_up s)) s
-    (found_stays asked s is)
-    (ap (at_call number asked calls) (winding_given_in s s.stage is) ∙ winding_stays number asked calls s is)
+pub winding_stays : (digest : List ℕ → Id) (number : ℕ) (asked : Request) (calls : List Call) (s : ClientState) → is_winding s.stage ≡ true → at_call digest number asked calls s ≡ s
+winding_stays digest number asked [] s is = refl
+winding_stays digest number asked (next ∷ calls) s is =
+    all_same (eqb number s.number) (is_some (course_of next)) (found_at digest asked s) (at_call digest number asked calls (given_up s)) s
+    (found_stays digest asked s is)
+    (ap (at_call digest number asked calls) (winding_given_in s s.stage is) ∙ winding_stays digest number asked calls s is)
 
 -- ---- a call is given up
 
-wound_left : (ending : Ending) (ms : List Message) (s : Client) → ending ≡ answers answer.NoMemory None → ((wound ending ms s).left ≡ rest_of s.left) ⊎ (is_winding (wound ending ms s).stage ≡ true)
+wound_left : (ending : Ending) (ms : List Message) (s : ClientState) → ending ≡ answers answer.NoMemory None → ((wound ending ms s).left ≡ rest_of s.left) ⊎ (is_winding (wound ending ms s).stage ≡ true)
 wound_left (answers given place) [] s is = inl refl
 wound_left retries [] s is = absurd (cc)
 wound_left ending (m ∷ ms) s is = inr refl
 
-given_left_in : (s : Client) (x : Stage) → is_winding x ≡ false → ((given_up_in s x).left ≡ rest_of s.left) ⊎ (is_winding (given_up_in s x).stage ≡ true)
+given_left_in : (s : ClientState) (x : Stage) → is_winding x ≡ false → ((given_up_in s x).left ≡ rest_of s.left) ⊎ (is_winding (given_up_in s x).stage ≡ true)
 given_left_in s compose going = inl refl
 given_left_in s (round keys) going = inl refl
 given_left_in s (act flow) going = wound_left (answers answer.NoMemory None) (clean_up s.who flow) s refl
 given_left_in s (winds ending m ms) going = absurd (cc)
 
-wound_sent : (given : Ending) (ms : List Message) (s : Client) → (wound given ms s).sent ≡ []
+wound_sent : (given : Ending) (ms : List Message) (s : ClientState) → (wound given ms s).sent ≡ []
 wound_sent (answers given place) [] s = refl
 wound_sent retries [] s = refl
 wound_sent ending (m ∷ ms) s = refl
 
-given_sent_in : (s : Client) (x : Stage) → is_winding x ≡ false → (given_up_in s x).sent ≡ []
+given_sent_in : (s : ClientState) (x : Stage) → is_winding x ≡ false → (given_up_in s x).sent ≡ []
 given_sent_in s compose going = refl
 given_sent_in s (round keys) going = refl
 given_sent_in s (act flow) going = wound_sent (answers answer.NoMemory None) (clean_up s.who flow) s
 given_sent_in s (winds ending m ms) going = absurd (cc)
 
 -- a client that gives up has sent nothing
-pub given_sent : (s : Client) → is_winding s.stage ≡ false → (given_up s).sent ≡ []
+pub given_sent : (s : ClientState) → is_winding s.stage ≡ false → (given_up s).sent ≡ []
 given_sent s going = given_sent_in s s.stage going
 
 -- giving up a call before the one that is looked for changes nothing of what is found
-pub gives_up : (number : ℕ) (asked : Request) (s : Client) → s.number ≢ number → is_some (next_course s.left) ≡ true → is_winding s.stage ≡ false
-    → at_call number asked (given_up s).left (given_up s) ≡ at_call number asked s.left s
-gives_up number asked s unlike built going = by s.left refl built
+pub gives_up : (digest : List ℕ → Id) (number : ℕ) (asked : Request) (s : ClientState) → s.number ≢ number → is_some (next_course s.left) ≡ true → is_winding s.stage ≡ false
+    → at_call digest number asked (given_up s).left (given_up s) ≡ at_call digest number asked s.left s
+gives_up digest number asked s unlike built going = by s.left refl built
   where
     elsewhere : eqb number s.number ≡ false
     elsewhere = grind (arith, nat_tests)
 
-    by : (left : List Call) → s.left ≡ left → is_some (next_course left) ≡ true → at_call number asked (given_up s).left (given_up s) ≡ at_call number asked left s
+    by : (left : List Call) → s.left ≡ left → is_some (next_course left) ≡ true → at_call digest number asked (given_up s).left (given_up s) ≡ at_call digest number asked left s
     by [] same built = absurd (cc)
     by (next ∷ calls) same built =
-        let step : at_call number asked (next ∷ calls) s ≡ at_call number asked calls (given_up s) = rw (elsewhere, built) refl in
+        let step : at_call digest number asked (next ∷ calls) s ≡ at_call digest number asked calls (given_up s) = rw (elsewhere, built) refl in
         ⊎_elim
-        (λ e. ap (λ xs. at_call number asked xs (given_up s)) (e ∙ ap rest_of same) ∙ sym step)
-        (λ w. winding_stays number asked (given_up s).left (given_up s) w ∙ sym (winding_stays number asked calls (given_up s) w) ∙ sym step)
+        (λ e. ap (λ xs. at_call digest number asked xs (given_up s)) (e ∙ ap rest_of same) ∙ sym step)
+        (λ w. winding_stays digest number asked (given_up s).left (given_up s) w ∙ sym (winding_stays digest number asked calls (given_up s) w) ∙ sym step)
         (given_left_in s s.stage going)
 
 pub built_left : (left : List Call) → is_some (next_course left) ≡ true → 0 < length left
 built_left [] is = absurd (cc)
 built_left (next ∷ calls) is = omega arith
 
-weight_wound : (ending : Ending) (ms : List Message) (s : Client) → ending ≡ answers answer.NoMemory None → 0 < length s.left → weight (wound ending ms s) < length s.left + 1
+weight_wound : (ending : Ending) (ms : List Message) (s : ClientState) → ending ≡ answers answer.NoMemory None → 0 < length s.left → weight (wound ending ms s) < length s.left + 1
 weight_wound (answers given place) [] s is some = rest s.left some
   where
     rest : (left : List Call) → 0 < length left → length (rest_of left) + 1 < length left + 1
@@ -125,67 +126,67 @@ weight_wound (answers given place) [] s is some = rest s.left some
 weight_wound retries [] s is some = absurd (cc)
 weight_wound ending (m ∷ ms) s is some = omega arith
 
-weight_in : (s : Client) (x : Stage) → is_winding x ≡ false → 0 < length s.left → weight (given_up_in s x) < length s.left + 1
+weight_in : (s : ClientState) (x : Stage) → is_winding x ≡ false → 0 < length s.left → weight (given_up_in s x) < length s.left + 1
 weight_in s compose going some = weight_wound (answers answer.NoMemory None) [] s refl some
 weight_in s (round keys) going some = weight_wound (answers answer.NoMemory None) [] s refl some
 weight_in s (act flow) going some = weight_wound (answers answer.NoMemory None) (clean_up s.who flow) s refl some
 weight_in s (winds ending m ms) going some = absurd (cc)
 
-weight_is : (s : Client) → is_winding s.stage ≡ false → weight s ≡ length s.left + 1
+weight_is : (s : ClientState) → is_winding s.stage ≡ false → weight s ≡ length s.left + 1
 weight_is s going = rw going refl
 
-pub gives_up_less : (s : Client) → is_winding s.stage ≡ false → is_some (next_course s.left) ≡ true → weight (given_up s) < weight s
+pub gives_up_less : (s : ClientState) → is_winding s.stage ≡ false → is_some (next_course s.left) ≡ true → weight (given_up s) < weight s
 gives_up_less s going built = rw (weight_is s going) (weight_in s s.stage going (built_left s.left built))
 
 -- ---- where the walk ends
 
 -- a call that asks for nothing is where the client stays, as is one that winds up
-pub stays_at : (number : ℕ) (asked : Request) (s : Client) → s.number ≢ number → (is_some (next_course s.left) ≡ true → is_winding s.stage ≡ true) → at_call number asked s.left s ≡ s
-stays_at number asked s unlike stopped = by s.left refl (is_some (next_course s.left)) refl
+pub stays_at : (digest : List ℕ → Id) (number : ℕ) (asked : Request) (s : ClientState) → s.number ≢ number → (is_some (next_course s.left) ≡ true → is_winding s.stage ≡ true) → at_call digest number asked s.left s ≡ s
+stays_at digest number asked s unlike stopped = by s.left refl (is_some (next_course s.left)) refl
   where
     elsewhere : eqb number s.number ≡ false
     elsewhere = grind (arith, nat_tests)
 
-    by : (left : List Call) → s.left ≡ left → (b : Bool) → is_some (next_course s.left) ≡ b → at_call number asked left s ≡ s
+    by : (left : List Call) → s.left ≡ left → (b : Bool) → is_some (next_course s.left) ≡ b → at_call digest number asked left s ≡ s
     by [] same b is = refl
-    by (next ∷ calls) same true is = winding_stays number asked (next ∷ calls) s (stopped is)
+    by (next ∷ calls) same true is = winding_stays digest number asked (next ∷ calls) s (stopped is)
     by (next ∷ calls) same false is =
         let none : is_some (course_of next) ≡ false = ap (λ xs. is_some (next_course xs)) (sym same) ∙ is in
         rw (elsewhere, none) refl
 
-pub at_nothing : (number : ℕ) (asked : Request) (s : Client) → s.left ≡ [] → at_call number asked s.left s ≡ s
-at_nothing number asked s over = ap (λ calls. at_call number asked calls s) over
+pub at_nothing : (digest : List ℕ → Id) (number : ℕ) (asked : Request) (s : ClientState) → s.left ≡ [] → at_call digest number asked s.left s ≡ s
+at_nothing digest number asked s over = ap (λ calls. at_call digest number asked calls s) over
 
-pub at_found : (number : ℕ) (asked : Request) (s : Client) → s.number ≡ number → (s.left ≡ [] → ⊥) → at_call number asked s.left s ≡ found_at asked s
-at_found number asked s same some = by s.left some
+pub at_found : (digest : List ℕ → Id) (number : ℕ) (asked : Request) (s : ClientState) → s.number ≡ number → (s.left ≡ [] → ⊥) → at_call digest number asked s.left s ≡ found_at digest asked s
+at_found digest number asked s same some = by s.left some
   where
     here : eqb number s.number ≡ true
     here = grind (arith, nat_tests)
 
-    by : (left : List Call) → (left ≡ [] → ⊥) → at_call number asked left s ≡ found_at asked s
+    by : (left : List Call) → (left ≡ [] → ⊥) → at_call digest number asked left s ≡ found_at digest asked s
     by [] some = absurd (some refl)
     by (next ∷ calls) some = rw here refl
 
-pub begun_between : (ask : Ask) (s : Client) → s.sent ≡ [] → begun ask s.sent s ≡ at_call ask.from.number ask.request s.left s
-begun_between ask s none = ap (λ xs. begun ask xs s) none
+pub begun_between : (digest : List ℕ → Id) (ask : Ask) (s : ClientState) → s.sent ≡ [] → begun digest ask s.sent s ≡ at_call digest ask.from.number ask.request s.left s
+begun_between digest ask s none = ap (λ xs. begun digest ask xs s) none
 
-begun_with : (ask : Ask) (xs : List Sent) (s : Client) → (xs ≡ [] → ⊥) → s ≡ begun ask xs s
-begun_with ask [] s some = absurd (some refl)
-begun_with ask (x ∷ xs) s some = refl
+begun_with : (digest : List ℕ → Id) (ask : Ask) (xs : List Sent) (s : ClientState) → (xs ≡ [] → ⊥) → s ≡ begun digest ask xs s
+begun_with digest ask [] s some = absurd (some refl)
+begun_with digest ask (x ∷ xs) s some = refl
 
-pub begun_inside : (ask : Ask) (s : Client) → (s.sent ≡ [] → ⊥) → s ≡ begun ask s.sent s
-begun_inside ask s some = begun_with ask s.sent s some
+pub begun_inside : (digest : List ℕ → Id) (ask : Ask) (s : ClientState) → (s.sent ≡ [] → ⊥) → s ≡ begun digest ask s.sent s
+begun_inside digest ask s some = begun_with digest ask s.sent s some
 
 -- ---- found at its call
 
-pub found_lifts : (asked : Request) (s : Client) → lifts asked ≡ true → is_acting s.stage ≡ true → given_up s ≡ found_at asked s
-found_lifts asked s is acting = rw (is, acting) refl
+pub found_lifts : (digest : List ℕ → Id) (asked : Request) (s : ClientState) → lifts asked ≡ true → is_acting s.stage ≡ true → given_up s ≡ found_at digest asked s
+found_lifts digest asked s is acting = rw (is, acting) refl
 
-pub found_idle : (asked : Request) (s : Client) → lifts asked ≡ true → is_acting s.stage ≡ false → s ≡ found_at asked s
-found_idle asked s is acting = rw (is, acting) refl
+pub found_idle : (digest : List ℕ → Id) (asked : Request) (s : ClientState) → lifts asked ≡ true → is_acting s.stage ≡ false → s ≡ found_at digest asked s
+found_idle digest asked s is acting = rw (is, acting) refl
 
-pub found_other : (asked : Request) (s : Client) → lifts asked ≡ false → composed s ≡ found_at asked s
-found_other asked s is = rw is refl
+pub found_other : (digest : List ℕ → Id) (asked : Request) (s : ClientState) → lifts asked ≡ false → composed digest s ≡ found_at digest asked s
+found_other digest asked s is = rw is refl
 
 pub acting_goes : (x : Stage) → is_acting x ≡ true → is_winding x ≡ false
 acting_goes compose is = absurd (cc)

@@ -1,12 +1,13 @@
 -- What a client keeps while it follows its own Asks: that its counts fit.
 use Rattle.std.proofs.Common.{◌≡◌, ℕ, ◌+◌, ◌<◌, ◌≤◌, Bool, true, false, List, [], ◌∷◌, length, get_or, take, fold, Option, Some, None, refl, sym, ap, ◌∙◌, arith}
 use Rattle.std.proofs.lemmas.List.Sums.{fold_more}
+use Rattle.inf_base.specs.declared.id.Id.{Id}
 use Rattle.inf_base.specs.declared.answer.Answer.TheVariants as answer
 use Rattle.inf_duty.specs.Duty.{asked, begun, given_up_in}
 use Rattle.inf_duty.specs.Own.{after_answer, after_own}
 use Rattle.inf_duty.specs.declared.own.OwnAsk.{OwnAsk}
 use Rattle.inf_duty.proofs.BegunKept.{IsKept, if_both, kept_begun}
-use Rattle.inf_flow_dir.specs.Client.{Client, Ending, Stage, act, answers, compose, has_place, retries, round, winds, wound}
+use Rattle.inf_flow_dir.specs.Client.{ClientState, Ending, Stage, act, answers, compose, has_place, retries, round, winds, wound}
 use Rattle.inf_flow_dir.specs.Flow.{clean_up}
 use Rattle.inf_flow_dir.specs.Heard.{heard}
 use Rattle.inf_flow_dir.specs.Turn.{Turn, after_record, goes_on, is_complete, recorded, served, settled, turn_at, turned, winds_up}
@@ -16,59 +17,59 @@ use Rattle.inf_message.specs.declared.step.Message.{Message}
 use Rattle.inf_message.specs.History.{Told, told_reply}
 
 -- its call has taken at most so many messages
-abbrev TookAtMost : ℕ → Client → Type 0
+abbrev TookAtMost : ℕ → ClientState → Type 0
 TookAtMost count s = s.counts.messages ≤ count
 
-wound_took : (count : ℕ) (ending : Ending) (ms : List Message) (s : Client) → TookAtMost count s → TookAtMost count (wound ending ms s)
+wound_took : (count : ℕ) (ending : Ending) (ms : List Message) (s : ClientState) → TookAtMost count s → TookAtMost count (wound ending ms s)
 wound_took count (answers given place) [] s took = omega arith
 wound_took count retries [] s took = took
 wound_took count ending (m ∷ ms) s took = took
 
-given_took_in : (count : ℕ) (s : Client) (x : Stage) → TookAtMost count s → TookAtMost count (given_up_in s x)
+given_took_in : (count : ℕ) (s : ClientState) (x : Stage) → TookAtMost count s → TookAtMost count (given_up_in s x)
 given_took_in count s compose took = omega arith
 given_took_in count s (round keys) took = omega arith
 given_took_in count s (act flow) took = wound_took count (answers answer.NoMemory None) (clean_up s.who flow) s took
 given_took_in count s (winds ending m ms) took = took
 
-took_kept : (count : ℕ) → IsKept (TookAtMost count)
-took_kept count = record { composing = λ s took. took; giving_up = λ s took. given_took_in count s s.stage took }
+took_kept : (digest : List ℕ → Id) (count : ℕ) → IsKept digest (TookAtMost count)
+took_kept digest count = record { composing = λ s took. took; giving_up = λ s took. given_took_in count s s.stage took }
 
 -- a client that an ask finds has sent no more than before
-pub begun_took : (count : ℕ) (ask : Ask) (s : Client) → s.counts.messages ≤ count → (begun ask s.sent s).counts.messages ≤ count
-begun_took count ask s took = kept_begun (TookAtMost count) (took_kept count) ask s.sent s took
+pub begun_took : (digest : List ℕ → Id) (count : ℕ) (ask : Ask) (s : ClientState) → s.counts.messages ≤ count → (begun digest ask s.sent s).counts.messages ≤ count
+begun_took digest count ask s took = kept_begun digest (TookAtMost count) (took_kept digest count) ask s.sent s took
 
-asked_took : (count at : ℕ) (ask : Ask) (s : Client) → TookAtMost count s → TookAtMost (count + 1) (asked at ask s)
-asked_took count at ask s took = let before = begun_took count ask s took in omega arith
+asked_took : (digest : List ℕ → Id) (count at : ℕ) (ask : Ask) (s : ClientState) → TookAtMost count s → TookAtMost (count + 1) (asked digest at ask s)
+asked_took digest count at ask s took = let before = begun_took digest count ask s took in omega arith
 
-turned_took : (count : ℕ) (t : Turn) (s : Client) → TookAtMost count s → TookAtMost count (turned t s)
+turned_took : (count : ℕ) (t : Turn) (s : ClientState) → TookAtMost count s → TookAtMost count (turned t s)
 turned_took count (goes_on next) s took = took
 turned_took count (winds_up ending more) s took = wound_took count ending more s took
 
-settled_took : (count : ℕ) (complete : Bool) (s : Client) → TookAtMost count s → TookAtMost count (settled complete s)
-settled_took count true s took = turned_took count (turn_at s s.stage) s took
-settled_took count false s took = took
+settled_took : (digest : List ℕ → Id) (count : ℕ) (complete : Bool) (s : ClientState) → TookAtMost count s → TookAtMost count (settled digest complete s)
+settled_took digest count true s took = turned_took count (turn_at digest s s.stage) s took
+settled_took digest count false s took = took
 
-served_took : (count at : ℕ) (told : Told) (s : Client) → TookAtMost count s → TookAtMost count (served at told s)
-served_took count at told s took =
-    if_both (TookAtMost count) (has_place at s.sent) (after_record (recorded at told s)) s
-    (settled_took count (is_complete (recorded at told s)) (recorded at told s) took) took
+served_took : (digest : List ℕ → Id) (count at : ℕ) (told : Told) (s : ClientState) → TookAtMost count s → TookAtMost count (served digest at told s)
+served_took digest count at told s took =
+    if_both (TookAtMost count) (has_place at s.sent) (after_record digest (recorded at told s)) s
+    (settled_took digest count (is_complete (recorded at told s)) (recorded at told s) took) took
 
-answer_took : (count at : ℕ) (told : Option (ℕ × Reply)) (s : Client) → TookAtMost count s → TookAtMost count (after_answer at told s)
-answer_took count at None s took = took
-answer_took count at (Some told) s took = served_took count at (told_reply told.0 (heard told.1)) s took
+answer_took : (digest : List ℕ → Id) (count at : ℕ) (told : Option (ℕ × Reply)) (s : ClientState) → TookAtMost count s → TookAtMost count (after_answer digest at told s)
+answer_took digest count at None s took = took
+answer_took digest count at (Some told) s took = served_took digest count at (told_reply told.0 (heard told.1)) s took
 
 -- the client once it has followed the first so many of its Asks
-pub record HasFollowed (before now : Client) (own : List OwnAsk) (count : ℕ) : Type 0 where
-  pub same : now ≡ fold after_own before (take count own)
+pub record HasFollowed (digest : List ℕ → Id) (before now : ClientState) (own : List OwnAsk) (count : ℕ) : Type 0 where
+  pub same : now ≡ fold (after_own digest) before (take count own)
   pub took : now.counts.messages ≤ count
 
-pub follows_none : (before : Client) (own : List OwnAsk) → before.counts.messages ≡ 0 → HasFollowed before before own 0
-follows_none before own none = record { same = refl; took = omega arith }
+pub follows_none : (digest : List ℕ → Id) (before : ClientState) (own : List OwnAsk) → before.counts.messages ≡ 0 → HasFollowed digest before before own 0
+follows_none digest before own none = record { same = refl; took = omega arith }
 
-pub follows_more : (before now next : Client) (own : List OwnAsk) (count : ℕ) (made : OwnAsk) → HasFollowed before now own count → count < length own → made ≡ get_or own count made → next ≡ after_own now made → HasFollowed before next own (count + 1)
-follows_more before now next own count made followed within is after =
+pub follows_more : (digest : List ℕ → Id) (before now next : ClientState) (own : List OwnAsk) (count : ℕ) (made : OwnAsk) → HasFollowed digest before now own count → count < length own → made ≡ get_or own count made → next ≡ after_own digest now made → HasFollowed digest before next own (count + 1)
+follows_more digest before now next own count made followed within is after =
     rw after
     (record {
-      same = ap (λ s. after_own s made) followed.same ∙ ap (after_own (fold after_own before (take count own))) is ∙ sym (fold_more after_own before own count made within);
-      took = answer_took (count + 1) made.ask_place made.told (asked made.ask_place made.ask now) (asked_took count made.ask_place made.ask now followed.took);
+      same = ap (λ s. after_own digest s made) followed.same ∙ ap (after_own digest (fold (after_own digest) before (take count own))) is ∙ sym (fold_more (after_own digest) before own count made within);
+      took = answer_took digest (count + 1) made.ask_place made.told (asked digest made.ask_place made.ask now) (asked_took digest count made.ask_place made.ask now followed.took);
     })

@@ -3,10 +3,11 @@ use Rattle.std.proofs.Common.{◌≡◌, ℕ, ◌<◌, ◌&&◌, ◌||◌, if◌
 use Rattle.std.proofs.lemmas.Bool.Decides.{nat_tests}
 use Rattle.std.proofs.lemmas.List.{length-map}
 use Rattle.std.specs.List.{list_all}
+use Rattle.inf_base.specs.declared.id.Id.{Id}
 use Rattle.inf_duty.specs.Kept.{AloneOrFits}
 use Rattle.inf_duty.specs.Messages.{has_one_message}
 use Rattle.inf_duty.specs.Tally.{with_serve}
-use Rattle.inf_flow_dir.specs.Client.{Client, Ending, Sent, Stage, act, answers, compose, has_place, is_round, is_told, retries, round, told_at, winds}
+use Rattle.inf_flow_dir.specs.Client.{ClientState, Ending, Sent, Stage, act, answers, compose, has_place, is_round, is_told, retries, round, told_at, winds}
 use Rattle.inf_flow_dir.specs.Flow.{Flow, Who, finishes, links, makes, reserves, seals, unlinks}
 use Rattle.inf_flow_dir.specs.Group.{group}
 use Rattle.inf_flow_dir.specs.Heard.{heard}
@@ -19,7 +20,7 @@ use Rattle.inf_message.specs.declared.step.Message.{Message}
 use Rattle.inf_message.specs.History.{Told, or_told}
 
 -- what a turn leaves does not rest on the group that is over
-pub turned_afresh : (t : Turn) (s : Client) (x y : Stage) (xs ys : List Sent)
+pub turned_afresh : (t : Turn) (s : ClientState) (x y : Stage) (xs ys : List Sent)
     → turned t (record s { stage = x; sent = xs }) ≡ turned t (record s { stage = y; sent = ys })
 turned_afresh (goes_on next) s x y xs ys = refl
 turned_afresh (winds_up (answers given place) []) s x y xs ys = refl
@@ -27,60 +28,60 @@ turned_afresh (winds_up retries []) s x y xs ys = refl
 turned_afresh (winds_up ending (m ∷ ms)) s x y xs ys = refl
 
 -- a listing is answered as any reply that was not asked for
-listing_act : (who : Who) (flow : Flow) (asked place : ℕ) (items : List Item) → after_act who flow asked place reply.Other ≡ after_act who flow asked place (reply.Listing items)
-listing_act who (finishes chain (op.Refuse error)) asked place items = refl
-listing_act who (finishes chain op.StatTop) asked place items = refl
-listing_act who (finishes chain (op.Walk name)) asked place items = refl
-listing_act who (finishes chain (op.Create name mode)) asked place items = refl
-listing_act who (finishes chain (op.Stat name)) asked place items = refl
-listing_act who (finishes chain (op.Unlink name)) asked place items = refl
-listing_act who (finishes chain (op.Truncate name size)) asked place items = refl
-listing_act who (finishes chain (op.Chmod name mode)) asked place items = refl
-listing_act who (finishes chain (op.Move old new)) asked place items = refl
-listing_act who (finishes chain (op.ListName name)) asked place items = refl
-listing_act who (finishes chain (op.RmdirName name)) asked place items = refl
-listing_act who (finishes chain op.List) asked place items = refl
-listing_act who (reserves chain name mode) asked place items = refl
-listing_act who (makes chain name mode version) asked place items = refl
-listing_act who (links chain name mode version born) asked place items = refl
-listing_act who (seals chain) asked place items = refl
-listing_act who (unlinks chain) asked place items = refl
+listing_act : (digest : List ℕ → Id) (who : Who) (flow : Flow) (asked place : ℕ) (items : List Item) → after_act digest who flow asked place reply.Other ≡ after_act digest who flow asked place (reply.Listing items)
+listing_act digest who (finishes chain (op.Refuse error)) asked place items = refl
+listing_act digest who (finishes chain op.StatTop) asked place items = refl
+listing_act digest who (finishes chain (op.Walk name)) asked place items = refl
+listing_act digest who (finishes chain (op.Create name mode)) asked place items = refl
+listing_act digest who (finishes chain (op.Stat name)) asked place items = refl
+listing_act digest who (finishes chain (op.Unlink name)) asked place items = refl
+listing_act digest who (finishes chain (op.Truncate name size)) asked place items = refl
+listing_act digest who (finishes chain (op.Chmod name mode)) asked place items = refl
+listing_act digest who (finishes chain (op.Move old new)) asked place items = refl
+listing_act digest who (finishes chain (op.ListName name)) asked place items = refl
+listing_act digest who (finishes chain (op.RmdirName name)) asked place items = refl
+listing_act digest who (finishes chain op.List) asked place items = refl
+listing_act digest who (reserves chain name mode) asked place items = refl
+listing_act digest who (makes chain name mode version id) asked place items = refl
+listing_act digest who (links chain name mode version dir) asked place items = refl
+listing_act digest who (seals chain) asked place items = refl
+listing_act digest who (unlinks chain) asked place items = refl
 
-pub heard_act : (who : Who) (flow : Flow) (asked place : ℕ) (given : Reply) → after_act who flow asked place (heard given) ≡ after_act who flow asked place given
-heard_act who flow asked place (reply.Listing items) = listing_act who flow asked place items
-heard_act who flow asked place (reply.Found key access) = refl
-heard_act who flow asked place (reply.Absent born) = refl
-heard_act who flow asked place (reply.IsFile born) = refl
-heard_act who flow asked place reply.NoDir = refl
-heard_act who flow asked place reply.Gone = refl
-heard_act who flow asked place (reply.Stale hits) = refl
-heard_act who flow asked place (reply.Busy by where_at born) = refl
-heard_act who flow asked place reply.Other = refl
-heard_act who flow asked place reply.NoMem = refl
-heard_act who flow asked place (reply.Reserved version) = refl
-heard_act who flow asked place (reply.Held meta) = refl
-heard_act who flow asked place (reply.Clash kept) = refl
-heard_act who flow asked place reply.Fine = refl
-heard_act who flow asked place (reply.Refused error) = refl
-heard_act who flow asked place (reply.Stat kind meta) = refl
+pub heard_act : (digest : List ℕ → Id) (who : Who) (flow : Flow) (asked place : ℕ) (given : Reply) → after_act digest who flow asked place (heard given) ≡ after_act digest who flow asked place given
+heard_act digest who flow asked place (reply.Listing items) = listing_act digest who flow asked place items
+heard_act digest who flow asked place (reply.Found key access) = refl
+heard_act digest who flow asked place (reply.Absent born) = refl
+heard_act digest who flow asked place (reply.IsFile born) = refl
+heard_act digest who flow asked place reply.NoDir = refl
+heard_act digest who flow asked place reply.Gone = refl
+heard_act digest who flow asked place (reply.Stale hits) = refl
+heard_act digest who flow asked place (reply.Busy by where_at born) = refl
+heard_act digest who flow asked place reply.Other = refl
+heard_act digest who flow asked place reply.NoMem = refl
+heard_act digest who flow asked place (reply.Reserved version) = refl
+heard_act digest who flow asked place (reply.Held meta) = refl
+heard_act digest who flow asked place (reply.Clash kept) = refl
+heard_act digest who flow asked place reply.Fine = refl
+heard_act digest who flow asked place (reply.Refused error) = refl
+heard_act digest who flow asked place (reply.Stat kind meta) = refl
 
 -- ---- a group of one message
 
-turn_at_one : (who : Who) (flow : Flow) (p place : ℕ) (told : Told) (b : Bool) → eqb p place ≡ b → b || false ≡ true
-    → act_turn who flow (cond b (record { place = p; told = Some told }) (record { place = p; told = None }) ∷ []) ≡ after_act who flow place told.serve_place told.reply
-turn_at_one who flow p place told true same here =
+turn_at_one : (digest : List ℕ → Id) (who : Who) (flow : Flow) (p place : ℕ) (told : Told) (b : Bool) → eqb p place ≡ b → b || false ≡ true
+    → act_turn digest who flow (cond b (record { place = p; told = Some told }) (record { place = p; told = None }) ∷ []) ≡ after_act digest who flow place told.serve_place told.reply
+turn_at_one digest who flow p place told true same here =
     let is : p ≡ place = grind (arith, nat_tests) in
-    ap (λ at. after_act who flow at told.serve_place told.reply) is
-turn_at_one who flow p place told false same here = absurd (cc)
+    ap (λ at. after_act digest who flow at told.serve_place told.reply) is
+turn_at_one digest who flow p place told false same here = absurd (cc)
 
 -- its one answer decides
-pub alone_turn : (who : Who) (flow : Flow) (place rooms : ℕ) (told : Told) (sent : List Sent) → length sent ≡ 1 → has_place place sent ≡ true → AloneOrFits rooms sent
-    → act_turn who flow (map (told_at place told) sent) ≡ after_act who flow place told.serve_place told.reply
-alone_turn who flow place rooms told [] one here fits = absurd (omega arith)
-alone_turn who flow place rooms told (x ∷ []) one here fits =
-    subst (λ t. act_turn who flow ((if eqb x.place place then record { place = x.place; told = Some (or_told t told) } else record { place = x.place; told = t }) ∷ []) ≡ after_act who flow place told.serve_place told.reply)
-    (sym fits) (turn_at_one who flow x.place place told (eqb x.place place) refl here)
-alone_turn who flow place rooms told (x ∷ y ∷ sent) one here fits = absurd (omega arith)
+pub alone_turn : (digest : List ℕ → Id) (who : Who) (flow : Flow) (place rooms : ℕ) (told : Told) (sent : List Sent) → length sent ≡ 1 → has_place place sent ≡ true → AloneOrFits rooms sent
+    → act_turn digest who flow (map (told_at place told) sent) ≡ after_act digest who flow place told.serve_place told.reply
+alone_turn digest who flow place rooms told [] one here fits = absurd (omega arith)
+alone_turn digest who flow place rooms told (x ∷ []) one here fits =
+    subst (λ t. act_turn digest who flow ((if eqb x.place place then record { place = x.place; told = Some (or_told t told) } else record { place = x.place; told = t }) ∷ []) ≡ after_act digest who flow place told.serve_place told.reply)
+    (sym fits) (turn_at_one digest who flow x.place place told (eqb x.place place) refl here)
+alone_turn digest who flow place rooms told (x ∷ y ∷ sent) one here fits = absurd (omega arith)
 
 told_one : (x : Sent) (place : ℕ) (told : Told) (b : Bool) → b || false ≡ true → is_told (cond b (record x { told = Some (or_told x.told told) }) x) ≡ true
 told_one x place told true here = refl
@@ -104,26 +105,26 @@ same_nat : (n m : ℕ) → n ≡ m → eqb n m ≡ true
 same_nat n m same = grind (arith, nat_tests)
 
 -- and ends the group
-pub alone_complete : (place : ℕ) (told : Told) (s : Client) → length s.sent ≡ 1 → has_place place s.sent ≡ true → has_one_message s.stage ≡ true → is_complete (recorded place told s) ≡ true
+pub alone_complete : (place : ℕ) (told : Told) (s : ClientState) → length s.sent ≡ 1 → has_place place s.sent ≡ true → has_one_message s.stage ≡ true → is_complete (recorded place told s) ≡ true
 alone_complete place told s alone here one =
     both (eqb (length (map (told_at place told) s.sent)) (length (group s.who s.stage))) (list_all is_told (map (told_at place told) s.sent))
     (same_nat _ _ (length-map s.sent (told_at place told) ∙ alone ∙ sym (size_one s.who s.stage one)))
     (one_told place told s.sent alone here)
 
-pub served_alone : (place : ℕ) (told : Told) (s : Client) → length s.sent ≡ 1 → has_place place s.sent ≡ true → has_one_message s.stage ≡ true
-    → served place told s ≡ turned (turn_at (recorded place told s) s.stage) (recorded place told s)
-served_alone place told s alone here one =
-    ap (λ b. if b then settled (is_complete (recorded place told s)) (recorded place told s) else s) here
-    ∙ ap (λ b. settled b (recorded place told s)) (alone_complete place told s alone here one)
+pub served_alone : (digest : List ℕ → Id) (place : ℕ) (told : Told) (s : ClientState) → length s.sent ≡ 1 → has_place place s.sent ≡ true → has_one_message s.stage ≡ true
+    → served digest place told s ≡ turned (turn_at digest (recorded place told s) s.stage) (recorded place told s)
+served_alone digest place told s alone here one =
+    ap (λ b. if b then settled digest (is_complete (recorded place told s)) (recorded place told s) else s) here
+    ∙ ap (λ b. settled digest b (recorded place told s)) (alone_complete place told s alone here one)
 
-pub alone_ends : (s mid new : Client) (t : Turn) (place : ℕ) (told : Told) → length s.sent ≡ 1 → has_place place s.sent ≡ true → has_one_message s.stage ≡ true
-    → t ≡ turn_at (recorded place told s) s.stage → mid ≡ record s { stage = compose; sent = []; counts = with_serve told.serve_place s.counts }
-    → new ≡ turned t mid → new ≡ served place told s
-alone_ends s mid new t place told alone here one turn between after =
+pub alone_ends : (digest : List ℕ → Id) (s mid new : ClientState) (t : Turn) (place : ℕ) (told : Told) → length s.sent ≡ 1 → has_place place s.sent ≡ true → has_one_message s.stage ≡ true
+    → t ≡ turn_at digest (recorded place told s) s.stage → mid ≡ record s { stage = compose; sent = []; counts = with_serve told.serve_place s.counts }
+    → new ≡ turned t mid → new ≡ served digest place told s
+alone_ends digest s mid new t place told alone here one turn between after =
     after ∙ ap (turned t) between
     ∙ turned_afresh t (record s { counts = with_serve told.serve_place s.counts }) compose s.stage [] (map (told_at place told) s.sent)
     ∙ ap (λ (u : Turn). turned u (recorded place told s)) turn
-    ∙ sym (served_alone place told s alone here one)
+    ∙ sym (served_alone digest place told s alone here one)
 
 -- ---- a round
 
@@ -135,7 +136,7 @@ first_of true b is = refl
 first_of false b is = absurd (cc)
 
 -- a group that is over, and is not one message, is a round
-pub complete_round : (s : Client) → is_complete s ≡ true → 0 < length s.sent → (has_one_message s.stage && eqb (length s.sent) 1) ≡ false → is_round s.stage ≡ true
+pub complete_round : (s : ClientState) → is_complete s ≡ true → 0 < length s.sent → (has_one_message s.stage && eqb (length s.sent) 1) ≡ false → is_round s.stage ≡ true
 complete_round s complete some more = by s.stage (first_of (eqb (length s.sent) (length (group s.who s.stage))) _ complete) more
   where
     by : (next : Stage) → eqb (length s.sent) (length (group s.who next)) ≡ true → (has_one_message next && eqb (length s.sent) 1) ≡ false → is_round next ≡ true

@@ -3,7 +3,7 @@ use Rattle.std.specs.Prelude.{ℕ, suc, ◌==◌, if◌then◌else◌, List, [],
 use Rattle.inf_duty.specs.Duty.{asked}
 use Rattle.inf_duty.specs.Start.{start}
 use Rattle.inf_duty.specs.World.{World}
-use Rattle.inf_flow_dir.specs.Client.{Client}
+use Rattle.inf_flow_dir.specs.Client.{ClientState}
 use Rattle.inf_flow_dir.specs.Heard.{heard}
 use Rattle.inf_flow_dir.specs.Turn.{served}
 use Rattle.inf_message.specs.declared.event.Event.{Event}
@@ -11,9 +11,9 @@ use Rattle.inf_message.specs.declared.event.Event.TheVariants as event
 use Rattle.inf_message.specs.History.{told_reply}
 
 -- the state of a client after its own Asks, and the Serves of these
-abbrev pub client_after : World → ℕ → List Event → Client
+abbrev pub client_after : World → ℕ → List Event → ClientState
 client_after world client [] = start world client
 client_after world client (event.Ask number ask ∷ h) =
-    if ask.from.client == client then asked (suc (length h)) ask (client_after world client h) else client_after world client h
+    if ask.from.client == client then asked world.digest (suc (length h)) ask (client_after world client h) else client_after world client h
 client_after world client (event.Serve number ask_place given ∷ h) =
-    served ask_place (told_reply (suc (length h)) (heard given)) (client_after world client h)
+    served world.digest ask_place (told_reply (suc (length h)) (heard given)) (client_after world client h)

@@ -2,11 +2,12 @@
 use Rattle.std.specs.Prelude.{◌≡◌, ℕ, ◌==◌, Bool, true, false, if◌then◌else◌, List, [], ◌∷◌, length, slice_get, Option, Some, None, is_some}
 use Rattle.inf_base.specs.declared.answer.Answer.TheVariants as answer
 use Rattle.inf_base.specs.declared.call.Call.{Call}
+use Rattle.inf_base.specs.declared.id.Id.{Id}
 use Rattle.inf_message.specs.declared.ask.Ask.{Ask}
 use Rattle.inf_message.specs.declared.request.Request.{Request}
 use Rattle.inf_message.specs.declared.request.Request.TheVariants as request
 use Rattle.inf_message.specs.declared.step.Message.{Message}
-use Rattle.inf_flow_dir.specs.Client.{Client, Sent, Stage, act, answers, call_ref, ended, placed, winds, wound}
+use Rattle.inf_flow_dir.specs.Client.{ClientState, Sent, Stage, act, answers, call_ref, ended, placed, winds, wound}
 use Rattle.inf_flow_dir.specs.Flow.{clean_up}
 use Rattle.inf_flow_dir.specs.Group.{composed, course_of, group}
 
@@ -18,25 +19,25 @@ pub data Next : Type 0 where
   -- nothing any more
   is_over : Next
 
-abbrev pub next_of : Client → Option Message → Next
+abbrev pub next_of : ClientState → Option Message → Next
 next_of s (Some message) = asks message.number (record { from = call_ref s; caller = s.who.caller; request = message.request })
 next_of s None = waits
 
-abbrev pub next_in : Client → List Call → Next
+abbrev pub next_in : ClientState → List Call → Next
 next_in s [] = is_over
 next_in s (call ∷ calls) = next_of s (slice_get (group s.who s.stage) (length s.sent))
 
 -- the next message of the group
-abbrev pub next_step : Client → Next
+abbrev pub next_step : ClientState → Next
 next_step s = next_in s s.left
 
 -- a client that wants memory between two groups takes the clean-up of its next step, and gives its call up
-abbrev pub given_up_in : Client → Stage → Client
+abbrev pub given_up_in : ClientState → Stage → ClientState
 given_up_in s (act flow) = wound (answers answer.NoMemory None) (clean_up s.who flow) s
 given_up_in s (winds ending m ms) = s
 given_up_in s other = ended answer.NoMemory None s
 
-abbrev pub given_up : Client → Client
+abbrev pub given_up : ClientState → ClientState
 given_up s = given_up_in s s.stage
 
 -- the messages of clean-ups
@@ -51,24 +52,25 @@ is_acting (act flow) = true
 is_acting other = false
 
 -- an ask of a clean-up shows that the client wanted memory for its next step
-abbrev pub found_at : Request → Client → Client
-found_at asked s = if lifts asked then (if is_acting s.stage then given_up s else s) else composed s
+abbrev pub found_at : (List ℕ → Id) → Request → ClientState → ClientState
+found_at digest asked s = if lifts asked then (if is_acting s.stage then given_up s else s) else composed digest s
 
 -- the client at the call of this number, where it gives up those before it; one that has something to clean up does that
 -- first, and one that cleans up gives nothing up
-abbrev pub at_call : ℕ → Request → List Call → Client → Client
-at_call number asked [] s = s
-at_call number asked (call ∷ calls) s =
-    if number == s.number then found_at asked s else (if is_some (course_of call) then at_call number asked calls (given_up s) else s)
+abbrev pub at_call : (List ℕ → Id) → ℕ → Request → List Call → ClientState → ClientState
+at_call digest number asked [] s = s
+at_call digest number asked (call ∷ calls) s =
+    if number == s.number then found_at digest asked s
+    else (if is_some (course_of call) then at_call digest number asked calls (given_up s) else s)
 
 -- whom the client's ask finds: within a group the next message; between groups it may have given up calls
-abbrev pub begun : Ask → List Sent → Client → Client
-begun ask (x ∷ xs) s = s
-begun ask [] s = at_call ask.from.number ask.request s.left s
+abbrev pub begun : (List ℕ → Id) → Ask → List Sent → ClientState → ClientState
+begun digest ask (x ∷ xs) s = s
+begun digest ask [] s = at_call digest ask.from.number ask.request s.left s
 
 -- the ask is the next one, of the call that it names
-abbrev pub Duty : Client → ℕ → Ask → Type 0
-Duty s number ask = next_step (begun ask s.sent s) ≡ asks number ask
+abbrev pub Duty : (List ℕ → Id) → ClientState → ℕ → Ask → Type 0
+Duty digest s number ask = next_step (begun digest ask s.sent s) ≡ asks number ask
 
-abbrev pub asked : ℕ → Ask → Client → Client
-asked place ask s = placed place (begun ask s.sent s)
+abbrev pub asked : (List ℕ → Id) → ℕ → Ask → ClientState → ClientState
+asked digest place ask s = placed place (begun digest ask s.sent s)

@@ -5,11 +5,9 @@ use Rattle.inf_base.specs.declared.call.Call.{Call}
 use Rattle.inf_base.specs.declared.limits.TheConstants.{MOST_CALLS}
 use Rattle.inf_duty.specs.declared.standing.Standing.{Standing}
 use Rattle.inf_duty.specs.declared.standing.Standing.TheVariants as standing
-use Rattle.inf_flow_dir.specs.Client.{Client, Sent, is_told, one_if, result_of}
+use Rattle.inf_flow_dir.specs.Client.{ClientState, Sent, is_told, one_if, result_of}
 use Rattle.inf_duty.specs.Messages.{is_winding}
-use Rattle.inf_flow_dir.specs.DirFlow.{IsMadeFor, IsReady}
 use Rattle.inf_flow_dir.specs.Draft.{course_with}
-use Rattle.inf_flow_dir.specs.Flow.{Who}
 use Rattle.inf_flow_dir.specs.Group.{next_course}
 use Rattle.inf_duty.specs.Tally.{without_serves}
 use Rattle.inf_message.specs.declared.call_result.CallResult.{CallResult}
@@ -20,11 +18,6 @@ IsOf left standing.Compose = Unit {0}
 IsOf left (standing.Round keys draft) = (next_course left ≡ Some (course_with draft)) × (0 < length keys)
 IsOf left (standing.Act flow) = is_some (next_course left) ≡ true
 IsOf left (standing.Winds ending first rest) = is_some (next_course left) ≡ true
-
--- what a message needs was computed
-abbrev pub IsComputed : Who → Standing → Type 0
-IsComputed who (standing.Act flow) = IsMadeFor who flow × IsReady flow
-IsComputed who other = Unit {0}
 
 abbrev pub told_count : List Sent → ℕ
 told_count sent = length (filter is_told sent)
@@ -47,11 +40,10 @@ abbrev pub AsksFit : Standing → ℕ → Type 0
 AsksFit (standing.Round keys draft) capacity = length keys ≤ capacity
 AsksFit other capacity = Unit {0}
 
-pub record IsKept (who : Who) (number : ℕ) (left : List Call) (stands : Standing) (sent : List Sent) (capacity rooms : ℕ) (results most_results : ℕ) : Type 0 where
+pub record IsKept (number : ℕ) (left : List Call) (stands : Standing) (sent : List Sent) (capacity rooms : ℕ) (results most_results : ℕ) : Type 0 where
   -- the numbers of the calls that are left fit
   pub numbered : number + length left ≤ MOST_CALLS + 1
   pub is_of : IsOf left stands
-  pub computed : IsComputed who stands
   pub rooms_fit : RoomsFit stands rooms sent
   -- the first Ask of a group takes no memory, nor do those of a round
   pub first_fits : 0 < capacity
@@ -60,13 +52,13 @@ pub record IsKept (who : Who) (number : ℕ) (left : List Call) (stands : Standi
   pub results_fit : results + length left ≤ most_results
 
 -- the result of the call under way, were it to end so
-abbrev pub ended_result : Answer → Option ℕ → Client → CallResult
+abbrev pub ended_result : Answer → Option ℕ → ClientState → CallResult
 ended_result given place s = result_of given place s.counts.last s
 
 -- a client that remembers no Serve of the call under way
-abbrev pub unserved : Client → Client
+abbrev pub unserved : ClientState → ClientState
 unserved s = record s { counts = without_serves s.counts }
 
 -- how often a client can give up yet
-abbrev pub weight : Client → ℕ
+abbrev pub weight : ClientState → ℕ
 weight s = length s.left + one_if (not (is_winding s.stage))

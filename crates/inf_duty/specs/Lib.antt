@@ -1,5 +1,4 @@
 pub mod After
-pub mod ClientBy
 pub mod ClientStep
 pub mod Duty
 pub mod Kept

@@ -1,7 +1,7 @@
 -- Words for stages and messages that the code asks about.
 use Rattle.std.specs.Prelude.{ℕ, Bool, true, false}
 use Rattle.inf_duty.specs.Duty.{Next, asks}
-use Rattle.inf_flow_dir.specs.Client.{Client, Stage, act, call_ref, compose, round, winds}
+use Rattle.inf_flow_dir.specs.Client.{ClientState, Stage, act, call_ref, compose, round, winds}
 use Rattle.inf_message.specs.declared.ask.Ask.{Ask}
 use Rattle.inf_message.specs.declared.step.Message.{Message}
 
@@ -22,5 +22,5 @@ has_one_message (winds ending m ms) = true
 has_one_message other = false
 
 -- the ask that sends a message, and the number of the server that it is for
-abbrev pub post_of : Client → Message → ℕ × Ask
+abbrev pub post_of : ClientState → Message → ℕ × Ask
 post_of s message = (message.number, record { from = call_ref s; caller = s.who.caller; request = message.request })

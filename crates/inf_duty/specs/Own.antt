@@ -1,10 +1,11 @@
 -- A client by its own Asks, in the order of asking, each with its answer if it was served.
 use Rattle.std.specs.Prelude.{◌≡◌, ℕ, Bool, true, ◌&&◌, nat_lt, List, [], ◌∷◌, fold, map, reverse, Option, Some, None}
+use Rattle.inf_base.specs.declared.id.Id.{Id}
 use Rattle.inf_duty.specs.Duty.{asked}
 use Rattle.inf_duty.specs.Start.{start}
 use Rattle.inf_duty.specs.World.{World}
 use Rattle.inf_duty.specs.declared.own.OwnAsk.{OwnAsk}
-use Rattle.inf_flow_dir.specs.Client.{Client}
+use Rattle.inf_flow_dir.specs.Client.{ClientState}
 use Rattle.inf_flow_dir.specs.Heard.{heard}
 use Rattle.inf_flow_dir.specs.Turn.{served}
 use Rattle.inf_message.specs.declared.reply.Reply.{Reply}
@@ -12,17 +13,17 @@ use Rattle.inf_message.specs.declared.event.Event.{Event}
 use Rattle.inf_message.specs.History.{Own, Told, asks_of, told_reply}
 
 -- the client once an Ask was answered, if it was
-abbrev pub after_answer : ℕ → Option (ℕ × Reply) → Client → Client
-after_answer ask_place None s = s
-after_answer ask_place (Some told) s = served ask_place (told_reply told.0 (heard told.1)) s
+abbrev pub after_answer : (List ℕ → Id) → ℕ → Option (ℕ × Reply) → ClientState → ClientState
+after_answer digest ask_place None s = s
+after_answer digest ask_place (Some told) s = served digest ask_place (told_reply told.0 (heard told.1)) s
 
 -- the client once it has made an Ask, and knows the answer
-abbrev pub after_own : Client → OwnAsk → Client
-after_own s own = after_answer own.ask_place own.told (asked own.ask_place own.ask s)
+abbrev pub after_own : (List ℕ → Id) → ClientState → OwnAsk → ClientState
+after_own digest s own = after_answer digest own.ask_place own.told (asked digest own.ask_place own.ask s)
 
 -- the state of a client by its own Asks
-abbrev pub client_of : World → ℕ → List OwnAsk → Client
-client_of world client own = fold after_own (start world client) own
+abbrev pub client_of : World → ℕ → List OwnAsk → ClientState
+client_of world client own = fold (after_own world.digest) (start world client) own
 
 abbrev pub rises_from : ℕ → List OwnAsk → Bool
 rises_from last [] = true

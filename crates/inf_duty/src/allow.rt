@@ -3,12 +3,11 @@
 ghost use Rattle.std.specs.Prelude.{◌≡◌, ◌+◌, ◌<◌, ◌≤◌, ◌^◌, ◌↔◌, false, IfOk, IsTrue, OnOk};
 ghost use Rattle.inf_base.specs.declared.limits.TheConstants.{MOST_CALLS};
 ghost use Rattle.inf_base.specs.Setup.{call_count};
-ghost use Rattle.inf_duty.specs.ClientBy.{client_by};
 ghost use Rattle.inf_duty.specs.Duty.{Duty};
 ghost use Rattle.inf_duty.specs.World.{world_by};
 ghost use Rattle.inf_duty.specs.Own.{AreInOrder, after_own, client_of};
 
-use crate::client::ClientMachine;
+use crate::client_state::ClientState;
 use crate::own::OwnAsk;
 use inf_base::{NoMemory, Setup};
 use inf_birth::IdRule;
@@ -18,16 +17,16 @@ use std::alloc::Global;
 /// The client makes one more of its Asks, and is answered if that Ask was.
 fn follow<R: IdRule>(
     alloc: Global,
-    machine: &mut ClientMachine<R>,
+    rule: &R,
+    state: &mut ClientState,
     own: &OwnAsk,
 ) -> Result<(), NoMemory>
-    requires { machine.old.counts.messages + 1 < 2 ^ 64 }
-    ensures { OnOk result (client_by R.digest_of machine.new
-        ≡ after_own (client_by R.digest_of machine.old) own.now) }
+    requires { state.old.counts.messages + 1 < 2 ^ 64 }
+    ensures { OnOk result (state.new ≡ after_own (R.digest_of rule.now) state.old own.now) }
 {
-    machine.asked(alloc, own.ask_place, &own.ask)?;
+    state.asked(alloc, rule, own.ask_place, &own.ask)?;
     if let Some((serve_place, reply)) = &own.told {
-        machine.told(own.ask_place, *serve_place, reply);
+        state.told(rule, own.ask_place, *serve_place, reply);
     }
     Ok(())
 }
@@ -61,11 +60,11 @@ pub fn allowed<R: IdRule>(
     requires few_calls { call_count setup.now.clients ≤ MOST_CALLS }
     requires order { AreInOrder own.now }
     ensures { IfOk result (λ yes. IsTrue yes
-        ↔ Duty (client_of (world_by (R.digest_of rule) setup.now) client own.now) number ask.now) }
+        ↔ Duty (R.digest_of rule) (client_of (world_by (R.digest_of rule) setup.now) client own.now) number ask.now) }
 {
-    let mut machine = ClientMachine::start(alloc, rule, setup, client)?;
+    let mut state = ClientState::start(alloc, &rule, setup, client)?;
     for made in own {
-        follow(alloc, &mut machine, made)?;
+        follow(alloc, &rule, &mut state, made)?;
     }
-    machine.allows(alloc, number, ask)
+    state.allows(alloc, &rule, number, ask)
 }

@@ -4,7 +4,7 @@
 mod allow;
 #[cfg(test)]
 mod allow_tests;
-mod client;
+mod client_state;
 mod client_step;
 mod group;
 mod outcome;
@@ -14,7 +14,7 @@ mod standing;
 mod tally;
 
 pub use allow::{allowed, are_in_order};
-pub use client::ClientMachine;
+pub use client_state::ClientState;
 pub use client_step::ClientStep;
 pub use outcome::{Outcome, Results};
 pub use own::OwnAsk;

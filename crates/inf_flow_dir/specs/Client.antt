@@ -42,7 +42,7 @@ pub record Counts : Type 0 where
   -- whether this attempt has made an Ask
   pub is_begun : Bool
 
-pub record Client : Type 0 where
+pub record ClientState : Type 0 where
   pub who : Who
   -- of the call under way, from 1
   pub number : ℕ
@@ -58,13 +58,13 @@ pub record Client : Type 0 where
 abbrev pub no_counts : Counts
 no_counts = record { first = None; last = None; attempts = 0; rounds = 0; messages = 0; is_begun = false }
 
-abbrev pub idle : Who → List Call → Client
+abbrev pub idle : Who → List Call → ClientState
 idle who calls = record { who = who; number = 1; left = calls; stage = compose; sent = []; counts = no_counts; results = [] }
 
-abbrev pub call_ref : Client → CallRef
+abbrev pub call_ref : ClientState → CallRef
 call_ref s = record { client = s.who.client; number = s.number }
 
-abbrev pub result_of : Answer → Option ℕ → Option ℕ → Client → CallResult
+abbrev pub result_of : Answer → Option ℕ → Option ℕ → ClientState → CallResult
 result_of given place last s = record {
   call = call_ref s;
   answer = given;
@@ -81,7 +81,7 @@ rest_of [] = []
 rest_of (call ∷ calls) = calls
 
 -- the call under way has ended, and the next one is under way
-abbrev pub ended : Answer → Option ℕ → Client → Client
+abbrev pub ended : Answer → Option ℕ → ClientState → ClientState
 ended given place s = record s {
   number = s.number + 1;
   left = rest_of s.left;
@@ -92,15 +92,15 @@ ended given place s = record s {
 }
 
 -- a new attempt
-abbrev pub begins_again : Client → Client
+abbrev pub begins_again : ClientState → ClientState
 begins_again s = record s { stage = compose; sent = []; counts = record s.counts { is_begun = false } }
 
-abbrev pub finished : Ending → Client → Client
+abbrev pub finished : Ending → ClientState → ClientState
 finished (answers given place) s = ended given place s
 finished retries s = begins_again s
 
 -- the messages that are left, and then the end
-abbrev pub wound : Ending → List Message → Client → Client
+abbrev pub wound : Ending → List Message → ClientState → ClientState
 wound ending [] s = finished ending s
 wound ending (m ∷ ms) s = record s { stage = winds ending m ms; sent = [] }
 
@@ -121,7 +121,7 @@ is_first [] = true
 is_first (x ∷ xs) = false
 
 -- an Ask more: the first of an attempt counts the attempt, the first of a round the round
-abbrev pub counted : ℕ → Client → Counts
+abbrev pub counted : ℕ → ClientState → Counts
 counted place s = record {
   first = first_place s.counts.first place;
   last = s.counts.last;
@@ -131,7 +131,7 @@ counted place s = record {
   is_begun = true;
 }
 
-abbrev pub placed : ℕ → Client → Client
+abbrev pub placed : ℕ → ClientState → ClientState
 placed place s = record s { sent = s.sent ++ record { place = place; told = None } ∷ []; counts = counted place s }
 
 abbrev pub is_told : Sent → Bool

@@ -1,5 +1,5 @@
 -- The flows of calls: their messages one after another, and what is cleaned up where one does not succeed.
-use Rattle.std.specs.Prelude.{ℕ, ◌-◌, ◌&&◌, Bool, false, if◌then◌else◌, List, [], ◌∷◌, length, take, slice_get, Option, Some, None}
+use Rattle.std.specs.Prelude.{◌≡◌, ℕ, ◌-◌, ◌&&◌, Bool, false, if◌then◌else◌, List, [], ◌∷◌, length, take, slice_get, Option, Some, None}
 use Rattle.std.specs.Str.{bytes_eq}
 use Rattle.inf_base.specs.declared.caller.Caller.{Caller}
 use Rattle.inf_base.specs.declared.directory.DirRef.{DirRef}
@@ -16,31 +16,28 @@ use Rattle.inf_message.specs.declared.request.Request.{Request}
 use Rattle.inf_message.specs.declared.request.Request.TheVariants as request
 use Rattle.inf_message.specs.declared.step.Message.{Message}
 
--- which client it is, whom it calls for, and what it knows of the servers
+-- which client it is, whom it calls for, and what it knows of the servers: how many there are, and the root's identifier
 pub record Who : Type 0 where
   pub client : ℕ
   pub caller : Caller
   pub servers : ℕ
-  pub digest : List ℕ → Id
-
-abbrev pub root_id : Who → Id
-root_id who = identity who.digest triple.Root
+  pub root : Id
 
 -- where a flow stands: the message that is next, or waited for
 pub data Flow : Type 0 where
   -- the one message of a call that needs no more
   finishes : List Entry → Op → Flow
-  -- a directory is made: its name, its mode; then its version; then the place of its birth
+  -- a directory is made: its name, its mode; then its version and its identifier; then the directory, with its version
   reserves : List Entry → List ℕ → ℕ → Flow
-  makes : List Entry → List ℕ → ℕ → ℕ → Flow
-  links : List Entry → List ℕ → ℕ → ℕ → ℕ → Flow
+  makes : List Entry → List ℕ → ℕ → ℕ → Id → Flow
+  links : List Entry → List ℕ → ℕ → ℕ → DirRef → Flow
   -- a directory is removed, which ends the chain
   seals : List Entry → Flow
   unlinks : List Entry → Flow
 
 abbrev pub id_or_root : Who → Option Entry → Id
 id_or_root who (Some entry) = entry.access.id
-id_or_root who None = root_id who
+id_or_root who None = who.root
 
 abbrev pub last_entry : List Entry → Option Entry
 last_entry chain = slice_get chain (length chain - 1)
@@ -67,17 +64,21 @@ birth_of who chain name version = triple.Of (last_id who chain) name version
 abbrev pub to : Who → Id → Request → Message
 to who id asked = record { number = server_of id who.servers; request = asked }
 
-abbrev pub made_dir : Who → List Entry → List ℕ → ℕ → ℕ → DirRef
-made_dir who chain name version born = record { id = identity who.digest (birth_of who chain name version); born = born }
+-- the identifier of a directory to come is the identity of its birth
+abbrev pub HasBirthId : (List ℕ → Id) → Who → Flow → Type 0
+HasBirthId digest who (finishes chain asked) = Unit {0}
+HasBirthId digest who (reserves chain name mode) = Unit {0}
+HasBirthId digest who (makes chain name mode version id) = id ≡ identity digest (birth_of who chain name version)
+HasBirthId digest who (links chain name mode version dir) = dir.id ≡ identity digest (birth_of who chain name version)
+HasBirthId digest who (seals chain) = Unit {0}
+HasBirthId digest who (unlinks chain) = Unit {0}
 
 -- the message of a flow's step
 abbrev pub message_of : Who → Flow → Message
 message_of who (finishes chain asked) = to who (last_id who chain) (request.Finish chain asked)
 message_of who (reserves chain name mode) = to who (last_id who chain) (request.Reserve chain name)
-message_of who (makes chain name mode version) =
-    to who (identity who.digest (birth_of who chain name version)) (request.Make (birth_of who chain name version))
-message_of who (links chain name mode version born) =
-    to who (last_id who chain) (request.Link chain name (made_dir who chain name version born) mode)
+message_of who (makes chain name mode version id) = to who id (request.Make (birth_of who chain name version))
+message_of who (links chain name mode version dir) = to who (last_id who chain) (request.Link chain name dir mode)
 message_of who (seals chain) = to who (last_id who chain) (request.Seal chain)
 message_of who (unlinks chain) = to who (last_id who (way_to chain)) (request.Unlink chain)
 
@@ -88,9 +89,8 @@ lift who dir asked = to who dir.id (asked dir)
 abbrev pub clean_up : Who → Flow → List Message
 clean_up who (finishes chain asked) = []
 clean_up who (reserves chain name mode) = []
-clean_up who (makes chain name mode version) = lift who (last_dir chain) request.Cancel ∷ []
-clean_up who (links chain name mode version born) =
-    lift who (made_dir who chain name version born) request.Drop ∷ lift who (last_dir chain) request.Cancel ∷ []
+clean_up who (makes chain name mode version id) = lift who (last_dir chain) request.Cancel ∷ []
+clean_up who (links chain name mode version dir) = lift who dir request.Drop ∷ lift who (last_dir chain) request.Cancel ∷ []
 clean_up who (seals chain) = []
 clean_up who (unlinks chain) = lift who (last_dir chain) request.Unseal ∷ []
 

@@ -14,8 +14,8 @@ use Rattle.inf_message.specs.declared.op.Op.{Op}
 use Rattle.inf_message.specs.declared.op.Op.TheVariants as op
 use Rattle.inf_message.specs.declared.request.Request.TheVariants as request
 use Rattle.inf_message.specs.declared.step.Message.{Message}
-use Rattle.inf_flow_dir.specs.Client.{Client, Stage, act, compose, round, winds}
-use Rattle.inf_flow_dir.specs.Flow.{Flow, Who, finishes, message_of, reserves, root_id, seals, to}
+use Rattle.inf_flow_dir.specs.Client.{ClientState, Stage, act, compose, round, winds}
+use Rattle.inf_flow_dir.specs.Flow.{Flow, Who, finishes, message_of, reserves, seals, to}
 
 -- the names that are looked up, and what is done then
 pub record Course : Type 0 where
@@ -61,29 +61,29 @@ abbrev pub course_of : Call → Option Course
 course_of asked = course_at asked (path_of (text_of asked))
 
 -- the keys along the names, where each identifier is predicted as of version 0
-abbrev pub keys_along : Who → Id → List (List ℕ) → List LookKey
-keys_along who id [] = []
-keys_along who id (name ∷ names) = look.At id name ∷ keys_along who (identity who.digest (triple.Of id name 0)) names
+abbrev pub keys_along : (List ℕ → Id) → Id → List (List ℕ) → List LookKey
+keys_along digest id [] = []
+keys_along digest id (name ∷ names) = look.At id name ∷ keys_along digest (identity digest (triple.Of id name 0)) names
 
 -- an attempt begins with a round: the root, and the directories of the path
-abbrev pub keys_of : Who → Option Course → Stage
-keys_of who None = compose
-keys_of who (Some course) = round (look.Top ∷ keys_along who (root_id who) course.looked)
+abbrev pub keys_of : (List ℕ → Id) → Who → Option Course → Stage
+keys_of digest who None = compose
+keys_of digest who (Some course) = round (look.Top ∷ keys_along digest who.root course.looked)
 
 abbrev pub next_course : List Call → Option Course
 next_course [] = None
 next_course (next ∷ calls) = course_of next
 
-abbrev pub composed_stage : Client → Stage → Stage
-composed_stage s compose = keys_of s.who (next_course s.left)
-composed_stage s other = other
+abbrev pub composed_stage : (List ℕ → Id) → ClientState → Stage → Stage
+composed_stage digest s compose = keys_of digest s.who (next_course s.left)
+composed_stage digest s other = other
 
 -- what is asked for next is settled; asking is to follow
-abbrev pub composed : Client → Client
-composed s = record s { stage = composed_stage s s.stage }
+abbrev pub composed : (List ℕ → Id) → ClientState → ClientState
+composed digest s = record s { stage = composed_stage digest s s.stage }
 
 abbrev pub asked_id : Who → LookKey → Id
-asked_id who look.Top = root_id who
+asked_id who look.Top = who.root
 asked_id who (look.At dir name) = dir
 
 abbrev pub lookup_of : Who → LookKey → Message

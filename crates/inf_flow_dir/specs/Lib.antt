@@ -6,7 +6,6 @@ pub mod Ending
 pub mod Flow
 pub mod Group
 pub mod Heard
-pub mod Party
 pub mod Path
 pub mod Round
 pub mod Sending

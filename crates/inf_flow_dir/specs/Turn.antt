@@ -6,16 +6,18 @@ use Rattle.inf_base.specs.declared.answer.Answer.{Answer}
 use Rattle.inf_base.specs.declared.answer.Answer.TheVariants as answer
 use Rattle.inf_base.specs.declared.directory.DirRef.{DirRef}
 use Rattle.inf_base.specs.declared.entry.Entry.{Entry}
+use Rattle.inf_base.specs.declared.id.Id.{Id}
 use Rattle.inf_base.specs.declared.key.Key.{Key}
 use Rattle.inf_base.specs.declared.key.Key.TheVariants as key
 use Rattle.inf_base.specs.declared.triple.Triple.{Triple}
+use Rattle.inf_base.specs.Identity.{identity}
 use Rattle.inf_base.specs.Same.{dir_of, is_same_dir}
 use Rattle.inf_message.specs.declared.op.Op.TheVariants as op
 use Rattle.inf_message.specs.declared.reply.Reply.{Reply}
 use Rattle.inf_message.specs.declared.reply.Reply.TheVariants as reply
 use Rattle.inf_message.specs.declared.step.Message.{Message}
 use Rattle.inf_message.specs.History.{Told}
-use Rattle.inf_flow_dir.specs.Client.{Client, Ending, Sent, Stage, act, answers, compose, has_place, is_told, retries, round, told_at, winds, wound}
+use Rattle.inf_flow_dir.specs.Client.{ClientState, Ending, Sent, Stage, act, answers, compose, has_place, is_told, retries, round, told_at, winds, wound}
 use Rattle.inf_flow_dir.specs.Flow.{Flow, Who, after_unlink, birth_of, clean_up, finishes, links, makes, reserves, seals, unlinks}
 use Rattle.inf_flow_dir.specs.Group.{Course, group, next_course}
 
@@ -121,54 +123,57 @@ abbrev pub done : ℕ → List Message → Turn
 done place more = winds_up (answers answer.Done (Some place)) more
 
 -- by the place of the Ask, that of its Serve, and the reply
-abbrev pub after_act : Who → Flow → ℕ → ℕ → Reply → Turn
-after_act who (finishes chain (op.Create name mode)) asked place reply.Fine = done place []
-after_act who (finishes chain (op.Stat name)) asked place (reply.Stat kind meta) = ends (answer.Stat kind meta) place
-after_act who (reserves chain name mode) asked place (reply.Reserved version) = goes_on (act (makes chain name mode version))
-after_act who (makes chain name mode version) asked place reply.Fine = goes_on (act (links chain name mode version asked))
-after_act who (makes chain name mode version) asked place given = after_make who (makes chain name mode version) (birth_of who chain name version) place given
-after_act who (links chain name mode version born) asked place reply.Fine = done place []
-after_act who (seals chain) asked place reply.Fine = goes_on (act (unlinks chain))
-after_act who (unlinks chain) asked place reply.Fine = done place (after_unlink who chain)
-after_act who flow asked place given = fails who flow place given
+abbrev pub after_act : (List ℕ → Id) → Who → Flow → ℕ → ℕ → Reply → Turn
+after_act digest who (finishes chain (op.Create name mode)) asked place reply.Fine = done place []
+after_act digest who (finishes chain (op.Stat name)) asked place (reply.Stat kind meta) = ends (answer.Stat kind meta) place
+after_act digest who (reserves chain name mode) asked place (reply.Reserved version) =
+    goes_on (act (makes chain name mode version (identity digest (birth_of who chain name version))))
+after_act digest who (makes chain name mode version id) asked place reply.Fine =
+    goes_on (act (links chain name mode version (record { id = id; born = asked })))
+after_act digest who (makes chain name mode version id) asked place given =
+    after_make who (makes chain name mode version id) (birth_of who chain name version) place given
+after_act digest who (links chain name mode version dir) asked place reply.Fine = done place []
+after_act digest who (seals chain) asked place reply.Fine = goes_on (act (unlinks chain))
+after_act digest who (unlinks chain) asked place reply.Fine = done place (after_unlink who chain)
+after_act digest who flow asked place given = fails who flow place given
 
-abbrev pub act_turn : Who → Flow → List Sent → Turn
-act_turn who flow [] = again
-act_turn who flow (x ∷ xs) = of x.told
+abbrev pub act_turn : (List ℕ → Id) → Who → Flow → List Sent → Turn
+act_turn digest who flow [] = again
+act_turn digest who flow (x ∷ xs) = of x.told
   where
     of : Option Told → Turn
     of None = again
-    of (Some told) = after_act who flow x.place told.serve_place told.reply
+    of (Some told) = after_act digest who flow x.place told.serve_place told.reply
 
-abbrev pub turn_at : Client → Stage → Turn
-turn_at s compose = again
-turn_at s (round keys) = after_round (next_course s.left) s.sent
-turn_at s (act flow) = act_turn s.who flow s.sent
-turn_at s (winds ending m ms) = winds_up ending ms
+abbrev pub turn_at : (List ℕ → Id) → ClientState → Stage → Turn
+turn_at digest s compose = again
+turn_at digest s (round keys) = after_round (next_course s.left) s.sent
+turn_at digest s (act flow) = act_turn digest s.who flow s.sent
+turn_at digest s (winds ending m ms) = winds_up ending ms
 
-abbrev pub turned : Turn → Client → Client
+abbrev pub turned : Turn → ClientState → ClientState
 turned (goes_on next) s = record s { stage = next; sent = [] }
 turned (winds_up ending more) s = wound ending more s
 
-abbrev pub is_complete : Client → Bool
+abbrev pub is_complete : ClientState → Bool
 is_complete s = length s.sent == length (group s.who s.stage) && list_all is_told s.sent
 
 -- the group is over when each of its messages was sent and answered
-abbrev pub settled : Bool → Client → Client
-settled true s = turned (turn_at s s.stage) s
-settled false s = s
+abbrev pub settled : (List ℕ → Id) → Bool → ClientState → ClientState
+settled digest true s = turned (turn_at digest s s.stage) s
+settled digest false s = s
 
 abbrev pub later_place : Option ℕ → ℕ → Option ℕ
 later_place None place = Some place
 later_place (Some earlier) place = Some (if nat_lt earlier place then place else earlier)
 
-abbrev pub recorded : ℕ → Told → Client → Client
+abbrev pub recorded : ℕ → Told → ClientState → ClientState
 recorded ask_place told s =
     record s { sent = map (told_at ask_place told) s.sent; counts = record s.counts { last = later_place s.counts.last told.serve_place } }
 
-abbrev pub after_record : Client → Client
-after_record s = settled (is_complete s) s
+abbrev pub after_record : (List ℕ → Id) → ClientState → ClientState
+after_record digest s = settled digest (is_complete s) s
 
 -- the Ask at a place was served; only an Ask of the present group is waited for
-abbrev pub served : ℕ → Told → Client → Client
-served ask_place told s = if has_place ask_place s.sent then after_record (recorded ask_place told s) else s
+abbrev pub served : (List ℕ → Id) → ℕ → Told → ClientState → ClientState
+served digest ask_place told s = if has_place ask_place s.sent then after_record digest (recorded ask_place told s) else s

@@ -3,12 +3,10 @@
 ghost use Rattle.std.specs.Prelude.{◌≡◌, ◌∷◌, ◌↔◌, [], MatchOption, IsTrue};
 ghost use Rattle.inf_flow_dir.specs.CleanUp.{request_of};
 ghost use Rattle.inf_flow_dir.specs.Flow.{to};
-ghost use Rattle.inf_flow_dir.specs.Party.{who_of};
 
 use crate::lift::Lift;
-use crate::party::Party;
+use crate::who::Who;
 use inf_base::Id;
-use inf_birth::IdRule;
 use inf_message::{Message, Request};
 use std::marker::Model;
 
@@ -30,11 +28,11 @@ impl Model for CleanUp {
 
 impl CleanUp {
     /// The message to the server of this identifier.
-    pub(crate) fn to<R: IdRule>(party: &Party<R>, id: &Id, lift: Lift) -> Self
-        ensures { result ≡ to (who_of R.digest_of party.now) id.now (request_of lift) }
+    pub(crate) fn to(who: &Who, id: &Id, lift: Lift) -> Self
+        ensures { result ≡ to who.now id.now (request_of lift) }
     {
         CleanUp {
-            number: party.server(id),
+            number: who.server(id),
             lift,
         }
     }

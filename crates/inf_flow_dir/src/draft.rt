@@ -4,14 +4,13 @@ ghost use Rattle.std.specs.Prelude.{◌≡◌, ◌∷◌, ℕ, List, None, Ok, i
 ghost use Rattle.inf_base.specs.declared.call.Call.TheVariants as call;
 ghost use Rattle.inf_base.specs.declared.key.LookKey.TheVariants as look;
 ghost use Rattle.inf_flow_dir.specs.Draft.{IsAtLast, course_if, deed_at, deed_if, deed_of};
-ghost use Rattle.inf_flow_dir.specs.Flow.{root_id};
 ghost use Rattle.inf_flow_dir.specs.Group.{course_at, course_of, keys_along, text_of};
-ghost use Rattle.inf_flow_dir.specs.Party.{who_of};
 
 use crate::aim::Aim;
-use crate::party::{LookKeys, Party};
+use crate::identity::identity_of;
 use crate::path::{has_names, names_of};
 use crate::room::NameRoom;
+use crate::who::{LookKeys, Who};
 use inf_base::{Call, Entry, Id, LookKey, Name, NoMemory, TryClone};
 use inf_birth::IdRule;
 use std::alloc::Global;
@@ -88,20 +87,20 @@ impl Draft {
     }
 
     /// The keys of the round: the root's, and those of the names that are looked up.
-    pub fn keys<R: IdRule>(&self, alloc: Global, party: &Party<R>) -> Result<LookKeys, NoMemory>
-        ensures { IfOk result (λ keys. keys ≡ look.Top ∷ keys_along (who_of R.digest_of party.now) (root_id (who_of R.digest_of party.now)) self.now.looked) }
+    pub fn keys<R: IdRule>(&self, alloc: Global, rule: &R, who: &Who) -> Result<LookKeys, NoMemory>
+        ensures { IfOk result (λ keys. keys ≡ look.Top ∷ keys_along (R.digest_of rule.now) who.now.root self.now.looked) }
     {
         let mut keys = Vec::with_capacity(alloc, 1 + self.looked.len())?;
         keys.push(LookKey::Top)?;
         let Some((first, others)) = self.looked.split_first() else {
             return Ok(LookKeys::new(keys));
         };
-        let mut dir = party.root();
+        let mut dir = who.root();
         let mut above = first;
         keys.push(key_at(alloc, dir, first)?)?;
         for name in others {
             // What is made under a name for the first time has version 0.
-            dir = party.identity(&dir, above, 0);
+            dir = identity_of(rule, &dir, above, 0);
             above = name;
             keys.push(key_at(alloc, dir, name)?)?;
         }

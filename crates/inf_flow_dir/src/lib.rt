@@ -12,7 +12,6 @@ mod identity;
 mod lift;
 mod new_dir;
 mod next;
-mod party;
 mod path;
 mod phase;
 mod room;
@@ -22,14 +21,15 @@ mod telling;
 #[cfg(test)]
 mod tests;
 mod turn;
+mod who;
 
 pub use clean_up::{CleanUp, CleanUps};
 pub use dir_flow::DirFlow;
 pub use draft::{Draft, has_course};
 pub use ending::Ending;
-pub use party::{LookKeys, Party};
 pub use room::ReplyRoom;
 pub use round::after_round;
 pub use sending::{Sending, are_told, has_place};
 pub use telling::Telling;
 pub use turn::Turn;
+pub use who::{LookKeys, Who};

@@ -1,7 +1,7 @@
 //! Where a flow stands.
 
 use crate::new_dir::NewDir;
-use inf_base::{Chain, Place};
+use inf_base::{Chain, DirRef, Id};
 use inf_message::Op;
 
 /// The message of a flow that is next, or waited for.
@@ -9,10 +9,10 @@ use inf_message::Op;
 pub enum Phase {
     Finishes(Chain, Op),
     Reserves(NewDir),
-    /// With the version of the directory to come.
-    Makes(NewDir, u64),
-    /// With the version of the directory to come, and the place of its birth.
-    Links(NewDir, u64, Place),
+    /// With the version of the directory to come, and its identifier.
+    Makes(NewDir, u64, Id),
+    /// With the directory's version, and the directory that was born.
+    Links(NewDir, u64, DirRef),
     Seals(Chain),
     Unlinks(Chain),
 }

@@ -4,9 +4,8 @@ ghost use Rattle.std.specs.Prelude.{◌≡◌, [], false, Some, vec_capacity};
 ghost use Rattle.std.specs.List.{list_any};
 ghost use Rattle.inf_flow_dir.specs.Client.{Sent};
 ghost use Rattle.inf_flow_dir.specs.Draft.{course_with};
-ghost use Rattle.inf_flow_dir.specs.Flow.{Who};
 ghost use Rattle.inf_flow_dir.specs.Turn.{after_round, wants_memory};
-ghost use Rattle.inf_flow_dir.specs.TurnOf.{TurnIsMadeFor, turn_of};
+ghost use Rattle.inf_flow_dir.specs.TurnOf.{turn_of};
 
 use crate::clean_up::CleanUps;
 use crate::draft::Draft;
@@ -19,7 +18,6 @@ use inf_message::Reply;
 /// What comes of the answers to a round, which are taken from `sent`.
 pub fn after_round(draft: Draft, sent: &mut Vec<Sending>) -> Turn
     ensures turn { turn_of result ≡ after_round (Some (course_with draft)) sent.old.items }
-    ensures made { (who : Who) → TurnIsMadeFor who result }
     ensures emptied { sent.new.items ≡ [] }
     ensures capacity { vec_capacity sent.new ≡ vec_capacity sent.old }
 {
@@ -30,7 +28,6 @@ pub fn after_round(draft: Draft, sent: &mut Vec<Sending>) -> Turn
 
 fn after_answers(draft: Draft, sent: &mut Vec<Sending>) -> Turn
     ensures turn { turn_of result ≡ after_round (Some (course_with draft)) sent.old.items }
-    ensures made { (who : Who) → TurnIsMadeFor who result }
     ensures capacity { vec_capacity sent.new ≡ vec_capacity sent.old }
 {
     if is_one_wanting(sent.as_slice()) {
@@ -43,7 +40,6 @@ fn after_answers(draft: Draft, sent: &mut Vec<Sending>) -> Turn
 fn after_entries(draft: Draft, sent: &mut Vec<Sending>) -> Turn
     requires { list_any (λ (x : Sent). wants_memory x.told) sent.old.items ≡ false }
     ensures turn { turn_of result ≡ after_round (Some (course_with draft)) sent.old.items }
-    ensures made { (who : Who) → TurnIsMadeFor who result }
     ensures capacity { vec_capacity sent.new ≡ vec_capacity sent.old }
 {
     let Some(first) = take_first(sent) else {

@@ -26,8 +26,8 @@ const A_IN_ROOT: Id = Id {
 
 const WHOLE: ShaRule = ShaRule { bytes: 32 };
 
-fn party() -> Party<ShaRule> {
-    Party::new(WHOLE, 0, Caller { uid: 0, gid: 0 }, 2)
+fn who() -> Who {
+    Who::new(&WHOLE, 0, Caller { uid: 0, gid: 0 }, 2)
 }
 
 fn name(alloc: Global, letter: u8) -> Result<Name, NoMemory> {
@@ -37,12 +37,12 @@ fn name(alloc: Global, letter: u8) -> Result<Name, NoMemory> {
 /// The root, and each directory under the identifier that it would have if it were the first of its name.
 #[test]
 fn keys(rt: HostRuntime) -> Result<(), Fail> {
-    let party = party();
+    let who = who();
     let call = Call::Stat {
         path: Text::from_slice(rt.alloc(), b"//a/b/f")?,
     };
     let draft = Draft::of(rt.alloc(), &call)?.ok_or("no path")?;
-    let keys = draft.keys(rt.alloc(), &party)?;
+    let keys = draft.keys(rt.alloc(), &WHOLE, &who)?;
     let a = LookKey::At {
         dir: ROOT,
         name: name(rt.alloc(), b'a')?,

@@ -3,7 +3,7 @@
 ghost use Rattle.std.specs.Prelude.{◌≡◌, [], Some};
 ghost use Rattle.inf_flow_dir.specs.Flow.{Flow, Who, clean_up};
 ghost use Rattle.inf_flow_dir.specs.Turn.{again, done, ends, fails};
-ghost use Rattle.inf_flow_dir.specs.TurnOf.{TurnIsMadeFor, turn_of};
+ghost use Rattle.inf_flow_dir.specs.TurnOf.{turn_of};
 
 use crate::clean_up::CleanUps;
 use crate::dir_flow::DirFlow;
@@ -22,32 +22,28 @@ pub enum Turn {
 
 /// The answer that the Serve at a place decided, with nothing to clean up.
 pub fn ends(answer: Answer, place: Place) -> Turn
-    ensures turn { turn_of result ≡ ends answer place }
-    ensures made { (who : Who) → TurnIsMadeFor who result }
+    ensures { turn_of result ≡ ends answer place }
 {
     Turn::WindsUp(Ending::Answers(answer, Some(place)), CleanUps::none())
 }
 
 /// A new attempt follows.
 pub fn again() -> Turn
-    ensures turn { turn_of result ≡ again }
-    ensures made { (who : Who) → TurnIsMadeFor who result }
+    ensures { turn_of result ≡ again }
 {
     Turn::WindsUp(Ending::Retries, CleanUps::none())
 }
 
 /// The call was done, and these messages follow.
 pub fn done(place: Place, more: CleanUps) -> Turn
-    ensures turn { turn_of result ≡ done place more }
-    ensures made { (who : Who) → TurnIsMadeFor who result }
+    ensures { turn_of result ≡ done place more }
 {
     Turn::WindsUp(Ending::Answers(Answer::Done, Some(place)), more)
 }
 
 /// A message did not succeed: the clean-up, and then what its reply says.
 pub fn failed(clean_ups: CleanUps, place: Place, reply: &Reply) -> Turn
-    ensures turn { (who : Who) (flow : Flow) → clean_up who flow ≡ clean_ups → turn_of result ≡ fails who flow place reply.now }
-    ensures made { (who : Who) → TurnIsMadeFor who result }
+    ensures { (who : Who) (flow : Flow) → clean_up who flow ≡ clean_ups → turn_of result ≡ fails who flow place reply.now }
 {
     let ending = match reply {
         Reply::Busy { by, .. } => Ending::Answers(Answer::Again(*by), Some(place)),

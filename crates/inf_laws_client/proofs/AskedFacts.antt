@@ -2,6 +2,7 @@
 use Rattle.std.proofs.Common.{◌≡◌, ℕ, ◌==◌, Bool, true, false, if◌then◌else◌, List, [], ◌∷◌, ◌++◌, length, map, slice_get, Option, Some, None, subst}
 use Rattle.inf_base.specs.declared.answer.Answer.TheVariants as answer
 use Rattle.inf_base.specs.declared.call.Call.{Call}
+use Rattle.inf_base.specs.declared.id.Id.{Id}
 use Rattle.inf_base.specs.declared.key.LookKey.{LookKey}
 use Rattle.inf_base.specs.declared.key.LookKey.TheVariants as look
 use Rattle.inf_message.specs.declared.ask.Ask.{Ask}
@@ -12,9 +13,9 @@ use Rattle.inf_message.specs.declared.request.Request.TheVariants as request
 use Rattle.inf_message.specs.declared.step.Message.{Message}
 use Rattle.inf_message.specs.History.{Told, or_told}
 use Rattle.inf_laws_client.specs.Asked.{AnswersAsked, AreAskedFor, AsksItsGroup}
-use Rattle.inf_flow_dir.specs.Client.{Client, Ending, Sent, Stage, act, answers, compose, has_place, idle, placed, retries, round, told_at, winds, wound}
+use Rattle.inf_flow_dir.specs.Client.{ClientState, Ending, Sent, Stage, act, answers, compose, has_place, idle, placed, retries, round, told_at, winds, wound}
 use Rattle.inf_duty.specs.Duty.{asks, begun, given_up, given_up_in, next_step}
-use Rattle.inf_flow_dir.specs.Flow.{Who, clean_up, root_id}
+use Rattle.inf_flow_dir.specs.Flow.{Who, clean_up}
 use Rattle.inf_flow_dir.specs.Group.{Course, composed, composed_stage, group, keys_along, keys_of, lookup_of, next_course}
 use Rattle.inf_laws_client.specs.Paths.{AnswersKeys, AnswersLookup, IsToldFor, KeepsToPath, StandsOnPath}
 use Rattle.inf_laws_client.specs.Told.{AnswersTop, IfFirst, IsOfTop}
@@ -31,34 +32,34 @@ top_in : (rest : List LookKey) (sent : List Sent) (place : ℕ) (given : Reply) 
 top_in rest [] place given told = tt
 top_in rest (x ∷ xs) place given told = λ same. of_top given (told.0 same)
 
-top_of : (who : Who) (found : Option Course) (keys : List LookKey) (sent : List Sent) (place : ℕ) (given : Reply) → keys_of who found ≡ round keys
+top_of : (digest : List ℕ → Id) (who : Who) (found : Option Course) (keys : List LookKey) (sent : List Sent) (place : ℕ) (given : Reply) → keys_of digest who found ≡ round keys
     → AnswersKeys keys sent place given → IfFirst sent place given
-top_of who None keys sent place given is told = absurd cc
-top_of who (Some course) keys sent place given is told =
-    let same : keys ≡ look.Top ∷ keys_along who (root_id who) course.looked = cc in
-    top_in (keys_along who (root_id who) course.looked) sent place given
+top_of digest who None keys sent place given is told = absurd cc
+top_of digest who (Some course) keys sent place given is told =
+    let same : keys ≡ look.Top ∷ keys_along digest who.root course.looked = cc in
+    top_in (keys_along digest who.root course.looked) sent place given
     (subst (λ (ks : List LookKey). AnswersKeys ks sent place given) same told)
 
-top_at : (who : Who) (calls : List Call) (stage : Stage) (sent : List Sent) (place : ℕ) (given : Reply) → StandsOnPath who calls stage sent
+top_at : (digest : List ℕ → Id) (who : Who) (calls : List Call) (stage : Stage) (sent : List Sent) (place : ℕ) (given : Reply) → StandsOnPath digest who calls stage sent
     → AnswersLookup stage sent place given → AnswersTop stage sent place given
-top_at who calls (round keys) sent place given stands told = top_of who (next_course calls) keys sent place given stands.0 told
-top_at who calls compose sent place given stands told = tt
-top_at who calls (act flow) sent place given stands told = tt
-top_at who calls (winds ending m ms) sent place given stands told = tt
+top_at digest who calls (round keys) sent place given stands told = top_of digest who (next_course calls) keys sent place given stands.0 told
+top_at digest who calls compose sent place given stands told = tt
+top_at digest who calls (act flow) sent place given stands told = tt
+top_at digest who calls (winds ending m ms) sent place given stands told = tt
 
-pub answers_top : (place : ℕ) (given : Reply) (s : Client) → KeepsToPath s → AnswersLookup s.stage s.sent place given → AnswersTop s.stage s.sent place given
-answers_top place given s keeps told = top_at s.who s.left s.stage s.sent place given keeps.stands told
+pub answers_top : (digest : List ℕ → Id) (place : ℕ) (given : Reply) (s : ClientState) → KeepsToPath digest s → AnswersLookup s.stage s.sent place given → AnswersTop s.stage s.sent place given
+answers_top digest place given s keeps told = top_at digest s.who s.left s.stage s.sent place given keeps.stands told
 
 module _ (A : ℕ → Request → Type 0) where
   pub idle_asks : (who : Who) (calls : List Call) → AsksItsGroup A (idle who calls)
   idle_asks who calls = record { asked = tt }
 
-  wound_asks : (ending : Ending) (more : List Message) (s : Client) → AsksItsGroup A (wound ending more s)
+  wound_asks : (ending : Ending) (more : List Message) (s : ClientState) → AsksItsGroup A (wound ending more s)
   wound_asks (answers given place) [] s = record { asked = tt }
   wound_asks retries [] s = record { asked = tt }
   wound_asks ending (m ∷ ms) s = record { asked = tt }
 
-  turned_asks : (t : Turn) (s : Client) → AsksItsGroup A (turned t s)
+  turned_asks : (t : Turn) (s : ClientState) → AsksItsGroup A (turned t s)
   turned_asks (goes_on next) s = record { asked = tt }
   turned_asks (winds_up ending more) s = wound_asks ending more s
 
@@ -66,27 +67,14 @@ module _ (A : ℕ → Request → Type 0) where
   none_asked ms [] asked = tt
   none_asked ms (x ∷ xs) asked = absurd asked
 
-  composed_at : (s : Client) (stage : Stage) → AreAskedFor A (group s.who stage) s.sent → AsksItsGroup A (record s { stage = composed_stage s stage })
-  composed_at s compose asked = record { asked = none_asked (group s.who (keys_of s.who (next_course s.left))) s.sent asked }
-  composed_at s (round keys) asked = record { asked = asked }
-  composed_at s (act flow) asked = record { asked = asked }
-  composed_at s (winds ending m ms) asked = record { asked = asked }
-
-  pub composed_asks : (s : Client) → AsksItsGroup A s → AsksItsGroup A (composed s)
-  composed_asks s asks_its = composed_at s s.stage asks_its.asked
-
-  given_up_at : (s : Client) (stage : Stage) → AsksItsGroup A s → AsksItsGroup A (given_up_in s stage)
+  given_up_at : (s : ClientState) (stage : Stage) → AsksItsGroup A s → AsksItsGroup A (given_up_in s stage)
   given_up_at s (act flow) asks_its = wound_asks (answers answer.NoMemory None) (clean_up s.who flow) s
   given_up_at s (winds ending m ms) asks_its = asks_its
   given_up_at s compose asks_its = record { asked = tt }
   given_up_at s (round keys) asks_its = record { asked = tt }
 
-  pub given_up_asks : (s : Client) → AsksItsGroup A s → AsksItsGroup A (given_up s)
+  pub given_up_asks : (s : ClientState) → AsksItsGroup A s → AsksItsGroup A (given_up s)
   given_up_asks s asks_its = given_up_at s s.stage asks_its
-
-  pub begun_asks : (ask : Ask) (s : Client) → AsksItsGroup A s → AsksItsGroup A (begun ask s.sent s)
-  begun_asks ask s asks_its =
-      kept_begun (AsksItsGroup A) (record { composing = composed_asks; giving_up = given_up_asks }) ask s.sent s asks_its
 
   -- ---- an Ask more
 
@@ -98,7 +86,7 @@ module _ (A : ℕ → Request → Type 0) where
       let same : m ≡ first = cc in (subst (λ (message : Message). A x.place message.request) same at, tt)
   asked_more (first ∷ ms) (y ∷ ys) x m is at asked = (asked.0, asked_more ms ys x m is at asked.1)
 
-  pub placed_asks : (place number : ℕ) (ask : Ask) (s : Client) → AsksItsGroup A s → next_step s ≡ asks number ask → A place ask.request
+  pub placed_asks : (place number : ℕ) (ask : Ask) (s : ClientState) → AsksItsGroup A s → next_step s ≡ asks number ask → A place ask.request
       → AsksItsGroup A (placed place s)
   placed_asks place number ask s asks_its is at =
       let sent = is_sent s number ask _ (asks_next s number ask s.left is) in
@@ -120,15 +108,6 @@ module _ (A : ℕ → Request → Type 0) where
   asked_told place told (m ∷ ms) (x ∷ xs) asked =
       (same_place m.request x.place x.told (Some (or_told x.told told)) (x.place == place) asked.0, asked_told place told ms xs asked.1)
 
-  settled_asks : (b : Bool) (s : Client) → AsksItsGroup A s → AsksItsGroup A (settled b s)
-  settled_asks true s asks_its = turned_asks (turn_at s s.stage) s
-  settled_asks false s asks_its = asks_its
-
-  pub served_asks : (place : ℕ) (told : Told) (s : Client) → AsksItsGroup A s → AsksItsGroup A (served place told s)
-  served_asks place told s asks_its =
-      let here : AsksItsGroup A (recorded place told s) = record { asked = asked_told place told (group s.who s.stage) s.sent asks_its.asked } in
-      if_both (AsksItsGroup A) (has_place place s.sent) _ s (settled_asks (is_complete (recorded place told s)) (recorded place told s) here) asks_its
-
   -- ---- what is told of them
 
   keys_answered : (who : Who) (keys : List LookKey) (sent : List Sent) (place : ℕ) (given : Reply) → AreAskedFor A (map (lookup_of who) keys) sent
@@ -146,8 +125,31 @@ module _ (A : ℕ → Request → Type 0) where
   lookup_answered who (act flow) sent place given asked told = tt
   lookup_answered who (winds ending m ms) sent place given asked told = tt
 
-  pub answers_lookup : (place : ℕ) (given : Reply) (s : Client) → AsksItsGroup A s → AnswersAsked A place given → AnswersLookup s.stage s.sent place given
+  pub answers_lookup : (place : ℕ) (given : Reply) (s : ClientState) → AsksItsGroup A s → AnswersAsked A place given → AnswersLookup s.stage s.sent place given
   answers_lookup place given s asks_its told = lookup_answered s.who s.stage s.sent place given asks_its.asked told
+
+module _ (digest : List ℕ → Id) (A : ℕ → Request → Type 0) where
+  composed_at : (s : ClientState) (stage : Stage) → AreAskedFor A (group s.who stage) s.sent → AsksItsGroup A (record s { stage = composed_stage digest s stage })
+  composed_at s compose asked = record { asked = none_asked A (group s.who (keys_of digest s.who (next_course s.left))) s.sent asked }
+  composed_at s (round keys) asked = record { asked = asked }
+  composed_at s (act flow) asked = record { asked = asked }
+  composed_at s (winds ending m ms) asked = record { asked = asked }
+
+  pub composed_asks : (s : ClientState) → AsksItsGroup A s → AsksItsGroup A (composed digest s)
+  composed_asks s asks_its = composed_at s s.stage asks_its.asked
+
+  pub begun_asks : (ask : Ask) (s : ClientState) → AsksItsGroup A s → AsksItsGroup A (begun digest ask s.sent s)
+  begun_asks ask s asks_its =
+      kept_begun digest (AsksItsGroup A) (record { composing = composed_asks; giving_up = given_up_asks A }) ask s.sent s asks_its
+
+  settled_asks : (b : Bool) (s : ClientState) → AsksItsGroup A s → AsksItsGroup A (settled digest b s)
+  settled_asks true s asks_its = turned_asks A (turn_at digest s s.stage) s
+  settled_asks false s asks_its = asks_its
+
+  pub served_asks : (place : ℕ) (told : Told) (s : ClientState) → AsksItsGroup A s → AsksItsGroup A (served digest place told s)
+  served_asks place told s asks_its =
+      let here : AsksItsGroup A (recorded place told s) = record { asked = asked_told A place told (group s.who s.stage) s.sent asks_its.asked } in
+      if_both (AsksItsGroup A) (has_place place s.sent) _ s (settled_asks (is_complete (recorded place told s)) (recorded place told s) here) asks_its
 
 module _ (A B : ℕ → Request → Type 0) (weaker : (place : ℕ) (asked : Request) → A place asked → B place asked) where
   weaker_group : (ms : List Message) (sent : List Sent) → AreAskedFor A ms sent → AreAskedFor B ms sent
@@ -155,5 +157,5 @@ module _ (A B : ℕ → Request → Type 0) (weaker : (place : ℕ) (asked : Req
   weaker_group [] (x ∷ xs) asked = absurd asked
   weaker_group (m ∷ ms) (x ∷ xs) asked = (weaker x.place m.request asked.0, weaker_group ms xs asked.1)
 
-  pub weaker_asks : (s : Client) → AsksItsGroup A s → AsksItsGroup B s
+  pub weaker_asks : (s : ClientState) → AsksItsGroup A s → AsksItsGroup B s
   weaker_asks s asks_its = record { asked = weaker_group (group s.who s.stage) s.sent asks_its.asked }

@@ -21,7 +21,7 @@ use Rattle.inf_message.specs.declared.op.Op.TheVariants as op
 use Rattle.inf_message.specs.declared.reply.Reply.{Reply}
 use Rattle.inf_message.specs.declared.reply.Reply.TheVariants as reply
 use Rattle.inf_message.specs.History.{Told}
-use Rattle.inf_flow_dir.specs.Client.{Client, Sent, Stage, act, answers, compose, retries, round, winds}
+use Rattle.inf_flow_dir.specs.Client.{ClientState, Sent, Stage, act, answers, compose, retries, round, winds}
 use Rattle.inf_flow_dir.specs.Flow.{Flow, Who, birth_of, clean_up, finishes, forget_in, last_entry, last_id, links, lives_at, makes, reserves, row_of, seals, unlinks, way_to}
 use Rattle.inf_flow_dir.specs.Group.{Course, course_at, course_in, next_course, split, text_of}
 use Rattle.inf_laws_client.specs.Told.{AllTell, ArePlain, BeginsAtTop, CarriesOnly, FirstIsTop, IfTold, IsChainOf, IsIn, IsOfTop, LinksFrom, StandsOn, TellsOnly, chain_of}
@@ -89,8 +89,8 @@ plain_row who parent (Some entry) = plain_in who (dir_of entry.access) entry.acc
 pub plain_clean_up : (who : Who) (flow : Flow) → ArePlain (clean_up who flow)
 plain_clean_up who (finishes chain asked) = tt
 plain_clean_up who (reserves chain name mode) = tt
-plain_clean_up who (makes chain name mode version) = (refl, tt)
-plain_clean_up who (links chain name mode version born) = (refl, (refl, tt))
+plain_clean_up who (makes chain name mode version id) = (refl, tt)
+plain_clean_up who (links chain name mode version dir) = (refl, (refl, tt))
 plain_clean_up who (seals chain) = tt
 plain_clean_up who (unlinks chain) = (refl, tt)
 
@@ -189,29 +189,30 @@ module _ (T : Key → Access → Type 0) where
   make_stands who flow own place (reply.Clash kept) = plain_clean_up who flow
   make_stands who flow own place any_reply = fails_stands who flow place any_reply
 
-  act_stands : (who : Who) (flow : Flow) (asked place : ℕ) (given : Reply) → IsChainOf T (chain_of flow) → TurnStands (after_act who flow asked place given)
+module _ (digest : List ℕ → Id) (T : Key → Access → Type 0) where
+  act_stands : (who : Who) (flow : Flow) (asked place : ℕ) (given : Reply) → IsChainOf T (chain_of flow) → TurnStands T (after_act digest who flow asked place given)
   act_stands who (finishes chain (op.Create name mode)) asked place reply.Fine is = tt
   act_stands who (finishes chain (op.Stat name)) asked place (reply.Stat kind meta) is = tt
   act_stands who (reserves chain name mode) asked place (reply.Reserved version) is = (is, tt)
-  act_stands who (makes chain name mode version) asked place reply.Fine is = (is, tt)
-  act_stands who (makes chain name mode version) asked place given is =
-      make_stands who (makes chain name mode version) (birth_of who chain name version) place given
-  act_stands who (links chain name mode version born) asked place reply.Fine is = tt
+  act_stands who (makes chain name mode version id) asked place reply.Fine is = (is, tt)
+  act_stands who (makes chain name mode version id) asked place given is =
+      make_stands T who (makes chain name mode version id) (birth_of who chain name version) place given
+  act_stands who (links chain name mode version dir) asked place reply.Fine is = tt
   act_stands who (seals chain) asked place reply.Fine is = (is, tt)
   act_stands who (unlinks chain) asked place reply.Fine is = (refl, plain_row who (last_id who (way_to chain)) (last_entry chain))
-  act_stands who flow asked place given is = fails_stands who flow place given
+  act_stands who flow asked place given is = fails_stands T who flow place given
 
   told_stands : (who : Who) (flow : Flow) (place : ℕ) (told : Option Told) (xs : List Sent) → IsChainOf T (chain_of flow)
-      → TurnStands (act_turn who flow (record { place = place; told = told } ∷ xs))
+      → TurnStands T (act_turn digest who flow (record { place = place; told = told } ∷ xs))
   told_stands who flow place None xs is = tt
   told_stands who flow place (Some told) xs is = act_stands who flow place told.serve_place told.reply is
 
-  flow_stands : (who : Who) (flow : Flow) (sent : List Sent) → IsChainOf T (chain_of flow) → TurnStands (act_turn who flow sent)
+  flow_stands : (who : Who) (flow : Flow) (sent : List Sent) → IsChainOf T (chain_of flow) → TurnStands T (act_turn digest who flow sent)
   flow_stands who flow [] is = tt
   flow_stands who flow (x ∷ xs) is = told_stands who flow x.place x.told xs is
 
-  pub turn_stands : (s : Client) (stage : Stage) → AllTell T s.sent → BeginsAtTop stage s.sent → StandsOn T stage → TurnStands (turn_at s stage)
+  pub turn_stands : (s : ClientState) (stage : Stage) → AllTell T s.sent → BeginsAtTop stage s.sent → StandsOn T stage → TurnStands T (turn_at digest s stage)
   turn_stands s compose told begins stands = tt
-  turn_stands s (round keys) told begins stands = round_stands (next_course s.left) s.sent (arrives s.left) told begins
+  turn_stands s (round keys) told begins stands = round_stands T (next_course s.left) s.sent (arrives s.left) told begins
   turn_stands s (act flow) told begins stands = flow_stands s.who flow s.sent stands
   turn_stands s (winds ending m ms) told begins stands = stands.1

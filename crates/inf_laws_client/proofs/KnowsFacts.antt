@@ -1,5 +1,6 @@
 -- A client knows what it was told, whatever is true of that, and sends no more.
 use Rattle.std.proofs.Common.{◌≡◌, ℕ, ◌==◌, Bool, true, false, if◌then◌else◌, zero, suc, List, [], ◌∷◌, ◌++◌, length, map, slice_get, All, Option, Some, None, refl, sym, ap, subst}
+use Rattle.inf_base.specs.declared.id.Id.{Id}
 use Rattle.std.proofs.lemmas.Bool.Decides.{Decides-eqb}
 use Rattle.std.proofs.lemmas.List.Elements.{All-cons, All-nil}
 use Rattle.inf_base.specs.declared.access.Access.{Access}
@@ -15,7 +16,7 @@ use Rattle.inf_message.specs.declared.request.Request.{Request}
 use Rattle.inf_message.specs.declared.step.Message.{Message}
 use Rattle.inf_message.specs.History.{Told, or_told}
 use Rattle.inf_server.specs.Chains.{chains_of}
-use Rattle.inf_flow_dir.specs.Client.{Client, Ending, Sent, Stage, act, answers, compose, has_place, idle, placed, retries, round, told_at, winds, wound}
+use Rattle.inf_flow_dir.specs.Client.{ClientState, Ending, Sent, Stage, act, answers, compose, has_place, idle, placed, retries, round, told_at, winds, wound}
 use Rattle.inf_duty.specs.Duty.{asks, begun, given_up, given_up_in, next_in, next_of, next_step}
 use Rattle.inf_flow_dir.specs.Flow.{Flow, Who, clean_up, finishes, links, makes, message_of, reserves, seals, unlinks}
 use Rattle.inf_flow_dir.specs.Group.{Course, composed, composed_stage, group, keys_of, lookup_of, next_course}
@@ -49,7 +50,7 @@ told_begins place told (winds ending m ms) sent now before = tt
 
 -- ---- an Ask more
 
-begins_more : (s : Client) (number : ℕ) (ask : Ask) (x : Sent) (stage : Stage) (sent : List Sent)
+begins_more : (s : ClientState) (number : ℕ) (ask : Ask) (x : Sent) (stage : Stage) (sent : List Sent)
     → next_of s (slice_get (group s.who stage) (length s.sent)) ≡ asks number ask → x.told ≡ None → BeginsAtTop stage sent → BeginsAtTop stage (sent ++ x ∷ [])
 begins_more s number ask x compose sent is none begins = absurd cc
 begins_more s number ask x (round keys) [] is none begins = subst (λ (told : Option Told). IfTold IsOfTop told) (sym none) tt
@@ -57,16 +58,16 @@ begins_more s number ask x (round keys) (first ∷ sent) is none begins = begins
 begins_more s number ask x (act flow) sent is none begins = tt
 begins_more s number ask x (winds ending m ms) sent is none begins = tt
 
-pub asks_next : (s : Client) (number : ℕ) (ask : Ask) (calls : List Call) → next_in s calls ≡ asks number ask
+pub asks_next : (s : ClientState) (number : ℕ) (ask : Ask) (calls : List Call) → next_in s calls ≡ asks number ask
     → next_of s (slice_get (group s.who s.stage) (length s.sent)) ≡ asks number ask
 asks_next s number ask [] is = absurd cc
 asks_next s number ask (call ∷ calls) is = is
 
 -- ---- before a group
 
-composed_begins : (who : Who) (found : Option Course) (sent : List Sent) → sent ≡ [] → BeginsAtTop (keys_of who found) sent
-composed_begins who None sent none = none
-composed_begins who (Some course) sent none = subst (λ (asked : List Sent). FirstIsTop asked) (sym none) tt
+composed_begins : (digest : List ℕ → Id) (who : Who) (found : Option Course) (sent : List Sent) → sent ≡ [] → BeginsAtTop (keys_of digest who found) sent
+composed_begins digest who None sent none = none
+composed_begins digest who (Some course) sent none = subst (λ (asked : List Sent). FirstIsTop asked) (sym none) tt
 
 -- the message that is sent is one of the group
 pub record IsSent (found : Option Message) (asked : Request) : Type 0 where
@@ -74,7 +75,7 @@ pub record IsSent (found : Option Message) (asked : Request) : Type 0 where
   pub found_there : found ≡ Some message
   pub request : asked ≡ message.request
 
-pub is_sent : (s : Client) (number : ℕ) (ask : Ask) (found : Option Message) → next_of s found ≡ asks number ask → IsSent found ask.request
+pub is_sent : (s : ClientState) (number : ℕ) (ask : Ask) (found : Option Message) → next_of s found ≡ asks number ask → IsSent found ask.request
 is_sent s number ask None is = absurd cc
 is_sent s number ask (Some message) is = record { message = message; found_there = refl; request = cc }
 
@@ -100,48 +101,27 @@ module _ (T : Key → Access → Type 0) where
   pub idle_knows : (who : Who) (calls : List Call) → KnowsOnly T (idle who calls)
   idle_knows who calls = record { answers = tt; begins = refl; stands = tt }
 
-  wound_knows : (ending : Ending) (more : List Message) (s : Client) → ArePlain more → KnowsOnly T (wound ending more s)
+  wound_knows : (ending : Ending) (more : List Message) (s : ClientState) → ArePlain more → KnowsOnly T (wound ending more s)
   wound_knows (answers given place) [] s plain = record { answers = tt; begins = refl; stands = tt }
   wound_knows retries [] s plain = record { answers = tt; begins = refl; stands = tt }
   wound_knows ending (m ∷ ms) s plain = record { answers = tt; begins = tt; stands = plain }
 
-  turned_knows : (t : Turn) (s : Client) → TurnStands T t → KnowsOnly T (turned t s)
+  turned_knows : (t : Turn) (s : ClientState) → TurnStands T t → KnowsOnly T (turned t s)
   turned_knows (goes_on next) s stands = record { answers = tt; begins = stands.1; stands = stands.0 }
   turned_knows (winds_up ending more) s stands = wound_knows ending more s stands
 
   -- ---- before a group
 
-  keys_stand : (who : Who) (found : Option Course) → StandsOn T (keys_of who found)
-  keys_stand who None = tt
-  keys_stand who (Some course) = tt
-
-  composed_at : (s : Client) (stage : Stage) → AllTell T s.sent → BeginsAtTop stage s.sent → StandsOn T stage
-      → KnowsOnly T (record s { stage = composed_stage s stage })
-  composed_at s compose told begins stands = record {
-    answers = told;
-    begins = composed_begins s.who (next_course s.left) s.sent begins;
-    stands = keys_stand s.who (next_course s.left);
-  }
-  composed_at s (round keys) told begins stands = record { answers = told; begins = begins; stands = stands }
-  composed_at s (act flow) told begins stands = record { answers = told; begins = begins; stands = stands }
-  composed_at s (winds ending m ms) told begins stands = record { answers = told; begins = begins; stands = stands }
-
-  pub composed_knows : (s : Client) → KnowsOnly T s → KnowsOnly T (composed s)
-  composed_knows s knows = composed_at s s.stage knows.answers knows.begins knows.stands
-
-  given_up_at : (s : Client) (stage : Stage) → KnowsOnly T s → KnowsOnly T (given_up_in s stage)
+  given_up_at : (s : ClientState) (stage : Stage) → KnowsOnly T s → KnowsOnly T (given_up_in s stage)
   given_up_at s (act flow) knows = wound_knows (answers answer.NoMemory None) (clean_up s.who flow) s (plain_clean_up s.who flow)
   given_up_at s (winds ending m ms) knows = knows
   given_up_at s compose knows = record { answers = tt; begins = refl; stands = tt }
   given_up_at s (round keys) knows = record { answers = tt; begins = refl; stands = tt }
 
-  pub given_up_knows : (s : Client) → KnowsOnly T s → KnowsOnly T (given_up s)
+  pub given_up_knows : (s : ClientState) → KnowsOnly T s → KnowsOnly T (given_up s)
   given_up_knows s knows = given_up_at s s.stage knows
 
-  pub begun_knows : (ask : Ask) (s : Client) → KnowsOnly T s → KnowsOnly T (begun ask s.sent s)
-  begun_knows ask s knows = kept_begun (KnowsOnly T) (record { composing = composed_knows; giving_up = given_up_knows }) ask s.sent s knows
-
-  pub placed_knows : (place number : ℕ) (ask : Ask) (s : Client) → KnowsOnly T s → next_step s ≡ asks number ask → KnowsOnly T (placed place s)
+  pub placed_knows : (place number : ℕ) (ask : Ask) (s : ClientState) → KnowsOnly T s → next_step s ≡ asks number ask → KnowsOnly T (placed place s)
   placed_knows place number ask s knows is =
       let x : Sent = record { place = place; told = None } in
       record {
@@ -152,23 +132,13 @@ module _ (T : Key → Access → Type 0) where
 
   -- ---- once an Ask was served
 
-  recorded_knows : (place : ℕ) (told : Told) (s : Client) → KnowsOnly T s → TellsOnly T told.reply → AnswersTop s.stage s.sent place told.reply
+  recorded_knows : (place : ℕ) (told : Told) (s : ClientState) → KnowsOnly T s → TellsOnly T told.reply → AnswersTop s.stage s.sent place told.reply
       → KnowsOnly T (recorded place told s)
   recorded_knows place told s knows tells top = record {
     answers = all_told place told s.sent tells knows.answers;
     begins = told_begins place told s.stage s.sent top knows.begins;
     stands = knows.stands;
   }
-
-  settled_knows : (b : Bool) (s : Client) → KnowsOnly T s → KnowsOnly T (settled b s)
-  settled_knows true s knows = turned_knows (turn_at s s.stage) s (turn_stands T s s.stage knows.answers knows.begins knows.stands)
-  settled_knows false s knows = knows
-
-  pub served_knows : (place : ℕ) (told : Told) (s : Client) → KnowsOnly T s → TellsOnly T told.reply → AnswersTop s.stage s.sent place told.reply
-      → KnowsOnly T (served place told s)
-  served_knows place told s knows tells top =
-      if_both (KnowsOnly T) (has_place place s.sent) _ s
-      (settled_knows (is_complete (recorded place told s)) (recorded place told s) (recorded_knows place told s knows tells top)) knows
 
   -- ---- what is sent
 
@@ -184,8 +154,8 @@ module _ (T : Key → Access → Type 0) where
   flow_sends : (who : Who) (flow : Flow) → IsChainOf T (chain_of flow) → AreChains (chains_of (message_of who flow).request)
   flow_sends who (finishes chain asked) is = one_chain chain is
   flow_sends who (reserves chain name mode) is = one_chain chain is
-  flow_sends who (makes chain name mode version) is = no_chain [] refl
-  flow_sends who (links chain name mode version born) is = one_chain chain is
+  flow_sends who (makes chain name mode version id) is = no_chain [] refl
+  flow_sends who (links chain name mode version dir) is = one_chain chain is
   flow_sends who (seals chain) is = one_chain chain is
   flow_sends who (unlinks chain) is = one_chain chain is
 
@@ -197,11 +167,43 @@ module _ (T : Key → Access → Type 0) where
   stage_sends who (winds ending first ms) n m stands is =
       subst (λ (message : Message). AreChains (chains_of message.request)) (only_one first n m is) (no_chain (chains_of first.request) stands.0)
 
-  pub sends : (number : ℕ) (ask : Ask) (s : Client) → KnowsOnly T s → next_step s ≡ asks number ask → AreChains (chains_of ask.request)
+  pub sends : (number : ℕ) (ask : Ask) (s : ClientState) → KnowsOnly T s → next_step s ≡ asks number ask → AreChains (chains_of ask.request)
   sends number ask s knows is =
       let sent = is_sent s number ask _ (asks_next s number ask s.left is) in
       subst (λ (asked : Request). AreChains (chains_of asked)) (sym sent.request)
       (stage_sends s.who s.stage (length s.sent) sent.message knows.stands sent.found_there)
+
+module _ (digest : List ℕ → Id) (T : Key → Access → Type 0) where
+  keys_stand : (who : Who) (found : Option Course) → StandsOn T (keys_of digest who found)
+  keys_stand who None = tt
+  keys_stand who (Some course) = tt
+
+  composed_at : (s : ClientState) (stage : Stage) → AllTell T s.sent → BeginsAtTop stage s.sent → StandsOn T stage
+      → KnowsOnly T (record s { stage = composed_stage digest s stage })
+  composed_at s compose told begins stands = record {
+    answers = told;
+    begins = composed_begins digest s.who (next_course s.left) s.sent begins;
+    stands = keys_stand s.who (next_course s.left);
+  }
+  composed_at s (round keys) told begins stands = record { answers = told; begins = begins; stands = stands }
+  composed_at s (act flow) told begins stands = record { answers = told; begins = begins; stands = stands }
+  composed_at s (winds ending m ms) told begins stands = record { answers = told; begins = begins; stands = stands }
+
+  pub composed_knows : (s : ClientState) → KnowsOnly T s → KnowsOnly T (composed digest s)
+  composed_knows s knows = composed_at s s.stage knows.answers knows.begins knows.stands
+
+  pub begun_knows : (ask : Ask) (s : ClientState) → KnowsOnly T s → KnowsOnly T (begun digest ask s.sent s)
+  begun_knows ask s knows = kept_begun digest (KnowsOnly T) (record { composing = composed_knows; giving_up = given_up_knows T }) ask s.sent s knows
+
+  settled_knows : (b : Bool) (s : ClientState) → KnowsOnly T s → KnowsOnly T (settled digest b s)
+  settled_knows true s knows = turned_knows T (turn_at digest s s.stage) s (turn_stands digest T s s.stage knows.answers knows.begins knows.stands)
+  settled_knows false s knows = knows
+
+  pub served_knows : (place : ℕ) (told : Told) (s : ClientState) → KnowsOnly T s → TellsOnly T told.reply → AnswersTop s.stage s.sent place told.reply
+      → KnowsOnly T (served digest place told s)
+  served_knows place told s knows tells top =
+      if_both (KnowsOnly T) (has_place place s.sent) _ s
+      (settled_knows (is_complete (recorded place told s)) (recorded place told s) (recorded_knows T place told s knows tells top)) knows
 
 module _ (T U : Key → Access → Type 0) (weaker : (k : Key) (access : Access) → T k access → U k access) where
   weaker_reply : (given : Reply) → TellsOnly T given → TellsOnly U given
@@ -226,5 +228,5 @@ module _ (T U : Key → Access → Type 0) (weaker : (k : Key) (access : Access)
   weaker_stage (act flow) stands = record { carries = weaker_chain (chain_of flow) stands.carries; links_up = stands.links_up }
   weaker_stage (winds ending m ms) stands = stands
 
-  pub weaker_knows : (s : Client) → KnowsOnly T s → KnowsOnly U s
+  pub weaker_knows : (s : ClientState) → KnowsOnly T s → KnowsOnly U s
   weaker_knows s knows = record { answers = weaker_sent s.sent knows.answers; begins = knows.begins; stands = weaker_stage s.stage knows.stands }

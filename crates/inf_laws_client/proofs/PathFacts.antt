@@ -16,7 +16,7 @@ use Rattle.inf_message.specs.declared.reply.Reply.{Reply}
 use Rattle.inf_message.specs.declared.reply.Reply.TheVariants as reply
 use Rattle.inf_message.specs.History.{Told}
 use Rattle.inf_flow_dir.specs.Client.{Sent, answers, retries}
-use Rattle.inf_flow_dir.specs.Flow.{Flow, Who, birth_of, finishes, links, makes, reserves, root_id, seals, unlinks}
+use Rattle.inf_flow_dir.specs.Flow.{Flow, Who, birth_of, finishes, links, makes, reserves, seals, unlinks}
 use Rattle.inf_flow_dir.specs.Group.{Course, course_at, course_in, course_of, keys_along, rmdir_stop, split, text_of}
 use Rattle.inf_laws_client.specs.Paths.{AreToldFor, Follows, IsToldFor, StopsBefore, TurnFollows, name_of, names_in, names_of}
 use Rattle.inf_laws_client.specs.Told.{IfTold}
@@ -122,43 +122,43 @@ module _ (asked : Call) (course : Course) (is : IsCourse asked course) where
   by_next_follows chain name names go stops along named goes = is.stops_at chain name names along
   by_next_follows chain name names go (is_busy given place) along named goes = tt
 
-  follow_follows : (who : Who) (id : Id) (first : Entry) (more : List Entry) (before : Entry) (names : List (List ℕ)) (sent : List Sent)
-      → names_in more ++ names ≡ course.looked → AreToldFor (keys_along who id names) sent → TurnFollows asked (follow course (first ∷ more) before names sent)
-  follow_follows who id first more before [] sent along told = is.arrives (first ∷ more) (sym (append-nil (names_in more)) ∙ along)
-  follow_follows who id first more before (name ∷ names) [] along told = is.stops_at (first ∷ more) name names along
-  follow_follows who id first more before (name ∷ names) (x ∷ xs) along told =
+  follow_follows : (digest : List ℕ → Id) (id : Id) (first : Entry) (more : List Entry) (before : Entry) (names : List (List ℕ)) (sent : List Sent)
+      → names_in more ++ names ≡ course.looked → AreToldFor (keys_along digest id names) sent → TurnFollows asked (follow course (first ∷ more) before names sent)
+  follow_follows digest id first more before [] sent along told = is.arrives (first ∷ more) (sym (append-nil (names_in more)) ∙ along)
+  follow_follows digest id first more before (name ∷ names) [] along told = is.stops_at (first ∷ more) name names along
+  follow_follows digest id first more before (name ∷ names) (x ∷ xs) along told =
       by_next_follows (first ∷ more) name names (λ e. follow course (first ∷ (more ++ e ∷ [])) e names xs) (next_entry before x.told) along
       (next_named before id name x.told told.0)
-      (λ e named. follow_follows who _ first (more ++ e ∷ []) e names xs
+      (λ e named. follow_follows digest _ first (more ++ e ∷ []) e names xs
       (names_more more e names ∙ ap (λ (n : List ℕ). names_in more ++ n ∷ names) named ∙ along) told.1)
 
-  root_follows : (who : Who) (xs : List Sent) (told : Told) (given : Reply) → AreToldFor (keys_along who (root_id who) course.looked) xs
+  root_follows : (digest : List ℕ → Id) (root : Id) (xs : List Sent) (told : Told) (given : Reply) → AreToldFor (keys_along digest root course.looked) xs
       → TurnFollows asked (from_root course xs told given)
-  root_follows who xs told (reply.Found k access) more =
+  root_follows digest root xs told (reply.Found k access) more =
       let first = told_entry k access told.serve_place in
-      follow_follows who (root_id who) first [] first course.looked xs refl more
-  root_follows who xs told (reply.Busy by at born) more = tt
-  root_follows who xs told any_reply more = tt
+      follow_follows digest root first [] first course.looked xs refl more
+  root_follows digest root xs told (reply.Busy by at born) more = tt
+  root_follows digest root xs told any_reply more = tt
 
   follows_if : (b : Bool) (first second : Turn) → TurnFollows asked first → TurnFollows asked second → TurnFollows asked (if b then first else second)
   follows_if true first second one other = one
   follows_if false first second one other = other
 
-  first_follows : (who : Who) (place : ℕ) (told : Option Told) (xs : List Sent) → AreToldFor (keys_along who (root_id who) course.looked) xs
+  first_follows : (digest : List ℕ → Id) (root : Id) (place : ℕ) (told : Option Told) (xs : List Sent) → AreToldFor (keys_along digest root course.looked) xs
       → TurnFollows asked (after_round (Some course) (record { place = place; told = told } ∷ xs))
-  first_follows who place None xs more = follows_if _ (winds_up (answers answer.NoMemory None) []) (winds_up retries []) tt tt
-  first_follows who place (Some told) xs more =
-      follows_if _ (winds_up (answers answer.NoMemory None) []) (from_root course xs told told.reply) tt (root_follows who xs told told.reply more)
+  first_follows digest root place None xs more = follows_if _ (winds_up (answers answer.NoMemory None) []) (winds_up retries []) tt tt
+  first_follows digest root place (Some told) xs more =
+      follows_if _ (winds_up (answers answer.NoMemory None) []) (from_root course xs told told.reply) tt (root_follows digest root xs told told.reply more)
 
-  round_follows : (who : Who) (sent : List Sent) → AreToldFor (look.Top ∷ keys_along who (root_id who) course.looked) sent
+  round_follows : (digest : List ℕ → Id) (root : Id) (sent : List Sent) → AreToldFor (look.Top ∷ keys_along digest root course.looked) sent
       → TurnFollows asked (after_round (Some course) sent)
-  round_follows who [] told = tt
-  round_follows who (x ∷ xs) told = first_follows who x.place x.told xs told.1
+  round_follows digest root [] told = tt
+  round_follows digest root (x ∷ xs) told = first_follows digest root x.place x.told xs told.1
 
-pub after_round_follows : (who : Who) (asked : Call) (course : Course) (sent : List Sent) → course_of asked ≡ Some course
-    → AreToldFor (look.Top ∷ keys_along who (root_id who) course.looked) sent → TurnFollows asked (after_round (Some course) sent)
-after_round_follows who asked course sent found told =
-    round_follows asked course (subst (λ (c : Option Course). IfCourse asked c) found (is_course asked)) who sent told
+pub after_round_follows : (digest : List ℕ → Id) (root : Id) (asked : Call) (course : Course) (sent : List Sent) → course_of asked ≡ Some course
+    → AreToldFor (look.Top ∷ keys_along digest root course.looked) sent → TurnFollows asked (after_round (Some course) sent)
+after_round_follows digest root asked course sent found told =
+    round_follows asked course (subst (λ (c : Option Course). IfCourse asked c) found (is_course asked)) digest root sent told
 
 -- ---- after a message of a flow
 
@@ -172,15 +172,15 @@ make_follows : (asked : Call) (who : Who) (flow : Flow) (own : Triple) (place : 
 make_follows asked who flow own place (reply.Clash kept) = tt
 make_follows asked who flow own place any_reply = fails_follows asked who flow place any_reply
 
-pub after_act_follows : (asked : Call) (who : Who) (flow : Flow) (ask_place place : ℕ) (given : Reply) → Follows asked flow
-    → TurnFollows asked (after_act who flow ask_place place given)
-after_act_follows asked who (finishes chain (op.Create name mode)) ask_place place reply.Fine is = tt
-after_act_follows asked who (finishes chain (op.Stat name)) ask_place place (reply.Stat kind meta) is = tt
-after_act_follows asked who (reserves chain name mode) ask_place place (reply.Reserved version) is = is
-after_act_follows asked who (makes chain name mode version) ask_place place reply.Fine is = is
-after_act_follows asked who (makes chain name mode version) ask_place place given is =
-    make_follows asked who (makes chain name mode version) (birth_of who chain name version) place given
-after_act_follows asked who (links chain name mode version born) ask_place place reply.Fine is = tt
-after_act_follows asked who (seals chain) ask_place place reply.Fine is = is
-after_act_follows asked who (unlinks chain) ask_place place reply.Fine is = tt
-after_act_follows asked who flow ask_place place given is = fails_follows asked who flow place given
+pub after_act_follows : (digest : List ℕ → Id) (asked : Call) (who : Who) (flow : Flow) (ask_place place : ℕ) (given : Reply) → Follows asked flow
+    → TurnFollows asked (after_act digest who flow ask_place place given)
+after_act_follows digest asked who (finishes chain (op.Create name mode)) ask_place place reply.Fine is = tt
+after_act_follows digest asked who (finishes chain (op.Stat name)) ask_place place (reply.Stat kind meta) is = tt
+after_act_follows digest asked who (reserves chain name mode) ask_place place (reply.Reserved version) is = is
+after_act_follows digest asked who (makes chain name mode version id) ask_place place reply.Fine is = is
+after_act_follows digest asked who (makes chain name mode version id) ask_place place given is =
+    make_follows asked who (makes chain name mode version id) (birth_of who chain name version) place given
+after_act_follows digest asked who (links chain name mode version dir) ask_place place reply.Fine is = tt
+after_act_follows digest asked who (seals chain) ask_place place reply.Fine is = is
+after_act_follows digest asked who (unlinks chain) ask_place place reply.Fine is = tt
+after_act_follows digest asked who flow ask_place place given is = fails_follows asked who flow place given

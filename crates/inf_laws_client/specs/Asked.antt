@@ -6,7 +6,7 @@ use Rattle.inf_message.specs.declared.reply.Reply.{Reply}
 use Rattle.inf_message.specs.declared.request.Request.{Request}
 use Rattle.inf_message.specs.declared.request.Request.TheVariants as request
 use Rattle.inf_message.specs.declared.step.Message.{Message}
-use Rattle.inf_flow_dir.specs.Client.{Client, Sent}
+use Rattle.inf_flow_dir.specs.Client.{ClientState, Sent}
 use Rattle.inf_flow_dir.specs.Group.{group}
 use Rattle.inf_laws_client.specs.Paths.{IsToldFor}
 
@@ -16,7 +16,7 @@ AreAskedFor A ms [] = Unit {0}
 AreAskedFor A [] (x ∷ xs) = ⊥
 AreAskedFor A (m ∷ ms) (x ∷ xs) = A x.place m.request × AreAskedFor A ms xs
 
-pub record AsksItsGroup (A : ℕ → Request → Type 0) (s : Client) : Type 0 where
+pub record AsksItsGroup (A : ℕ → Request → Type 0) (s : ClientState) : Type 0 where
   pub asked : AreAskedFor A (group s.who s.stage) s.sent
 
 -- what is told of a place is an answer to each lookup that was asked there

@@ -20,7 +20,7 @@ use Rattle.inf_message.specs.declared.request.Request.{Request}
 use Rattle.inf_message.specs.declared.request.Request.TheVariants as request
 use Rattle.inf_message.specs.declared.step.Message.{Message}
 use Rattle.inf_message.specs.History.{told_reply}
-use Rattle.inf_flow_dir.specs.Client.{Client, Sent, act, answers, idle}
+use Rattle.inf_flow_dir.specs.Client.{ClientState, Sent, act, answers, idle}
 use Rattle.inf_flow_dir.specs.Flow.{Flow, Who, finishes, links, makes, unlinks}
 use Rattle.inf_flow_dir.specs.Group.{Course, course_of}
 use Rattle.inf_laws_client.specs.Run.{digest, who, zero_id}
@@ -56,10 +56,10 @@ abbrev pub chain_to_a_from_b : List Entry
 chain_to_a_from_b = root_entry ∷ a_entry birth_as_b ∷ []
 
 abbrev pub make_a : Flow
-make_a = makes (root_entry ∷ []) (codes "a") 0o755 0
+make_a = makes (root_entry ∷ []) (codes "a") 0o755 0 a_dir.id
 
 abbrev pub link_a : Flow
-link_a = links (root_entry ∷ []) (codes "a") 0o755 0 5
+link_a = links (root_entry ∷ []) (codes "a") 0o755 0 a_dir
 
 abbrev pub unlink_a : Flow
 unlink_a = unlinks chain_to_a
@@ -80,7 +80,7 @@ abbrev pub forget_moved : Message
 forget_moved = at_0 (request.Forget zero_id a_dir)
 
 -- a client that is to make the content object of `a`
-abbrev pub the_maker : Client
+abbrev pub the_maker : ClientState
 the_maker = record (idle the_client (call.Mkdir (codes "/a") 0o755 ∷ [])) { stage = act make_a }
 
 abbrev pub making : Request → Ask

@@ -3,6 +3,7 @@ use Rattle.std.specs.Prelude.{◌≡◌, ℕ, List, [], ◌∷◌, ◌++◌, Ok}
 use Rattle.inf_base.specs.declared.call.Call.{Call}
 use Rattle.inf_base.specs.declared.call.Call.TheVariants as call
 use Rattle.inf_base.specs.declared.entry.Entry.{Entry}
+use Rattle.inf_base.specs.declared.id.Id.{Id}
 use Rattle.inf_base.specs.declared.key.Key.{Key}
 use Rattle.inf_base.specs.declared.key.Key.TheVariants as key
 use Rattle.inf_base.specs.declared.key.LookKey.{LookKey}
@@ -12,7 +13,7 @@ use Rattle.inf_message.specs.declared.op.Op.{Op}
 use Rattle.inf_message.specs.declared.op.Op.TheVariants as op
 use Rattle.inf_message.specs.declared.reply.Reply.{Reply}
 use Rattle.inf_message.specs.declared.reply.Reply.TheVariants as reply
-use Rattle.inf_flow_dir.specs.Client.{Client, Sent, Stage, act, compose, round, winds}
+use Rattle.inf_flow_dir.specs.Client.{ClientState, Sent, Stage, act, compose, round, winds}
 use Rattle.inf_flow_dir.specs.Flow.{Flow, Who, finishes, links, makes, reserves, seals, unlinks}
 use Rattle.inf_flow_dir.specs.Group.{keys_of, next_course, text_of}
 use Rattle.inf_laws_client.specs.Told.{IfTold}
@@ -61,8 +62,8 @@ OpFollows asked chain any_op = ⊥
 abbrev pub Follows : Call → Flow → Type 0
 Follows asked (finishes chain what) = OpFollows asked chain what
 Follows asked (reserves chain name mode) = NamesLast asked (λ text. call.Mkdir text mode) chain name
-Follows asked (makes chain name mode version) = NamesLast asked (λ text. call.Mkdir text mode) chain name
-Follows asked (links chain name mode version born) = NamesLast asked (λ text. call.Mkdir text mode) chain name
+Follows asked (makes chain name mode version id) = NamesLast asked (λ text. call.Mkdir text mode) chain name
+Follows asked (links chain name mode version dir) = NamesLast asked (λ text. call.Mkdir text mode) chain name
 Follows asked (seals chain) = NamesAll asked call.Rmdir chain
 Follows asked (unlinks chain) = NamesAll asked call.Rmdir chain
 
@@ -103,12 +104,12 @@ FlowFollows [] flow = ⊥
 FlowFollows (asked ∷ calls) flow = Follows asked flow
 
 -- a round looks up the path of the call under way, and a flow stands on it; nothing is asked before a round is composed
-abbrev pub StandsOnPath : Who → List Call → Stage → List Sent → Type 0
-StandsOnPath who calls compose sent = sent ≡ []
-StandsOnPath who calls (round keys) sent = (keys_of who (next_course calls) ≡ round keys) × AreToldFor keys sent
-StandsOnPath who calls (act flow) sent = FlowFollows calls flow
-StandsOnPath who calls (winds ending m ms) sent = Unit {0}
+abbrev pub StandsOnPath : (List ℕ → Id) → Who → List Call → Stage → List Sent → Type 0
+StandsOnPath digest who calls compose sent = sent ≡ []
+StandsOnPath digest who calls (round keys) sent = (keys_of digest who (next_course calls) ≡ round keys) × AreToldFor keys sent
+StandsOnPath digest who calls (act flow) sent = FlowFollows calls flow
+StandsOnPath digest who calls (winds ending m ms) sent = Unit {0}
 
 -- so does the client
-pub record KeepsToPath (s : Client) : Type 0 where
-  pub stands : StandsOnPath s.who s.left s.stage s.sent
+pub record KeepsToPath (digest : List ℕ → Id) (s : ClientState) : Type 0 where
+  pub stands : StandsOnPath digest s.who s.left s.stage s.sent

@@ -9,7 +9,7 @@ use Rattle.inf_message.specs.declared.call_result.CallResult.{CallResult}
 use Rattle.inf_message.specs.History.{told_reply}
 use Rattle.inf_server.specs.Machine.{machine}
 use Rattle.inf_server.specs.State.{Site, State, opening}
-use Rattle.inf_flow_dir.specs.Client.{Client, idle}
+use Rattle.inf_flow_dir.specs.Client.{ClientState, idle}
 use Rattle.inf_duty.specs.Duty.{Next, asked, asks, is_over, next_step, waits}
 use Rattle.inf_flow_dir.specs.Flow.{Who}
 use Rattle.inf_flow_dir.specs.Group.{composed}
@@ -37,12 +37,12 @@ pub record Waiting : Type 0 where
 -- how many events were made, the clients, the servers, and what waits in the order of asking
 pub record Run : Type 0 where
   pub count : ℕ
-  pub clients : List Client
+  pub clients : List ClientState
   pub servers : List State
   pub waiting : List Waiting
 
 abbrev pub who : ℕ → ℕ → Who
-who servers client = record { client = client; caller = record { uid = 0; gid = 0 }; servers = servers; digest = digest }
+who servers client = record { client = client; caller = record { uid = 0; gid = 0 }; servers = servers; root = zero_id }
 
 abbrev pub site : ℕ → ℕ → Site
 site servers number = record { number = number; servers = servers; digest = digest }
@@ -56,15 +56,15 @@ change_at (suc n) f (x ∷ xs) = x ∷ change_at n f xs
 abbrev pub ask_by : Next → Run → Run
 ask_by (asks number ask) r = record r {
   count = suc r.count;
-  clients = change_at ask.from.client (λ (s : Client). asked (suc r.count) ask s) r.clients;
+  clients = change_at ask.from.client (λ (s : ClientState). asked digest (suc r.count) ask s) r.clients;
   waiting = r.waiting ++ record { place = suc r.count; number = number; ask = ask } ∷ [];
 }
 ask_by waits r = r
 ask_by is_over r = r
 
-abbrev pub next_in : Option Client → Next
+abbrev pub next_in : Option ClientState → Next
 next_in None = is_over
-next_in (Some s) = next_step (composed s)
+next_in (Some s) = next_step (composed digest s)
 
 abbrev pub step : ℕ → Run → Run
 step client r = ask_by (next_in (slice_get r.clients client)) r
@@ -75,7 +75,7 @@ serve_in servers w rest r (Some state) =
     let done = machine (site servers w.number) state w.place w.ask in
     record r {
       count = suc r.count;
-      clients = change_at w.ask.from.client (λ (s : Client). served w.place (told_reply (suc r.count) done.reply) s) r.clients;
+      clients = change_at w.ask.from.client (λ (s : ClientState). served digest w.place (told_reply (suc r.count) done.reply) s) r.clients;
       servers = change_at w.number (λ (old : State). done.state) r.servers;
       waiting = rest;
     }
@@ -88,7 +88,7 @@ serve servers r (w ∷ ws) = serve_in servers w ws r (slice_get r.servers w.numb
 abbrev pub serve_oldest : ℕ → Run → Run
 serve_oldest servers r = serve servers r r.waiting
 
-abbrev pub number_from : ℕ → ℕ → List (List Call) → List Client
+abbrev pub number_from : ℕ → ℕ → List (List Call) → List ClientState
 number_from servers n [] = []
 number_from servers n (c ∷ cs) = idle (who servers n) c ∷ number_from servers (suc n) cs
 
@@ -122,7 +122,7 @@ pub record Shown : Type 0 where
 abbrev pub shown : CallResult → Shown
 shown r = record { answer = r.answer; place = r.place; first = r.first; last = r.last; attempts = r.attempts; rounds = r.rounds; messages = r.messages }
 
-abbrev pub results_in : Option Client → List Shown
+abbrev pub results_in : Option ClientState → List Shown
 results_in None = []
 results_in (Some s) = map shown s.results
 

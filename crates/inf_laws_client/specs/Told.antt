@@ -12,7 +12,7 @@ use Rattle.inf_message.specs.declared.reply.Reply.TheVariants as reply
 use Rattle.inf_message.specs.declared.step.Message.{Message}
 use Rattle.inf_message.specs.History.{Told}
 use Rattle.inf_server.specs.Chains.{chains_of}
-use Rattle.inf_flow_dir.specs.Client.{Client, Sent, Stage, act, compose, round, winds}
+use Rattle.inf_flow_dir.specs.Client.{ClientState, Sent, Stage, act, compose, round, winds}
 use Rattle.inf_flow_dir.specs.Flow.{Flow, finishes, links, makes, reserves, seals, unlinks}
 
 -- ---- answers, by what is true of a key and the access object that is told under it
@@ -83,8 +83,8 @@ pub record IsChainOf (T : Key → Access → Type 0) (chain : List Entry) : Type
 abbrev pub chain_of : Flow → List Entry
 chain_of (finishes chain op) = chain
 chain_of (reserves chain name mode) = chain
-chain_of (makes chain name mode version) = chain
-chain_of (links chain name mode version born) = chain
+chain_of (makes chain name mode version id) = chain
+chain_of (links chain name mode version dir) = chain
 chain_of (seals chain) = chain
 chain_of (unlinks chain) = chain
 
@@ -99,7 +99,7 @@ StandsOn T (round keys) = Unit {0}
 StandsOn T (act flow) = IsChainOf T (chain_of flow)
 StandsOn T (winds ending m ms) = ArePlain (m ∷ ms)
 
-pub record KnowsOnly (T : Key → Access → Type 0) (s : Client) : Type 0 where
+pub record KnowsOnly (T : Key → Access → Type 0) (s : ClientState) : Type 0 where
   pub answers : AllTell T s.sent
   pub begins : BeginsAtTop s.stage s.sent
   pub stands : StandsOn T s.stage

@@ -12,7 +12,7 @@ ghost use Rattle.inf_flow_dir.specs.Client.{act};
 ghost use Rattle.inf_flow_dir.specs.Turn.{after_round, ends, goes_on};
 ghost use Rattle.inf_message.specs.declared.op.Op.TheVariants as op;
 ghost use Rattle.inf_message.specs.declared.reply.Reply.TheVariants as reply;
-ghost use Rattle.inf_laws_client.specs.Run.{alone, ended_at, opening_run, results, crossing_run, shows, zero_id};
+ghost use Rattle.inf_laws_client.specs.Run.{alone, digest, ended_at, opening_run, results, crossing_run, shows, zero_id};
 
 /// A directory is made, gets a file, and cannot be removed; an empty one is removed, and leaves nothing behind.
 pub fn example_of_whole_lives()
@@ -59,7 +59,7 @@ pub fn example_of_clean_ups()
 
 /// A client that wants memory before it makes the content object takes back the name instead.
 pub fn example_of_wanting_memory()
-    ensures { next_step (begun (making cancel.request) [] (the_maker)) ≡ asks cancel.number (making cancel.request) }
+    ensures { next_step (begun digest (making cancel.request) [] the_maker) ≡ asks cancel.number (making cancel.request) }
 {}
 
 /// What comes of the answers to a round of two lookups: a name is followed where it links to the directory before it; a

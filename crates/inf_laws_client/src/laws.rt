@@ -4,6 +4,7 @@ ghost use Rattle.std.specs.Prelude.{◌≡◌, ℕ, List, ◌∷◌, All, Some};
 ghost use Rattle.inf_base.specs.declared.access.Access.{Access};
 ghost use Rattle.inf_base.specs.declared.call.Call.{Call};
 ghost use Rattle.inf_base.specs.declared.entry.Entry.{Entry};
+ghost use Rattle.inf_base.specs.declared.id.Id.{Id};
 ghost use Rattle.inf_base.specs.declared.key.Key.{Key};
 ghost use Rattle.inf_base.specs.declared.key.LookKey.TheVariants as look;
 ghost use Rattle.inf_message.specs.declared.ask.Ask.{Ask};
@@ -12,9 +13,9 @@ ghost use Rattle.inf_message.specs.declared.request.Request.{Request};
 ghost use Rattle.inf_message.specs.History.{Told};
 ghost use Rattle.inf_server.specs.Chains.{chains_of};
 ghost use Rattle.inf_laws_client.specs.Asked.{AnswersAsked, AsksItsGroup, Posting, WasAsked};
-ghost use Rattle.inf_flow_dir.specs.Client.{Client, Sent, idle, placed};
+ghost use Rattle.inf_flow_dir.specs.Client.{ClientState, Sent, idle, placed};
 ghost use Rattle.inf_duty.specs.Duty.{asks, begun, given_up, next_step};
-ghost use Rattle.inf_flow_dir.specs.Flow.{Flow, Who, root_id};
+ghost use Rattle.inf_flow_dir.specs.Flow.{Flow, Who};
 ghost use Rattle.inf_flow_dir.specs.Group.{Course, composed, course_of, keys_along};
 ghost use Rattle.inf_laws_client.specs.Paths.{AnswersLookup, AreToldFor, Follows, KeepsToPath, TurnFollows, names_of};
 ghost use Rattle.inf_laws_client.specs.Told.{AnswersTop, CarriesOnly, IsAmong, IsChainOf, KnowsOnly, LinksUp, Telling, TellsOnly};
@@ -28,73 +29,73 @@ ghost use Rattle.inf_laws_directory.specs.Told.{IsToldAs};
 /// true of all that is told.
 pub fn clients_know_what_they_were_told()
     ensures start { (tellings : List Telling) (who : Who) (calls : List Call) → KnowsOnly (IsAmong tellings) (idle who calls) }
-    ensures composing { (tellings : List Telling) (s : Client)
-        → KnowsOnly (IsAmong tellings) s → KnowsOnly (IsAmong tellings) (composed s) }
-    ensures giving_up { (tellings : List Telling) (s : Client)
+    ensures composing { (digest : List ℕ → Id) (tellings : List Telling) (s : ClientState)
+        → KnowsOnly (IsAmong tellings) s → KnowsOnly (IsAmong tellings) (composed digest s) }
+    ensures giving_up { (tellings : List Telling) (s : ClientState)
         → KnowsOnly (IsAmong tellings) s → KnowsOnly (IsAmong tellings) (given_up s) }
-    ensures beginning { (tellings : List Telling) (s : Client) (ask : Ask)
-        → KnowsOnly (IsAmong tellings) s → KnowsOnly (IsAmong tellings) (begun ask s.sent s) }
-    ensures asking { (tellings : List Telling) (s : Client) (place number : ℕ) (ask : Ask)
+    ensures beginning { (digest : List ℕ → Id) (tellings : List Telling) (s : ClientState) (ask : Ask)
+        → KnowsOnly (IsAmong tellings) s → KnowsOnly (IsAmong tellings) (begun digest ask s.sent s) }
+    ensures asking { (tellings : List Telling) (s : ClientState) (place number : ℕ) (ask : Ask)
         → KnowsOnly (IsAmong tellings) s → next_step s ≡ asks number ask → KnowsOnly (IsAmong tellings) (placed place s) }
-    ensures telling { (tellings : List Telling) (s : Client) (place : ℕ) (told : Told)
+    ensures telling { (digest : List ℕ → Id) (tellings : List Telling) (s : ClientState) (place : ℕ) (told : Told)
         → KnowsOnly (IsAmong tellings) s → TellsOnly (IsAmong tellings) told.reply
-        → AnswersTop s.stage s.sent place told.reply → KnowsOnly (IsAmong tellings) (served place told s) }
-    ensures more { (tellings others : List Telling) (s : Client)
+        → AnswersTop s.stage s.sent place told.reply → KnowsOnly (IsAmong tellings) (served digest place told s) }
+    ensures more { (tellings others : List Telling) (s : ClientState)
         → ((key : Key) (access : Access) → IsAmong tellings key access → IsAmong others key access)
         → KnowsOnly (IsAmong tellings) s → KnowsOnly (IsAmong others) s }
 {}
 
 /// Each chain that a client sends is of what it was told.
 pub fn what_is_sent_was_told()
-    ensures { (tellings : List Telling) (s : Client) (number : ℕ) (ask : Ask)
+    ensures { (tellings : List Telling) (s : ClientState) (number : ℕ) (ask : Ask)
         → KnowsOnly (IsAmong tellings) s → next_step s ≡ asks number ask
         → All (λ (chain : List Entry). IsChainOf (IsAmong tellings) chain) (chains_of ask.request) }
 {}
 
 /// A flow stands on the path of its call, where each lookup of a name is told under that name.
 pub fn flows_follow_paths()
-    ensures rounds { (who : Who) (asked : Call) (course : Course) (sent : List Sent) → course_of asked ≡ Some course
-        → AreToldFor (look.Top ∷ keys_along who (root_id who) course.looked) sent
+    ensures rounds { (digest : List ℕ → Id) (who : Who) (asked : Call) (course : Course) (sent : List Sent) → course_of asked ≡ Some course
+        → AreToldFor (look.Top ∷ keys_along digest who.root course.looked) sent
         → TurnFollows asked (after_round (Some course) sent) }
-    ensures acts { (who : Who) (asked : Call) (flow : Flow) (ask_place place : ℕ) (reply : Reply) → Follows asked flow
-        → TurnFollows asked (after_act who flow ask_place place reply) }
+    ensures acts { (digest : List ℕ → Id) (who : Who) (asked : Call) (flow : Flow) (ask_place place : ℕ) (reply : Reply) → Follows asked flow
+        → TurnFollows asked (after_act digest who flow ask_place place reply) }
 {}
 
 /// A client keeps to the path of the call under way, where each lookup of a name is told under that name.
 pub fn clients_keep_to_paths()
-    ensures start { (who : Who) (calls : List Call) → KeepsToPath (idle who calls) }
-    ensures composing { (s : Client) → KeepsToPath s → KeepsToPath (composed s) }
-    ensures giving_up { (s : Client) → KeepsToPath s → KeepsToPath (given_up s) }
-    ensures beginning { (s : Client) (ask : Ask) → KeepsToPath s → KeepsToPath (begun ask s.sent s) }
-    ensures asking { (s : Client) (place number : ℕ) (ask : Ask)
-        → KeepsToPath s → next_step s ≡ asks number ask → KeepsToPath (placed place s) }
-    ensures telling { (s : Client) (place : ℕ) (told : Told)
-        → KeepsToPath s → AnswersLookup s.stage s.sent place told.reply → KeepsToPath (served place told s) }
+    ensures start { (digest : List ℕ → Id) (who : Who) (calls : List Call) → KeepsToPath digest (idle who calls) }
+    ensures composing { (digest : List ℕ → Id) (s : ClientState) → KeepsToPath digest s → KeepsToPath digest (composed digest s) }
+    ensures giving_up { (digest : List ℕ → Id) (s : ClientState) → KeepsToPath digest s → KeepsToPath digest (given_up s) }
+    ensures beginning { (digest : List ℕ → Id) (s : ClientState) (ask : Ask) → KeepsToPath digest s → KeepsToPath digest (begun digest ask s.sent s) }
+    ensures asking { (digest : List ℕ → Id) (s : ClientState) (place number : ℕ) (ask : Ask)
+        → KeepsToPath digest s → next_step s ≡ asks number ask → KeepsToPath digest (placed place s) }
+    ensures telling { (digest : List ℕ → Id) (s : ClientState) (place : ℕ) (told : Told)
+        → KeepsToPath digest s → AnswersLookup s.stage s.sent place told.reply → KeepsToPath digest (served digest place told s) }
 {}
 
 /// A client asks the messages of its group in their order, so that what answers what was asked at a place answers the
 /// client's lookup there.
 pub fn clients_ask_their_groups()
     ensures start { (postings : List Posting) (who : Who) (calls : List Call) → AsksItsGroup (WasAsked postings) (idle who calls) }
-    ensures composing { (postings : List Posting) (s : Client)
-        → AsksItsGroup (WasAsked postings) s → AsksItsGroup (WasAsked postings) (composed s) }
-    ensures giving_up { (postings : List Posting) (s : Client)
+    ensures composing { (digest : List ℕ → Id) (postings : List Posting) (s : ClientState)
+        → AsksItsGroup (WasAsked postings) s → AsksItsGroup (WasAsked postings) (composed digest s) }
+    ensures giving_up { (postings : List Posting) (s : ClientState)
         → AsksItsGroup (WasAsked postings) s → AsksItsGroup (WasAsked postings) (given_up s) }
-    ensures beginning { (postings : List Posting) (s : Client) (ask : Ask)
-        → AsksItsGroup (WasAsked postings) s → AsksItsGroup (WasAsked postings) (begun ask s.sent s) }
-    ensures asking { (postings : List Posting) (s : Client) (place number : ℕ) (ask : Ask)
+    ensures beginning { (digest : List ℕ → Id) (postings : List Posting) (s : ClientState) (ask : Ask)
+        → AsksItsGroup (WasAsked postings) s → AsksItsGroup (WasAsked postings) (begun digest ask s.sent s) }
+    ensures asking { (postings : List Posting) (s : ClientState) (place number : ℕ) (ask : Ask)
         → AsksItsGroup (WasAsked postings) s → next_step s ≡ asks number ask → WasAsked postings place ask.request
         → AsksItsGroup (WasAsked postings) (placed place s) }
-    ensures telling { (postings : List Posting) (s : Client) (place : ℕ) (told : Told)
-        → AsksItsGroup (WasAsked postings) s → AsksItsGroup (WasAsked postings) (served place told s) }
-    ensures more { (postings others : List Posting) (s : Client)
+    ensures telling { (digest : List ℕ → Id) (postings : List Posting) (s : ClientState) (place : ℕ) (told : Told)
+        → AsksItsGroup (WasAsked postings) s → AsksItsGroup (WasAsked postings) (served digest place told s) }
+    ensures more { (postings others : List Posting) (s : ClientState)
         → ((place : ℕ) (asked : Request) → WasAsked postings place asked → WasAsked others place asked)
         → AsksItsGroup (WasAsked postings) s → AsksItsGroup (WasAsked others) s }
-    ensures lookups { (postings : List Posting) (s : Client) (place : ℕ) (reply : Reply)
+    ensures lookups { (postings : List Posting) (s : ClientState) (place : ℕ) (reply : Reply)
         → AsksItsGroup (WasAsked postings) s → AnswersAsked (WasAsked postings) place reply
         → AnswersLookup s.stage s.sent place reply }
-    ensures roots { (s : Client) (place : ℕ) (reply : Reply)
-        → KeepsToPath s → AnswersLookup s.stage s.sent place reply → AnswersTop s.stage s.sent place reply }
+    ensures roots { (digest : List ℕ → Id) (s : ClientState) (place : ℕ) (reply : Reply)
+        → KeepsToPath digest s → AnswersLookup s.stage s.sent place reply → AnswersTop s.stage s.sent place reply }
 {}
 
 /// A chain that carries only entries which are true now or whose directories are gone, and that links up, is one that was

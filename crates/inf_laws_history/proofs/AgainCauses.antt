@@ -18,7 +18,7 @@ use Rattle.inf_content.specs.Slot.{taker}
 use Rattle.inf_content.specs.Slots.{slot_in}
 use Rattle.inf_duty.specs.After.{client_after}
 use Rattle.inf_duty.specs.World.{World}
-use Rattle.inf_flow_dir.specs.Client.{Client}
+use Rattle.inf_flow_dir.specs.Client.{ClientState}
 use Rattle.inf_laws_history.specs.Flight.{InFlight, changes_in, is_of, is_taken, is_taken_at_top, stands}
 use Rattle.inf_laws_history.specs.Kept.{IsTrue, Kept}
 use Rattle.inf_laws_history.specs.Legal.{MayServe, server_after}
@@ -191,7 +191,7 @@ module _ (world : World) (h : List Event) (kept : Kept world h) where
     abbrev ask : Ask
     ask = may.posted.ask
 
-    abbrev asker : Client
+    abbrev asker : ClientState
     asker = client_after world ask.from.client h
 
     pub waits : Waits (client_after world may.posted.ask.from.client h) place number may.posted.ask
@@ -199,7 +199,7 @@ module _ (world : World) (h : List Event) (kept : Kept world h) where
 
     pub asker_fits : Fits (kept.phases may.posted.ask.from) may.posted.ask.request
     asker_fits =
-        fits (IsTrue world h kept.objects kept.phases) asker place number ask kept.phases (in_hands world h kept ask.from.client)
+        fits world.digest (IsTrue world h kept.objects kept.phases) asker place number ask kept.phases (in_hands world h kept ask.from.client)
         (kept.clients ask.from.client).knows waits
 
     -- of the asking client's calls, only the asking one can have something in hand

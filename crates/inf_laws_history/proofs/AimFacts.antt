@@ -9,7 +9,7 @@ use Rattle.inf_base.specs.declared.errno.Errno.{Errno}
 use Rattle.inf_base.specs.declared.errno.Errno.TheVariants as errno
 use Rattle.inf_base.specs.declared.key.Key.{Key}
 use Rattle.inf_base.specs.Path.{path_of}
-use Rattle.inf_flow_dir.specs.Client.{Client, Sent, Stage, act, compose, round, winds}
+use Rattle.inf_flow_dir.specs.Client.{ClientState, Sent, Stage, act, compose, round, winds}
 use Rattle.inf_flow_dir.specs.Flow.{Flow, Who, finishes, links, makes, message_of, reserves, seals, unlinks}
 use Rattle.inf_flow_dir.specs.Group.{course_at, course_of, group, text_of}
 use Rattle.inf_laws_client.specs.Paths.{Follows, KeepsToPath, OpFollows, StandsOnPath, StopsBefore, names_of}
@@ -121,9 +121,9 @@ module _ (service : Service) (objects : Objects) (root : Access) (phases : Phase
   flow_aims who asked (finishes chain what) is follows may course = op_aims asked chain what is follows
   flow_aims who asked (reserves chain name mode) is follows may course =
       subst (λ (c : Call). AimsAt who.caller c (request.Reserve chain name)) (sym follows.is) (aimed follows.text name chain is follows.names)
-  flow_aims who asked (makes chain name mode version) is follows may course = tt
-  flow_aims who asked (links chain name mode version born) is follows may course =
-      subst (λ (c : Call). AimsAt who.caller c (message_of who (links chain name mode version born)).request) (sym follows.is)
+  flow_aims who asked (makes chain name mode version id) is follows may course = tt
+  flow_aims who asked (links chain name mode version dir) is follows may course =
+      subst (λ (c : Call). AimsAt who.caller c (message_of who (links chain name mode version dir)).request) (sym follows.is)
       (refl, aimed follows.text name chain is follows.names, may)
   flow_aims who asked (seals chain) is follows may course =
       subst (λ (c : Call). AimsAt who.caller c (request.Seal chain)) (sym follows.is)
@@ -140,7 +140,7 @@ module _ (service : Service) (objects : Objects) (root : Access) (phases : Phase
   lift_aims servers caller asked (has_unlinked target) m lifts = subst (λ (n : Message). AimsAt caller asked n.request) (sym lifts) tt
 
   stage_aims : (who : Who) (asked : Call) (calls : List Call) (stage : Stage) (sent : List Sent) (phase : Phase) (index number : ℕ) (what : Request)
-      → StandsOn T stage → StandsOnPath who (asked ∷ calls) stage sent → StageHasCourse (asked ∷ calls) stage → HasPhase who stage phase
+      → StandsOn T stage → StandsOnPath service.digest who (asked ∷ calls) stage sent → StageHasCourse (asked ∷ calls) stage → HasPhase service.digest who stage phase
       → StageMay who.caller stage → slice_get (group who stage) index ≡ Some (record { number = number; request = what }) → AimsAt who.caller asked what
   stage_aims who asked calls compose sent phase index number what stands path course has may is = absurd cc
   stage_aims who asked calls (round keys) sent phase index number what stands path course has may is =
@@ -153,13 +153,13 @@ module _ (service : Service) (objects : Objects) (root : Access) (phases : Phase
       subst (λ (m : Message). AimsAt who.caller asked m.request) (only_one first index number what is)
       (lift_aims who.servers who.caller asked phase first has.0)
 
-  pub aims : (s : Client) (asked : Call) (calls : List Call) (phase : Phase) (place number : ℕ) (ask : Ask) → s.left ≡ asked ∷ calls
-      → KnowsOnly T s → KeepsToPath s → HasCourse s → HasPhase s.who s.stage phase → StageMay s.who.caller s.stage
+  pub aims : (s : ClientState) (asked : Call) (calls : List Call) (phase : Phase) (place number : ℕ) (ask : Ask) → s.left ≡ asked ∷ calls
+      → KnowsOnly T s → KeepsToPath service.digest s → HasCourse s → HasPhase service.digest s.who s.stage phase → StageMay s.who.caller s.stage
       → Waits s place number ask → AimsAt ask.caller asked ask.request
   aims s asked calls phase place number ask left knows path course has may waits =
       subst (λ (c : Caller). AimsAt c asked ask.request) (sym waits.caller)
       (stage_aims s.who asked calls s.stage s.sent phase waits.index number ask.request
       knows.stands
-      (subst (λ (cs : List Call). StandsOnPath s.who cs s.stage s.sent) left path.stands)
+      (subst (λ (cs : List Call). StandsOnPath service.digest s.who cs s.stage s.sent) left path.stands)
       (subst (λ (cs : List Call). StageHasCourse cs s.stage) left course.course)
       has may waits.message)

@@ -1,13 +1,14 @@
 -- The order of answers within a group: an Ask that still waits may as well be answered before a later Ask of the group is
 -- made, and before that one is answered.
 use Rattle.std.proofs.Common.{◌≡◌, ℕ, ◌+◌, ◌<◌, ◌&&◌, ◌||◌, zero, suc, Bool, true, false, cond, eqb, List, [], ◌∷◌, ◌++◌, length, map, slice_get, Option, Some, None, option_map, refl, sym, ap, ap₂, ◌∙◌, subst, arith}
+use Rattle.inf_base.specs.declared.id.Id.{Id}
 use Rattle.std.proofs.lemmas.Bool.Decides.{Decides-eqb, nat_tests}
 use Rattle.std.proofs.lemmas.List.{length-map, map-append}
 use Rattle.std.proofs.lemmas.Option.{slice_get-map}
 use Rattle.std.specs.List.{list_all}
 use Rattle.inf_duty.specs.Duty.{asked}
 use Rattle.inf_duty.specs.Own.{after_answer, told_pair}
-use Rattle.inf_flow_dir.specs.Client.{Client, Counts, Sent, counted, has_place, is_first, is_round, is_told, one_if, placed, told_at}
+use Rattle.inf_flow_dir.specs.Client.{ClientState, Counts, Sent, counted, has_place, is_first, is_round, is_told, one_if, placed, told_at}
 use Rattle.inf_flow_dir.specs.Group.{group}
 use Rattle.inf_flow_dir.specs.Heard.{heard}
 use Rattle.inf_flow_dir.specs.Turn.{after_record, is_complete, later_place, recorded, served}
@@ -47,13 +48,13 @@ all_told_twice : (at place : ℕ) (a b : Told) (sent : List Sent) → eqb place 
 all_told_twice at place a b [] unlike = refl
 all_told_twice at place a b (x ∷ sent) unlike = ap₂ (λ (y : Sent) (ys : List Sent). y ∷ ys) (told_twice at place a b x unlike) (all_told_twice at place a b sent unlike)
 
-abbrev with_group : Client → List Sent → Counts → Client
+abbrev with_group : ClientState → List Sent → Counts → ClientState
 with_group s sent counts = record s { sent = sent; counts = counts }
 
 abbrev with_last : Counts → Option ℕ → Counts
 with_last counts last = record counts { last = last }
 
-pub recorded_twice : (at place : ℕ) (a b : Told) (s : Client) → eqb place at ≡ false → recorded at a (recorded place b s) ≡ recorded place b (recorded at a s)
+pub recorded_twice : (at place : ℕ) (a b : Told) (s : ClientState) → eqb place at ≡ false → recorded at a (recorded place b s) ≡ recorded place b (recorded at a s)
 recorded_twice at place a b s unlike =
     ap₂ (with_group s) (all_told_twice at place a b s.sent unlike)
     (ap (with_last s.counts) (later_twice s.counts.last a.serve_place b.serve_place))
@@ -64,10 +65,10 @@ first_stays : (at : ℕ) (told : Told) (sent : List Sent) → is_first (map (tol
 first_stays at told [] = refl
 first_stays at told (x ∷ sent) = refl
 
-abbrev counted_as : ℕ → Client → Option ℕ → Bool → Counts
+abbrev counted_as : ℕ → ClientState → Option ℕ → Bool → Counts
 counted_as place s last first = record (counted place s) { last = last; rounds = s.counts.rounds + one_if (is_round s.stage && first) }
 
-pub recorded_placed : (at place : ℕ) (told : Told) (s : Client) → eqb place at ≡ false → recorded at told (placed place s) ≡ placed place (recorded at told s)
+pub recorded_placed : (at place : ℕ) (told : Told) (s : ClientState) → eqb place at ≡ false → recorded at told (placed place s) ≡ placed place (recorded at told s)
 recorded_placed at place told s unlike =
     let untold : told_at at told (waiting_at place) ≡ waiting_at place = rw unlike refl in
     ap₂ (with_group s)
@@ -77,7 +78,7 @@ recorded_placed at place told s unlike =
 -- ---- an Ask that waits while another is made
 
 -- the client waits for this Ask, and has a message of its group to send
-pub record IsOpenIn (at : ℕ) (s : Client) : Type 0 where
+pub record IsOpenIn (at : ℕ) (s : ClientState) : Type 0 where
   pub index : ℕ
   pub waits : slice_get s.sent index ≡ Some (waiting_at at)
   pub room : length s.sent < length (group s.who s.stage)
@@ -93,70 +94,70 @@ held at (x ∷ sent) zero found =
     ap (λ (y : Sent). eqb y.place at || has_place at sent) same ∙ ap (λ b. b || has_place at sent) (itself at)
 held at (x ∷ sent) (suc index) found = ap (λ b. eqb x.place at || b) (held at sent index found) ∙ or_true (eqb x.place at)
 
-not_full : (s : Client) → length s.sent < length (group s.who s.stage) → is_complete s ≡ false
+not_full : (s : ClientState) → length s.sent < length (group s.who s.stage) → is_complete s ≡ false
 not_full s room =
     let apart : eqb (length s.sent) (length (group s.who s.stage)) ≡ false = grind (arith, nat_tests) in
     ap (λ b. b && list_all is_told s.sent) apart
 
 -- an answer does not end a group that is not wholly asked
-pub open_recorded : (at : ℕ) (told : Told) (s : Client) → IsOpenIn at s → served at told s ≡ recorded at told s
-open_recorded at told s is =
-    served_within at told s (held at s.sent is.index is.waits)
+pub open_recorded : (digest : List ℕ → Id) (at : ℕ) (told : Told) (s : ClientState) → IsOpenIn at s → served digest at told s ≡ recorded at told s
+open_recorded digest at told s is =
+    served_within digest at told s (held at s.sent is.index is.waits)
     (not_full (recorded at told s) (let room = is.room in let same = length-map s.sent (told_at at told) in omega arith))
 
-pub open_stays : (at place : ℕ) (told : Told) (s : Client) → eqb place at ≡ false → IsOpenIn place s → IsOpenIn place (recorded at told s)
+pub open_stays : (at place : ℕ) (told : Told) (s : ClientState) → eqb place at ≡ false → IsOpenIn place s → IsOpenIn place (recorded at told s)
 open_stays at place told s unlike is = record {
   index = is.index;
   waits = sent_recorded at place told s.sent is.index unlike is.waits;
   room = let room = is.room in let same = length-map s.sent (told_at at told) in omega arith;
 }
 
-served_here : (at : ℕ) (told : Told) (s : Client) → has_place at s.sent ≡ true → served at told s ≡ after_record (recorded at told s)
-served_here at told s here = ap (λ b. cond b (after_record (recorded at told s)) s) here
+served_here : (digest : List ℕ → Id) (at : ℕ) (told : Told) (s : ClientState) → has_place at s.sent ≡ true → served digest at told s ≡ after_record digest (recorded at told s)
+served_here digest at told s here = ap (λ b. cond b (after_record digest (recorded at told s)) s) here
 
-module _ (at place : ℕ) (told : Told) (ask : Ask) (s : Client) (apart : eqb place at ≡ false) (behind : eqb at place ≡ false) (is : IsOpenIn at s) where
+module _ (digest : List ℕ → Id) (at place : ℕ) (told : Told) (ask : Ask) (s : ClientState) (apart : eqb place at ≡ false) (behind : eqb at place ≡ false) (is : IsOpenIn at s) where
   -- both orders find the client within its group
-  asked_so : asked place ask s ≡ placed place s
-  asked_so = ap (placed place) (begun_stays ask s.sent s is.index (waiting_at at) is.waits)
+  asked_so : asked digest place ask s ≡ placed place s
+  asked_so = ap (placed place) (begun_stays digest ask s.sent s is.index (waiting_at at) is.waits)
 
   told_there : slice_get (recorded at told s).sent is.index ≡ Some (told_at at told (waiting_at at))
   told_there = slice_get-map (told_at at told) s.sent is.index ∙ ap (option_map (told_at at told)) is.waits
 
-  asked_after : asked place ask (served at told s) ≡ placed place (recorded at told s)
+  asked_after : asked digest place ask (served digest at told s) ≡ placed place (recorded at told s)
   asked_after =
-      ap (asked place ask) (open_recorded at told s is)
-      ∙ ap (placed place) (begun_stays ask (recorded at told s).sent (recorded at told s) is.index (told_at at told (waiting_at at)) told_there)
+      ap (asked digest place ask) (open_recorded digest at told s is)
+      ∙ ap (placed place) (begun_stays digest ask (recorded at told s).sent (recorded at told s) is.index (told_at at told (waiting_at at)) told_there)
 
   still_held : has_place at (placed place s).sent ≡ true
   still_held = held at (placed place s).sent is.index (sent_stays s.sent (waiting_at place) is.index (waiting_at at) is.waits)
 
-  newest_waits : (t : Client) → slice_get (placed place t).sent (length t.sent) ≡ Some (waiting_at place)
+  newest_waits : (t : ClientState) → slice_get (placed place t).sent (length t.sent) ≡ Some (waiting_at place)
   newest_waits t = last_sent t.sent (waiting_at place)
 
-  over_asked : served at told (asked place ask s) ≡ asked place ask (served at told s)
+  over_asked : served digest at told (asked digest place ask s) ≡ asked digest place ask (served digest at told s)
   over_asked =
-      ap (served at told) asked_so
-      ∙ served_within at told (placed place s) still_held
+      ap (served digest at told) asked_so
+      ∙ served_within digest at told (placed place s) still_held
       (not_complete place (recorded at told (placed place s)) (length s.sent) (sent_recorded at place told (placed place s).sent (length s.sent) apart (newest_waits s)))
       ∙ recorded_placed at place told s apart
       ∙ sym asked_after
 
-  over_served : (answer : Told) → served at told (served place answer (asked place ask s)) ≡ served place answer (asked place ask (served at told s))
+  over_served : (answer : Told) → served digest at told (served digest place answer (asked digest place ask s)) ≡ served digest place answer (asked digest place ask (served digest at told s))
   over_served answer =
       let waits : slice_get (recorded place answer (placed place s)).sent is.index ≡ Some (waiting_at at) =
       sent_recorded place at answer (placed place s).sent is.index behind (sent_stays s.sent (waiting_at place) is.index (waiting_at at) is.waits) in
-      ap (λ t. served at told (served place answer t)) asked_so
-      ∙ ap (served at told)
-      (served_within place answer (placed place s) (held place (placed place s).sent (length s.sent) (newest_waits s))
+      ap (λ t. served digest at told (served digest place answer t)) asked_so
+      ∙ ap (served digest at told)
+      (served_within digest place answer (placed place s) (held place (placed place s).sent (length s.sent) (newest_waits s))
       (not_complete at (recorded place answer (placed place s)) is.index waits))
-      ∙ served_here at told (recorded place answer (placed place s)) (held at (recorded place answer (placed place s)).sent is.index waits)
-      ∙ ap after_record (recorded_twice at place told answer (placed place s) apart ∙ ap (recorded place answer) (recorded_placed at place told s apart))
-      ∙ sym (served_here place answer (placed place (recorded at told s))
+      ∙ served_here digest at told (recorded place answer (placed place s)) (held at (recorded place answer (placed place s)).sent is.index waits)
+      ∙ ap (after_record digest) (recorded_twice at place told answer (placed place s) apart ∙ ap (recorded place answer) (recorded_placed at place told s apart))
+      ∙ sym (served_here digest place answer (placed place (recorded at told s))
       (held place (placed place (recorded at told s)).sent (length (recorded at told s).sent) (newest_waits (recorded at told s))))
-      ∙ ap (served place answer) (sym asked_after)
+      ∙ ap (served digest place answer) (sym asked_after)
 
   -- the answer may come before the other Ask, whether that is answered or not
-  pub over_one : (answer : Option Told) → served at told (after_answer place (told_pair answer) (asked place ask s))
-      ≡ after_answer place (told_pair answer) (asked place ask (served at told s))
+  pub over_one : (answer : Option Told) → served digest at told (after_answer digest place (told_pair answer) (asked digest place ask s))
+      ≡ after_answer digest place (told_pair answer) (asked digest place ask (served digest at told s))
   over_one None = over_asked
   over_one (Some answer) = over_served (hear answer)

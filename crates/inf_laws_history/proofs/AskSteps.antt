@@ -6,7 +6,7 @@ use Rattle.inf_base.specs.declared.key.Key.{Key}
 use Rattle.inf_duty.specs.After.{client_after}
 use Rattle.inf_duty.specs.Duty.{Duty, asked, begun}
 use Rattle.inf_duty.specs.World.{World}
-use Rattle.inf_flow_dir.specs.Client.{Client}
+use Rattle.inf_flow_dir.specs.Client.{ClientState}
 use Rattle.inf_laws_client.specs.Paths.{KeepsToPath}
 use Rattle.inf_laws_client.specs.Told.{KnowsOnly}
 use Rattle.inf_laws_client.proofs.KnowsFacts.{begun_knows, placed_knows, weaker_knows}
@@ -33,16 +33,16 @@ module _ (world : World) (h : List Event) (number : ℕ) (ask : Ask) (kept : Kep
   stays_true k access is = record { told = is.told; born = born_more (event.Ask number ask) h access.born is.born }
 
   -- a client, but for what it asks
-  record Goes (s : Client) : Type 0 where
+  record Goes (s : ClientState) : Type 0 where
     knows : KnowsOnly TrueNow s
-    path : KeepsToPath s
-    hand : InHand kept.phases s
+    path : KeepsToPath world.digest s
+    hand : InHand world.digest kept.phases s
 
-  goes_asked : (s : Client) → Duty s number ask → Goes s → Goes (asked (suc (length h)) ask s)
+  goes_asked : (s : ClientState) → Duty world.digest s number ask → Goes s → Goes (asked world.digest (suc (length h)) ask s)
   goes_asked s duty goes = record {
-    knows = placed_knows TrueNow (suc (length h)) number ask (begun ask s.sent s) (begun_knows TrueNow ask s goes.knows) duty;
-    path = placed_keeps (suc (length h)) number ask (begun ask s.sent s) (begun_keeps ask s goes.path) duty;
-    hand = placed_in_hand kept.phases (suc (length h)) (begun ask s.sent s) (begun_in_hand kept.phases ask s goes.hand);
+    knows = placed_knows TrueNow (suc (length h)) number ask (begun world.digest ask s.sent s) (begun_knows world.digest TrueNow ask s goes.knows) duty;
+    path = placed_keeps world.digest (suc (length h)) number ask (begun world.digest ask s.sent s) (begun_keeps world.digest ask s goes.path) duty;
+    hand = placed_in_hand world.digest kept.phases (suc (length h)) (begun world.digest ask s.sent s) (begun_in_hand world.digest kept.phases ask s goes.hand);
   }
 
   goes_before : (client : ℕ) → Goes (client_after world client h)
@@ -56,10 +56,10 @@ module _ (world : World) (h : List Event) (number : ℕ) (ask : Ask) (kept : Kep
   goes_now client = by (eqb ask.from.client client) refl
     where
       by : (b : Bool) → eqb ask.from.client client ≡ b
-          → Goes (cond b (asked (suc (length h)) ask (client_after world client h)) (client_after world client h))
+          → Goes (cond b (asked world.digest (suc (length h)) ask (client_after world client h)) (client_after world client h))
       by true same =
           goes_asked (client_after world client h)
-          (subst (λ (c : ℕ). Duty (client_after world c h) number ask) ((Decides-eqb ask.from.client client).0 same) may.duty) (goes_before client)
+          (subst (λ (c : ℕ). Duty world.digest (client_after world c h) number ask) ((Decides-eqb ask.from.client client).0 same) may.duty) (goes_before client)
       by false apart = goes_before client
 
   pub kept_ask : Kept world (event.Ask number ask ∷ h)

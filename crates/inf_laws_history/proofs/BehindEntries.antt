@@ -12,7 +12,7 @@ use Rattle.inf_duty.specs.After.{client_after}
 use Rattle.inf_duty.specs.Outcome.{Outcome}
 use Rattle.inf_duty.specs.World.{World}
 use Rattle.inf_duty.proofs.BegunKept.{if_both}
-use Rattle.inf_flow_dir.specs.Client.{Client, Sent, Stage, act, call_ref, has_place, round, told_at}
+use Rattle.inf_flow_dir.specs.Client.{ClientState, Sent, Stage, act, call_ref, has_place, round, told_at}
 use Rattle.inf_flow_dir.specs.Flow.{Flow, Who, finishes, links, makes, message_of, reserves, seals, unlinks}
 use Rattle.inf_flow_dir.specs.Group.{Course, group, keys_of, next_course}
 use Rattle.inf_flow_dir.specs.Heard.{heard}
@@ -173,17 +173,17 @@ head_asked A m ms place told (y ∷ ys) x asks found =
 no_lookup : (who : Who) (flow : Flow) (k : LookKey) → (message_of who flow).request ≡ request.Lookup k → ⊥
 no_lookup who (finishes chain what) k is = cc
 no_lookup who (reserves chain name mode) k is = cc
-no_lookup who (makes chain name mode version) k is = cc
-no_lookup who (links chain name mode version born) k is = cc
+no_lookup who (makes chain name mode version id) k is = cc
+no_lookup who (links chain name mode version dir) k is = cc
 no_lookup who (seals chain) k is = cc
 no_lookup who (unlinks chain) k is = cc
 
 -- the first lookup of a round is of the root
-first_is_top : (who : Who) (course : Option Course) (keys : List LookKey) → keys_of who course ≡ round keys → (A : ℕ → Request → Type 0) (place : ℕ) (told : Told)
+first_is_top : (digest : List ℕ → Id) (who : Who) (course : Option Course) (keys : List LookKey) → keys_of digest who course ≡ round keys → (A : ℕ → Request → Type 0) (place : ℕ) (told : Told)
     (sent : List Sent) (x : Sent) → AreAskedFor A (group who (round keys)) sent → slice_get (map (told_at place told) sent) 0 ≡ Some x → A x.place (request.Lookup look.Top)
-first_is_top who None keys is A place told sent x asks found = absurd cc
-first_is_top who (Some course) [] is A place told sent x asks found = absurd cc
-first_is_top who (Some course) (k ∷ keys) is A place told sent x asks found =
+first_is_top digest who None keys is A place told sent x asks found = absurd cc
+first_is_top digest who (Some course) [] is A place told sent x asks found = absurd cc
+first_is_top digest who (Some course) (k ∷ keys) is A place told sent x asks found =
     let top : look.Top ≡ k = cc in
     subst (λ j. A x.place (request.Lookup j)) (sym top) (head_asked A _ _ place told sent x asks found)
 
@@ -194,7 +194,7 @@ module _ (world : World) (keeps : (h : List Event) → Legal world h → Kept wo
   abbrev now : List Event
   now = event.Serve number ask_place given ∷ h
 
-  abbrev s : Client
+  abbrev s : ClientState
   s = client_after world client h
 
   abbrev told : Told
@@ -221,8 +221,8 @@ module _ (world : World) (keeps : (h : List Event) → Legal world h → Kept wo
   by_round keys is here =
       weaker_turn (IsToldIn sent_now) (Counts now (call_ref s)) (λ answer place it. by answer place it) _ (busy_round (next_course s.left) sent_now)
     where
-      path : StandsOnPath s.who s.left (round keys) s.sent
-      path = subst (λ (stage : Stage). StandsOnPath s.who s.left stage s.sent) is ((keeps h legal).clients client).path.stands
+      path : StandsOnPath world.digest s.who s.left (round keys) s.sent
+      path = subst (λ (stage : Stage). StandsOnPath world.digest s.who s.left stage s.sent) is ((keeps h legal).clients client).path.stands
 
       asks : AreAskedFor (WasAskedIn now) (group s.who (round keys)) s.sent
       asks = subst (λ (stage : Stage). AreAskedFor (WasAskedIn now) (group s.who stage) s.sent) is asks_now
@@ -230,17 +230,17 @@ module _ (world : World) (keeps : (h : List Event) → Legal world h → Kept wo
       by : (answer : Answer) (place : ℕ) → IsToldIn sent_now answer place → Counts now (call_ref s) answer place
       by answer place (inr behind) = behind_counts now (call_ref s) sent_now (are_served here) answer place next_now behind
       by answer place (inl first) =
-          let top = first_is_top s.who (next_course s.left) keys path.0 (WasAskedIn now) ask_place told s.sent first.busy asks first.first in
+          let top = first_is_top world.digest s.who (next_course s.left) keys path.0 (WasAskedIn now) ask_place told s.sent first.busy asks first.first in
           other_counts now (call_ref s) sent_now (are_served here) answer 0 first.busy (record { serve_place = place; reply = first.given }) first.first first.told
           (λ id name other. (let same = asked_once now first.busy.place (request.Lookup look.Top) (request.Lookup (look.At id name)) top other in cc))
 
-  by_flow : (flow : Flow) → s.stage ≡ act flow → has_place ask_place s.sent ≡ true → TurnOf (Counts now (call_ref s)) (act_turn s.who flow sent_now)
+  by_flow : (flow : Flow) → s.stage ≡ act flow → has_place ask_place s.sent ≡ true → TurnOf (Counts now (call_ref s)) (act_turn world.digest s.who flow sent_now)
   by_flow flow is here = by sent_now refl
     where
       asks : AreAskedFor (WasAskedIn now) (group s.who (act flow)) s.sent
       asks = subst (λ (stage : Stage). AreAskedFor (WasAskedIn now) (group s.who stage) s.sent) is asks_now
 
-      told_counts : (x : Sent) (xs : List Sent) → sent_now ≡ x ∷ xs → (known : Option Told) → x.told ≡ known → TurnOf (Counts now (call_ref s)) (act_turn s.who flow (record { place = x.place; told = known } ∷ xs))
+      told_counts : (x : Sent) (xs : List Sent) → sent_now ≡ x ∷ xs → (known : Option Told) → x.told ≡ known → TurnOf (Counts now (call_ref s)) (act_turn world.digest s.who flow (record { place = x.place; told = known } ∷ xs))
       told_counts x xs same None none = tt
       told_counts x xs same (Some known) some =
           weaker_turn (IsAt known.serve_place) (Counts now (call_ref s))
@@ -250,9 +250,9 @@ module _ (world : World) (keeps : (h : List Event) → Legal world h → Kept wo
           no_lookup s.who flow (look.At id name)
           (asked_once now x.place (message_of s.who flow).request (request.Lookup (look.At id name))
           (head_asked (WasAskedIn now) (message_of s.who flow) [] ask_place told s.sent x asks (ap (λ ys. slice_get ys 0) same)) other))))
-          _ (act_turn_at s.who flow (record { place = x.place; told = Some known } ∷ xs) known refl)
+          _ (act_turn_at world.digest s.who flow (record { place = x.place; told = Some known } ∷ xs) known refl)
 
-      by : (sent : List Sent) → sent_now ≡ sent → TurnOf (Counts now (call_ref s)) (act_turn s.who flow sent)
+      by : (sent : List Sent) → sent_now ≡ sent → TurnOf (Counts now (call_ref s)) (act_turn world.digest s.who flow sent)
       by [] same = tt
       by (x ∷ xs) same = told_counts x xs same x.told refl
 

@@ -1,5 +1,6 @@
 -- What one event does to a client: its cases, what every step keeps, and that only the Asks of a client are waited for.
 use Rattle.std.proofs.Common.{◌≡◌, ℕ, suc, ◌||◌, Bool, true, false, cond, eqb, List, [], ◌∷◌, ◌++◌, length, map, slice_get, Option, Some, None, refl, sym, ap, ap₂, ◌∙◌, subst}
+use Rattle.inf_base.specs.declared.id.Id.{Id}
 use Rattle.std.proofs.lemmas.Bool.Decides.{Decides-eqb}
 use Rattle.inf_base.specs.declared.answer.Answer.{Answer}
 use Rattle.inf_base.specs.declared.answer.Answer.TheVariants as answer
@@ -9,7 +10,7 @@ use Rattle.inf_duty.specs.Duty.{asked, begun, given_up, given_up_in}
 use Rattle.inf_duty.specs.Start.{start, starting, who_in}
 use Rattle.inf_duty.specs.World.{World}
 use Rattle.inf_duty.proofs.BegunKept.{IsKept, if_both, kept_begun}
-use Rattle.inf_flow_dir.specs.Client.{Client, Ending, Sent, Stage, act, answers, begins_again, compose, ended, has_place, retries, round, told_at, winds, wound}
+use Rattle.inf_flow_dir.specs.Client.{ClientState, Ending, Sent, Stage, act, answers, begins_again, compose, ended, has_place, retries, round, told_at, winds, wound}
 use Rattle.inf_flow_dir.specs.Flow.{clean_up}
 use Rattle.inf_flow_dir.specs.Group.{composed}
 use Rattle.inf_flow_dir.specs.Heard.{heard}
@@ -25,89 +26,89 @@ use Rattle.inf_tree.specs.Replay.{Decided}
 
 -- ---- a property that ends, new attempts, clean-ups and new stages keep
 
-pub record Lasts (P : Client → Type 0) : Type 0 where
-  pub composing : (s : Client) → P s → P (composed s)
-  pub ending : (given : Answer) (place : Option ℕ) (s : Client) → P s → P (ended given place s)
-  pub again : (s : Client) → P s → P (begins_again s)
-  pub going_on : (next : Stage) (s : Client) → P s → P (record s { stage = next; sent = [] })
+pub record Lasts (digest : List ℕ → Id) (P : ClientState → Type 0) : Type 0 where
+  pub composing : (s : ClientState) → P s → P (composed digest s)
+  pub ending : (given : Answer) (place : Option ℕ) (s : ClientState) → P s → P (ended given place s)
+  pub again : (s : ClientState) → P s → P (begins_again s)
+  pub going_on : (next : Stage) (s : ClientState) → P s → P (record s { stage = next; sent = [] })
 
-module _ (P : Client → Type 0) (lasts : Lasts P) where
-  pub wound_lasts : (ending : Ending) (more : List Message) (s : Client) → P s → P (wound ending more s)
+module _ (digest : List ℕ → Id) (P : ClientState → Type 0) (lasts : Lasts digest P) where
+  pub wound_lasts : (ending : Ending) (more : List Message) (s : ClientState) → P s → P (wound ending more s)
   wound_lasts (answers given place) [] s now = lasts.ending given place s now
   wound_lasts retries [] s now = lasts.again s now
   wound_lasts ending (m ∷ ms) s now = lasts.going_on (winds ending m ms) s now
 
-  pub turned_lasts : (t : Turn) (s : Client) → P s → P (turned t s)
+  pub turned_lasts : (t : Turn) (s : ClientState) → P s → P (turned t s)
   turned_lasts (goes_on next) s now = lasts.going_on next s now
   turned_lasts (winds_up ending more) s now = wound_lasts ending more s now
 
-  given_up_at : (s : Client) (stage : Stage) → P s → P (given_up_in s stage)
+  given_up_at : (s : ClientState) (stage : Stage) → P s → P (given_up_in s stage)
   given_up_at s (act flow) now = wound_lasts (answers answer.NoMemory None) (clean_up s.who flow) s now
   given_up_at s (winds ending m ms) now = now
   given_up_at s compose now = lasts.ending answer.NoMemory None s now
   given_up_at s (round keys) now = lasts.ending answer.NoMemory None s now
 
-  pub given_up_lasts : (s : Client) → P s → P (given_up s)
+  pub given_up_lasts : (s : ClientState) → P s → P (given_up s)
   given_up_lasts s now = given_up_at s s.stage now
 
-  pub lasts_kept : IsKept P
+  pub lasts_kept : IsKept digest P
   lasts_kept = record { composing = lasts.composing; giving_up = given_up_lasts }
 
-  pub begun_lasts : (ask : Ask) (sent : List Sent) (s : Client) → P s → P (begun ask sent s)
-  begun_lasts ask sent s now = kept_begun P lasts_kept ask sent s now
+  pub begun_lasts : (ask : Ask) (sent : List Sent) (s : ClientState) → P s → P (begun digest ask sent s)
+  begun_lasts ask sent s now = kept_begun digest P lasts_kept ask sent s now
 
 -- ---- the cases of an answer
 
 -- a Serve is not the client's; or its group goes on; or its group is over
-pub by_serve : (P : Client → List Decided → Type 0) (ask_place : ℕ) (told : Told) (s : Client)
+pub by_serve : (digest : List ℕ → Id) (P : ClientState → List Decided → Type 0) (ask_place : ℕ) (told : Told) (s : ClientState)
     → (has_place ask_place s.sent ≡ false → P s [])
     → (has_place ask_place s.sent ≡ true → is_complete (recorded ask_place told s) ≡ false → P (recorded ask_place told s) [])
     → (has_place ask_place s.sent ≡ true → is_complete (recorded ask_place told s) ≡ true
-    → P (turned (turn_at (recorded ask_place told s) s.stage) (recorded ask_place told s)) (decided_at_stage (recorded ask_place told s) s.stage))
-    → P (served ask_place told s) (decided_for ask_place told s)
-by_serve P ask_place told s apart going over = by_place (has_place ask_place s.sent) refl
+    → P (turned (turn_at digest (recorded ask_place told s) s.stage) (recorded ask_place told s)) (decided_at_stage digest (recorded ask_place told s) s.stage))
+    → P (served digest ask_place told s) (decided_for digest ask_place told s)
+by_serve digest P ask_place told s apart going over = by_place (has_place ask_place s.sent) refl
   where
     by_end : has_place ask_place s.sent ≡ true → (b : Bool) → is_complete (recorded ask_place told s) ≡ b
-        → P (settled b (recorded ask_place told s)) (decided_if b (recorded ask_place told s))
+        → P (settled digest b (recorded ask_place told s)) (decided_if digest b (recorded ask_place told s))
     by_end here false e = going here e
     by_end here true e = over here e
 
-    by_place : (b : Bool) → has_place ask_place s.sent ≡ b → P (cond b (after_record (recorded ask_place told s)) s) (decided_when b ask_place told s)
+    by_place : (b : Bool) → has_place ask_place s.sent ≡ b → P (cond b (after_record digest (recorded ask_place told s)) s) (decided_when digest b ask_place told s)
     by_place false e = apart e
     by_place true e = by_end e (is_complete (recorded ask_place told s)) refl
 
 -- the same of the client alone
-pub by_answer : (P : Client → Type 0) (ask_place : ℕ) (told : Told) (s : Client)
+pub by_answer : (digest : List ℕ → Id) (P : ClientState → Type 0) (ask_place : ℕ) (told : Told) (s : ClientState)
     → (has_place ask_place s.sent ≡ false → P s)
     → (has_place ask_place s.sent ≡ true → is_complete (recorded ask_place told s) ≡ false → P (recorded ask_place told s))
-    → (has_place ask_place s.sent ≡ true → is_complete (recorded ask_place told s) ≡ true → P (turned (turn_at (recorded ask_place told s) s.stage) (recorded ask_place told s)))
-    → P (served ask_place told s)
-by_answer P ask_place told s apart going over = by_serve (λ t made. P t) ask_place told s apart going over
+    → (has_place ask_place s.sent ≡ true → is_complete (recorded ask_place told s) ≡ true → P (turned (turn_at digest (recorded ask_place told s) s.stage) (recorded ask_place told s)))
+    → P (served digest ask_place told s)
+by_answer digest P ask_place told s apart going over = by_serve digest (λ t made. P t) ask_place told s apart going over
 
-pub served_apart : (ask_place : ℕ) (told : Told) (s : Client) → has_place ask_place s.sent ≡ false → served ask_place told s ≡ s
-served_apart ask_place told s apart = ap (λ b. cond b (after_record (recorded ask_place told s)) s) apart
+pub served_apart : (digest : List ℕ → Id) (ask_place : ℕ) (told : Told) (s : ClientState) → has_place ask_place s.sent ≡ false → served digest ask_place told s ≡ s
+served_apart digest ask_place told s apart = ap (λ b. cond b (after_record digest (recorded ask_place told s)) s) apart
 
-pub served_within : (ask_place : ℕ) (told : Told) (s : Client) → has_place ask_place s.sent ≡ true → is_complete (recorded ask_place told s) ≡ false
-    → served ask_place told s ≡ recorded ask_place told s
-served_within ask_place told s here going =
-    ap (λ b. cond b (after_record (recorded ask_place told s)) s) here ∙ ap (λ b. settled b (recorded ask_place told s)) going
+pub served_within : (digest : List ℕ → Id) (ask_place : ℕ) (told : Told) (s : ClientState) → has_place ask_place s.sent ≡ true → is_complete (recorded ask_place told s) ≡ false
+    → served digest ask_place told s ≡ recorded ask_place told s
+served_within digest ask_place told s here going =
+    ap (λ b. cond b (after_record digest (recorded ask_place told s)) s) here ∙ ap (λ b. settled digest b (recorded ask_place told s)) going
 
 -- ---- a property that answers and Asks keep as well
 
-module _ (P : Client → Type 0) (lasts : Lasts P) (recording : (place : ℕ) (told : Told) (s : Client) → P s → P (recorded place told s)) where
-  pub served_lasts : (place : ℕ) (told : Told) (s : Client) → P s → P (served place told s)
+module _ (digest : List ℕ → Id) (P : ClientState → Type 0) (lasts : Lasts digest P) (recording : (place : ℕ) (told : Told) (s : ClientState) → P s → P (recorded place told s)) where
+  pub served_lasts : (place : ℕ) (told : Told) (s : ClientState) → P s → P (served digest place told s)
   served_lasts place told s now =
-      by_answer P place told s
+      by_answer digest P place told s
       (λ apart. now)
       (λ here going. recording place told s now)
-      (λ here over. turned_lasts P lasts (turn_at (recorded place told s) s.stage) (recorded place told s) (recording place told s now))
+      (λ here over. turned_lasts digest P lasts (turn_at digest (recorded place told s) s.stage) (recorded place told s) (recording place told s now))
 
 -- ---- whom a client calls for
 
-abbrev IsWho : World → ℕ → Client → Type 0
+abbrev IsWho : World → ℕ → ClientState → Type 0
 IsWho world client s = s.who ≡ who_in world client s.who.caller
 
-who_lasts : (world : World) (client : ℕ) → Lasts (IsWho world client)
+who_lasts : (world : World) (client : ℕ) → Lasts world.digest (IsWho world client)
 who_lasts world client = record {
   composing = λ s is. is;
   ending = λ given place s is. is;
@@ -123,10 +124,10 @@ pub who_after : (world : World) (h : List Event) (client : ℕ) → (client_afte
 who_after world [] client = starting_who world client (slice_get world.setup.clients client)
 who_after world (event.Ask number ask ∷ h) client =
     if_both (IsWho world client) (eqb ask.from.client client) _ _
-    (begun_lasts (IsWho world client) (who_lasts world client) ask (client_after world client h).sent (client_after world client h) (who_after world h client))
+    (begun_lasts world.digest (IsWho world client) (who_lasts world client) ask (client_after world client h).sent (client_after world client h) (who_after world h client))
     (who_after world h client)
 who_after world (event.Serve number ask_place given ∷ h) client =
-    served_lasts (IsWho world client) (who_lasts world client) (λ place told s is. is) ask_place (told_reply (suc (length h)) (heard given))
+    served_lasts world.digest (IsWho world client) (who_lasts world client) (λ place told s is. is) ask_place (told_reply (suc (length h)) (heard given))
     (client_after world client h) (who_after world h client)
 
 -- ---- the Asks that a client waits for are its own
@@ -143,11 +144,11 @@ asked_by_stays client place e h is = record {
   by_client = is.by_client;
 }
 
-abbrev WaitsBy : ℕ → Type 0 → Client → Type 0
+abbrev WaitsBy : ℕ → Type 0 → ClientState → Type 0
 WaitsBy place P s = has_place place s.sent ≡ true → P
 
-waits_last : (place : ℕ) (P : Type 0) → Lasts (WaitsBy place P)
-waits_last place P = record {
+waits_last : (digest : List ℕ → Id) (place : ℕ) (P : Type 0) → Lasts digest (WaitsBy place P)
+waits_last digest place P = record {
   composing = λ s waits. waits;
   ending = λ given at s waits here. absurd cc;
   again = λ s waits here. absurd cc;
@@ -178,11 +179,11 @@ newly_waits place at (x ∷ sent) before now here =
     by_first (eqb x.place at) (has_place at sent) (has_place at (sent ++ record { place = place; told = None } ∷ [])) before
     (λ rest. newly_waits place at sent rest now) here
 
-asked_waits : (client place number : ℕ) (ask : Ask) (h : List Event) (s : Client) → WaitsBy place (IsAskedBy client place (event.Ask number ask ∷ h)) s
-    → eqb ask.from.client client ≡ true → WaitsBy place (IsAskedBy client place (event.Ask number ask ∷ h)) (asked (suc (length h)) ask s)
-asked_waits client place number ask h s before own =
-    newly_waits (suc (length h)) place (begun ask s.sent s).sent
-    (begun_lasts (WaitsBy place (IsAskedBy client place (event.Ask number ask ∷ h))) (waits_last place _) ask s.sent s before)
+asked_waits : (digest : List ℕ → Id) (client place number : ℕ) (ask : Ask) (h : List Event) (s : ClientState) → WaitsBy place (IsAskedBy client place (event.Ask number ask ∷ h)) s
+    → eqb ask.from.client client ≡ true → WaitsBy place (IsAskedBy client place (event.Ask number ask ∷ h)) (asked digest (suc (length h)) ask s)
+asked_waits digest client place number ask h s before own =
+    newly_waits (suc (length h)) place (begun digest ask s.sent s).sent
+    (begun_lasts digest (WaitsBy place (IsAskedBy client place (event.Ask number ask ∷ h))) (waits_last digest place _) ask s.sent s before)
     (λ same. record {
       posted = posted_ask number ask;
       asked = subst (λ p. asked_at p (event.Ask number ask ∷ h) ≡ Some (posted_ask number ask)) same (asked_newest number ask h);
@@ -201,12 +202,12 @@ waits_for_own world client place (event.Ask number ask ∷ h) here =
     by_client (λ before. asked_by_stays client place _ h (waits_for_own world client place h before)) (eqb ask.from.client client) refl here
   where
     by_client : WaitsBy place (IsAskedBy client place (event.Ask number ask ∷ h)) (client_after world client h) → (b : Bool) → eqb ask.from.client client ≡ b
-        → has_place place (cond b (asked (suc (length h)) ask (client_after world client h)) (client_after world client h)).sent ≡ true
+        → has_place place (cond b (asked world.digest (suc (length h)) ask (client_after world client h)) (client_after world client h)).sent ≡ true
         → IsAskedBy client place (event.Ask number ask ∷ h)
-    by_client before true own there = asked_waits client place number ask h (client_after world client h) before own there
+    by_client before true own there = asked_waits world.digest client place number ask h (client_after world client h) before own there
     by_client before false own there = before there
 waits_for_own world client place (event.Serve number ask_place given ∷ h) here =
-    served_lasts (WaitsBy place (IsAskedBy client place (event.Serve number ask_place given ∷ h))) (waits_last place _)
+    served_lasts world.digest (WaitsBy place (IsAskedBy client place (event.Serve number ask_place given ∷ h))) (waits_last world.digest place _)
     (λ at told s waits there. waits (sym (has_place_stays place at told s.sent) ∙ there))
     ask_place (told_reply (suc (length h)) (heard given)) (client_after world client h)
     (λ before. asked_by_stays client place _ h (waits_for_own world client place h before)) here

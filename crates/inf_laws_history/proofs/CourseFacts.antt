@@ -3,13 +3,14 @@
 use Rattle.std.proofs.Common.{suc, ap, ◌≡◌, ℕ, ◌==◌, Bool, true, false, List, [], ◌∷◌, length, slice_get, Option, Some, None, is_some, refl}
 use Rattle.inf_base.specs.declared.answer.Answer.TheVariants as answer
 use Rattle.inf_base.specs.declared.call.Call.{Call}
+use Rattle.inf_base.specs.declared.id.Id.{Id}
 use Rattle.inf_base.specs.declared.setup.ClientLine.{ClientLine}
 use Rattle.inf_message.specs.declared.ask.Ask.{Ask}
 use Rattle.inf_message.specs.declared.event.Event.{Event}
 use Rattle.inf_message.specs.declared.event.Event.TheVariants as event
 use Rattle.inf_message.specs.declared.step.Message.{Message}
 use Rattle.inf_message.specs.History.{Told, told_reply}
-use Rattle.inf_flow_dir.specs.Client.{Client, Ending, Sent, Stage, act, answers, compose, has_place, retries, round, winds, wound}
+use Rattle.inf_flow_dir.specs.Client.{ClientState, Ending, Sent, Stage, act, answers, compose, has_place, retries, round, winds, wound}
 use Rattle.inf_flow_dir.specs.Flow.{Who, clean_up}
 use Rattle.inf_flow_dir.specs.Group.{Course, composed, composed_stage, keys_of, next_course}
 use Rattle.inf_flow_dir.specs.Heard.{heard}
@@ -27,14 +28,14 @@ StageHasCourse calls (round keys) = Unit {0}
 StageHasCourse calls (act flow) = is_some (next_course calls) ≡ true
 StageHasCourse calls (winds ending m ms) = Unit {0}
 
-pub record HasCourse (s : Client) : Type 0 where
+pub record HasCourse (s : ClientState) : Type 0 where
   pub course : StageHasCourse s.left s.stage
 
 abbrev TurnHasCourse : List Call → Turn → Type 0
 TurnHasCourse calls (goes_on next) = StageHasCourse calls next
 TurnHasCourse calls (winds_up ending more) = Unit {0}
 
-wound_course : (ending : Ending) (more : List Message) (s : Client) → HasCourse (wound ending more s)
+wound_course : (ending : Ending) (more : List Message) (s : ClientState) → HasCourse (wound ending more s)
 wound_course (answers given place) [] s = record { course = tt }
 wound_course retries [] s = record { course = tt }
 wound_course (answers given place) (m ∷ ms) s = record { course = tt }
@@ -54,50 +55,50 @@ round_course : (calls : List Call) (sent : List Sent) (found : Option Course) �
 round_course calls sent None is = tt
 round_course calls sent (Some course) is = any_turn calls (after_round (Some course) sent) (ap is_some is)
 
-turn_course : (s : Client) (stage : Stage) → StageHasCourse s.left stage → TurnHasCourse s.left (turn_at s stage)
-turn_course s compose has = tt
-turn_course s (round keys) has = round_course s.left s.sent (next_course s.left) refl
-turn_course s (act flow) has = any_turn s.left (turn_at s (act flow)) has
-turn_course s (winds ending m ms) has = tt
+turn_course : (digest : List ℕ → Id) (s : ClientState) (stage : Stage) → StageHasCourse s.left stage → TurnHasCourse s.left (turn_at digest s stage)
+turn_course digest s compose has = tt
+turn_course digest s (round keys) has = round_course s.left s.sent (next_course s.left) refl
+turn_course digest s (act flow) has = any_turn s.left (turn_at digest s (act flow)) has
+turn_course digest s (winds ending m ms) has = tt
 
-turned_course : (t : Turn) (s : Client) → TurnHasCourse s.left t → HasCourse (turned t s)
+turned_course : (t : Turn) (s : ClientState) → TurnHasCourse s.left t → HasCourse (turned t s)
 turned_course (goes_on next) s has = record { course = has }
 turned_course (winds_up ending more) s has = wound_course ending more s
 
-keys_course : (calls : List Call) (who : Who) (found : Option Course) → StageHasCourse calls (keys_of who found)
-keys_course calls who None = tt
-keys_course calls who (Some course) = tt
+keys_course : (digest : List ℕ → Id) (calls : List Call) (who : Who) (found : Option Course) → StageHasCourse calls (keys_of digest who found)
+keys_course digest calls who None = tt
+keys_course digest calls who (Some course) = tt
 
-composed_at : (s : Client) (stage : Stage) → StageHasCourse s.left stage → StageHasCourse s.left (composed_stage s stage)
-composed_at s compose has = keys_course s.left s.who (next_course s.left)
-composed_at s (round keys) has = has
-composed_at s (act flow) has = has
-composed_at s (winds ending m ms) has = has
+composed_at : (digest : List ℕ → Id) (s : ClientState) (stage : Stage) → StageHasCourse s.left stage → StageHasCourse s.left (composed_stage digest s stage)
+composed_at digest s compose has = keys_course digest s.left s.who (next_course s.left)
+composed_at digest s (round keys) has = has
+composed_at digest s (act flow) has = has
+composed_at digest s (winds ending m ms) has = has
 
-composed_course : (s : Client) → HasCourse s → HasCourse (composed s)
-composed_course s has = record { course = composed_at s s.stage has.course }
+composed_course : (digest : List ℕ → Id) (s : ClientState) → HasCourse s → HasCourse (composed digest s)
+composed_course digest s has = record { course = composed_at digest s s.stage has.course }
 
-given_up_at : (s : Client) (stage : Stage) → HasCourse s → HasCourse (given_up_in s stage)
+given_up_at : (s : ClientState) (stage : Stage) → HasCourse s → HasCourse (given_up_in s stage)
 given_up_at s (act flow) has = wound_course (answers answer.NoMemory None) (clean_up s.who flow) s
 given_up_at s (winds ending m ms) has = has
 given_up_at s compose has = record { course = tt }
 given_up_at s (round keys) has = record { course = tt }
 
-given_up_course : (s : Client) → HasCourse s → HasCourse (given_up s)
+given_up_course : (s : ClientState) → HasCourse s → HasCourse (given_up s)
 given_up_course s has = given_up_at s s.stage has
 
-begun_course : (ask : Ask) (sent : List Sent) (s : Client) → HasCourse s → HasCourse (begun ask sent s)
-begun_course ask sent s has = kept_begun HasCourse (record { composing = composed_course; giving_up = given_up_course }) ask sent s has
+begun_course : (digest : List ℕ → Id) (ask : Ask) (sent : List Sent) (s : ClientState) → HasCourse s → HasCourse (begun digest ask sent s)
+begun_course digest ask sent s has = kept_begun digest HasCourse (record { composing = composed_course digest; giving_up = given_up_course }) ask sent s has
 
-settled_course : (b : Bool) (s : Client) → HasCourse s → HasCourse (settled b s)
-settled_course true s has = turned_course (turn_at s s.stage) s (turn_course s s.stage has.course)
-settled_course false s has = has
+settled_course : (digest : List ℕ → Id) (b : Bool) (s : ClientState) → HasCourse s → HasCourse (settled digest b s)
+settled_course digest true s has = turned_course (turn_at digest s s.stage) s (turn_course digest s s.stage has.course)
+settled_course digest false s has = has
 
-served_course : (place : ℕ) (told : Told) (s : Client) → HasCourse s → HasCourse (served place told s)
-served_course place told s has =
+served_course : (digest : List ℕ → Id) (place : ℕ) (told : Told) (s : ClientState) → HasCourse s → HasCourse (served digest place told s)
+served_course digest place told s has =
     let here : HasCourse (recorded place told s) = record { course = has.course } in
-    if_both HasCourse (has_place place s.sent) (after_record (recorded place told s)) s
-    (settled_course (is_complete (recorded place told s)) (recorded place told s) here) has
+    if_both HasCourse (has_place place s.sent) (after_record digest (recorded place told s)) s
+    (settled_course digest (is_complete (recorded place told s)) (recorded place told s) here) has
 
 starting_course : (world : World) (client : ℕ) (line : Option ClientLine) → HasCourse (starting world client line)
 starting_course world client None = record { course = tt }
@@ -107,6 +108,6 @@ pub has_course : (world : World) (client : ℕ) (h : List Event) → HasCourse (
 has_course world client [] = starting_course world client (slice_get world.setup.clients client)
 has_course world client (event.Ask number ask ∷ h) =
     let before = has_course world client h in
-    if_both HasCourse (ask.from.client == client) _ _ (record { course = (begun_course ask (client_after world client h).sent (client_after world client h) before).course }) before
+    if_both HasCourse (ask.from.client == client) _ _ (record { course = (begun_course world.digest ask (client_after world client h).sent (client_after world client h) before).course }) before
 has_course world client (event.Serve number ask_place given ∷ h) =
-    served_course ask_place (told_reply (suc (length h)) (heard given)) (client_after world client h) (has_course world client h)
+    served_course world.digest ask_place (told_reply (suc (length h)) (heard given)) (client_after world client h) (has_course world client h)

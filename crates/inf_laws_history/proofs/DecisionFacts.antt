@@ -9,11 +9,12 @@ use Rattle.inf_base.specs.declared.caller.Caller.{Caller}
 use Rattle.inf_base.specs.declared.entry.Entry.{Entry}
 use Rattle.inf_base.specs.declared.errno.Errno.{Errno}
 use Rattle.inf_base.specs.declared.file.FileMeta.{FileMeta}
+use Rattle.inf_base.specs.declared.id.Id.{Id}
 use Rattle.inf_base.specs.declared.item.Kind.{Kind}
 use Rattle.inf_base.specs.declared.key.Key.{Key}
 use Rattle.inf_base.specs.declared.triple.Triple.{Triple}
 use Rattle.inf_base.specs.Same.{dir_of}
-use Rattle.inf_flow_dir.specs.Client.{Client, Sent, answers, retries}
+use Rattle.inf_flow_dir.specs.Client.{ClientState, Sent, answers, retries}
 use Rattle.inf_flow_dir.specs.Flow.{Flow, birth_of, finishes, links, makes, message_of, reserves, seals, unlinks}
 use Rattle.inf_flow_dir.specs.Group.{Course}
 use Rattle.inf_flow_dir.specs.Heard.{heard}
@@ -78,16 +79,16 @@ comes_told m caller asked kind meta is = record {
 
 -- ---- calls that are given up
 
-none_given_up : (s : Client) (calls : List Call) (given : Answer) → is_of_tree given ≡ false → of_tree (decided_call s calls given) ≡ []
+none_given_up : (s : ClientState) (calls : List Call) (given : Answer) → is_of_tree given ≡ false → of_tree (decided_call s calls given) ≡ []
 none_given_up s [] given is = refl
 none_given_up s (asked ∷ calls) given is = rw is refl
 
 -- ---- after a round
 
-abbrev Undecided : Client → Turn → Type 0
+abbrev Undecided : ClientState → Turn → Type 0
 Undecided s t = decided_by_turn s t ≡ []
 
-undecided_if : (s : Client) (b : Bool) (first second : Turn) → Undecided s first → Undecided s second → Undecided s (if b then first else second)
+undecided_if : (s : ClientState) (b : Bool) (first second : Turn) → Undecided s first → Undecided s second → Undecided s (if b then first else second)
 undecided_if s true first second one other = one
 undecided_if s false first second one other = other
 
@@ -109,7 +110,7 @@ next_busy : (before : Entry) (told : Option Told) → BusyOnly (next_entry befor
 next_busy before None = tt
 next_busy before (Some told) = next_told before told.serve_place told.reply
 
-module _ (s : Client) (course : Course) where
+module _ (s : ClientState) (course : Course) where
   by_next_undecided : (chain : List Entry) (name : List ℕ) (names : List (List ℕ)) (go : Entry → Turn) (next : Next) → BusyOnly next
       → ((e : Entry) → Undecided s (go e)) → Undecided s (by_next course chain name names go next)
   by_next_undecided chain name names go (steps e) is goes = goes e
@@ -136,14 +137,14 @@ module _ (s : Client) (course : Course) where
       undecided_if s _ (winds_up (answers answer.NoMemory None) []) (from_root course xs told told.reply) refl (root_undecided xs told told.reply)
 
 -- a round decides nothing
-pub round_undecided : (s : Client) (found : Option Course) (sent : List Sent) → decided_by_turn s (after_round found sent) ≡ []
+pub round_undecided : (s : ClientState) (found : Option Course) (sent : List Sent) → decided_by_turn s (after_round found sent) ≡ []
 round_undecided s None sent = refl
 round_undecided s (Some course) [] = refl
 round_undecided s (Some course) (x ∷ xs) = first_undecided s course x.place x.told xs
 
 -- ---- after a message of a flow
 
-module _ (m : Moment) (s : Client) (asked : Call) (calls : List Call) (left : s.left ≡ asked ∷ calls) where
+module _ (digest : List ℕ → Id) (m : Moment) (s : ClientState) (asked : Call) (calls : List Call) (left : s.left ≡ asked ∷ calls) where
   abbrev ComesTo : Turn → Type 0
   ComesTo t = Comes m (decided_by_turn s t)
 
@@ -173,15 +174,15 @@ module _ (m : Moment) (s : Client) (asked : Call) (calls : List Call) (left : s.
 
   -- what is owed for the message is what comes of it
   pub act_comes : (flow : Flow) (ask_place place : ℕ) (given : Reply) → Owes m s.who.caller asked (message_of s.who flow).request given
-      → Comes m (decided_by_turn s (after_act s.who flow ask_place place (heard given)))
+      → Comes m (decided_by_turn s (after_act digest s.who flow ask_place place (heard given)))
   act_comes (finishes chain (op.Create name mode)) ask_place place reply.Fine owes = one_comes answer.Done refl (comes_done m s.who.caller asked owes)
   act_comes (finishes chain (op.Stat name)) ask_place place (reply.Stat kind meta) owes =
       one_comes (answer.Stat kind meta) refl (comes_told m s.who.caller asked kind meta owes)
   act_comes (reserves chain name mode) ask_place place (reply.Reserved version) owes = comes_on m owes
-  act_comes (makes chain name mode version) ask_place place reply.Fine owes = comes_on m owes
-  act_comes (makes chain name mode version) ask_place place given owes =
-      make_comes (makes chain name mode version) (birth_of s.who chain name version) place given owes
-  act_comes (links chain name mode version born) ask_place place reply.Fine owes = one_comes answer.Done refl (comes_done m s.who.caller asked owes)
+  act_comes (makes chain name mode version id) ask_place place reply.Fine owes = comes_on m owes
+  act_comes (makes chain name mode version id) ask_place place given owes =
+      make_comes (makes chain name mode version id) (birth_of s.who chain name version) place given owes
+  act_comes (links chain name mode version dir) ask_place place reply.Fine owes = one_comes answer.Done refl (comes_done m s.who.caller asked owes)
   act_comes (seals chain) ask_place place reply.Fine owes = comes_on m owes
   act_comes (unlinks chain) ask_place place reply.Fine owes = one_comes answer.Done refl (comes_done m s.who.caller asked owes)
   act_comes flow ask_place place given owes = fails_comes flow place given owes

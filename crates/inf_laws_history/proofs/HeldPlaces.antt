@@ -1,5 +1,6 @@
 -- The places that a client holds: those of its results, and of the answers that its present group was told.
 use Rattle.std.proofs.Common.{◌≡◌, ◌≢◌, ℕ, ◌+◌, ◌≤◌, ◌||◌, Bool, true, false, cond, eqb, List, [], ◌∷◌, ◌++◌, length, map, filter, Option, None, Some, refl, sym, ap, ap₂, subst, ◌∙◌, ⊎_elim, arith, length-append}
+use Rattle.inf_base.specs.declared.id.Id.{Id}
 use Rattle.std.proofs.lemmas.List.Elements.{filter-append}
 use Rattle.inf_base.specs.declared.answer.Answer.{Answer}
 use Rattle.inf_base.specs.declared.answer.Answer.TheVariants as answer
@@ -9,7 +10,7 @@ use Rattle.inf_duty.specs.Duty.{asked, begun, given_up_in}
 use Rattle.inf_duty.specs.Outcome.{Agrees, all_given_up, is_place, results_of, so_far, stands_at, unanswered}
 use Rattle.inf_duty.specs.Start.{starting}
 use Rattle.inf_duty.specs.World.{World}
-use Rattle.inf_flow_dir.specs.Client.{Client, Ending, Sent, Stage, act, answers, compose, ended, one_if, result_of, retries, round, told_at, winds, wound}
+use Rattle.inf_flow_dir.specs.Client.{ClientState, Ending, Sent, Stage, act, answers, compose, ended, one_if, result_of, retries, round, told_at, winds, wound}
 use Rattle.inf_flow_dir.specs.Flow.{Who, clean_up}
 use Rattle.inf_flow_dir.specs.Group.{Course, composed_stage, keys_of, next_course}
 use Rattle.inf_flow_dir.specs.Turn.{Turn, act_turn, after_round, goes_on, recorded, served, turn_at, turned, winds_up}
@@ -37,7 +38,7 @@ stage_count place (winds ending m ms) = ending_count place ending
 stage_count place other_stage = 0
 
 -- how often a client holds a place: by calls that ended, by the one that winds up, or by its present group
-abbrev pub held_at : ℕ → Client → ℕ
+abbrev pub held_at : ℕ → ClientState → ℕ
 held_at place s = count_at place s.results + stage_count place s.stage + one_if (told_there place s.sent)
 
 pub count_both : (place : ℕ) (first second : List CallResult) → count_at place (first ++ second) ≡ count_at place first + count_at place second
@@ -50,15 +51,15 @@ count_one place result = by_test (stands_at place result)
     by_test true = refl
     by_test false = refl
 
-module _ (place : ℕ) where
-  ended_count : (given : Answer) (at : Option ℕ) (s : Client) → count_at place (ended given at s).results ≡ count_at place s.results + one_if (is_place place at)
+module _ (digest : List ℕ → Id) (place : ℕ) where
+  ended_count : (given : Answer) (at : Option ℕ) (s : ClientState) → count_at place (ended given at s).results ≡ count_at place s.results + one_if (is_place place at)
   ended_count given at s =
       let new : CallResult = result_of given at s.counts.last s in
       count_both place s.results (new ∷ []) ∙ ap (λ n. count_at place s.results + n) (count_one place new)
 
   -- ---- after a group
 
-  wound_holds : (ending : Ending) (more : List Message) (s : Client) → held_at place (wound ending more s) ≡ count_at place s.results + ending_count place ending
+  wound_holds : (ending : Ending) (more : List Message) (s : ClientState) → held_at place (wound ending more s) ≡ count_at place s.results + ending_count place ending
   wound_holds (answers given at) [] s = omega (arith, ended_count given at s)
   wound_holds retries [] s = omega arith
   wound_holds (answers given at) (m ∷ ms) s = omega arith
@@ -74,7 +75,7 @@ module _ (place : ℕ) where
           let here : told_there place sent ≡ true = subst (λ p. told_there p sent ≡ true) (sym same) there in
           omega (arith, ap one_if here)
 
-  turned_holds : (turn : Turn) (s : Client) → TurnOf (IsThere s.sent) turn → held_at place (turned turn s) ≤ count_at place s.results + one_if (told_there place s.sent)
+  turned_holds : (turn : Turn) (s : ClientState) → TurnOf (IsThere s.sent) turn → held_at place (turned turn s) ≤ count_at place s.results + one_if (told_there place s.sent)
   turned_holds (goes_on (act flow)) s is = omega arith
   turned_holds (goes_on other_stage) s is = absurd is
   turned_holds (winds_up (answers given (Some at)) more) s is =
@@ -82,42 +83,42 @@ module _ (place : ℕ) where
   turned_holds (winds_up (answers given None) more) s is = omega (arith, wound_holds (answers given None) more s)
   turned_holds (winds_up retries more) s is = omega (arith, wound_holds retries more s)
 
-  stage_holds : (stage : Stage) (s : Client) → held_at place (turned (turn_at s stage) s) ≤ count_at place s.results + stage_count place stage + one_if (told_there place s.sent)
+  stage_holds : (stage : Stage) (s : ClientState) → held_at place (turned (turn_at digest s stage) s) ≤ count_at place s.results + stage_count place stage + one_if (told_there place s.sent)
   stage_holds compose s = omega arith
   stage_holds (round keys) s =
-      let fewer : held_at place (turned (turn_at s (round keys)) s) ≤ count_at place s.results + one_if (told_there place s.sent) =
+      let fewer : held_at place (turned (turn_at digest s (round keys)) s) ≤ count_at place s.results + one_if (told_there place s.sent) =
       turned_holds (after_round (next_course s.left) s.sent) s
       (weaker_turn (IsOfRound s.sent) (IsThere s.sent) (λ given at is. is.there) _ (round_turn_is (next_course s.left) s.sent))
       in
       omega (arith, fewer)
   stage_holds (act flow) s =
-      let fewer : held_at place (turned (turn_at s (act flow)) s) ≤ count_at place s.results + one_if (told_there place s.sent) =
-      turned_holds (act_turn s.who flow s.sent) s (act_turn_there s.who flow s.sent)
+      let fewer : held_at place (turned (turn_at digest s (act flow)) s) ≤ count_at place s.results + one_if (told_there place s.sent) =
+      turned_holds (act_turn digest s.who flow s.sent) s (act_turn_there digest s.who flow s.sent)
       in
       omega (arith, fewer)
   stage_holds (winds ending m ms) s =
-      let same : held_at place (turned (turn_at s (winds ending m ms)) s) ≡ count_at place s.results + ending_count place ending = wound_holds ending ms s in
+      let same : held_at place (turned (turn_at digest s (winds ending m ms)) s) ≡ count_at place s.results + ending_count place ending = wound_holds ending ms s in
       omega (arith, same)
 
   -- ---- before a group
 
-  keys_count : (who : Who) (course : Option Course) → stage_count place (keys_of who course) ≡ 0
+  keys_count : (who : Who) (course : Option Course) → stage_count place (keys_of digest who course) ≡ 0
   keys_count who None = refl
   keys_count who (Some course) = refl
 
-  composed_count : (stage : Stage) (s : Client) → stage_count place (composed_stage s stage) ≡ stage_count place stage
+  composed_count : (stage : Stage) (s : ClientState) → stage_count place (composed_stage digest s stage) ≡ stage_count place stage
   composed_count compose s = keys_count s.who (next_course s.left)
   composed_count (round keys) s = refl
   composed_count (act flow) s = refl
   composed_count (winds ending m ms) s = refl
 
-  given_up_holds : (stage : Stage) (s : Client) → held_at place (given_up_in s stage) ≤ held_at place s
+  given_up_holds : (stage : Stage) (s : ClientState) → held_at place (given_up_in s stage) ≤ held_at place s
   given_up_holds (act flow) s = omega (arith, wound_holds (answers answer.NoMemory None) (clean_up s.who flow) s)
   given_up_holds (winds ending m ms) s = omega arith
   given_up_holds compose s = omega (arith, ended_count answer.NoMemory None s)
   given_up_holds (round keys) s = omega (arith, ended_count answer.NoMemory None s)
 
-  less_kept : (most : ℕ) → IsKept (λ s. held_at place s ≤ most)
+  less_kept : (most : ℕ) → IsKept digest (λ s. held_at place s ≤ most)
   less_kept most = record {
     composing = λ s few. omega (arith, few, composed_count s.stage s);
     giving_up = λ s few. omega (arith, few, given_up_holds s.stage s);
@@ -128,38 +129,38 @@ module _ (place : ℕ) where
   none_more at (x ∷ sent) = ap (λ b. serve_is place x.told || b) (none_more at sent)
 
   -- an Ask makes a client hold no more
-  pub asked_holds : (at : ℕ) (ask : Ask) (s : Client) → held_at place (asked at ask s) ≤ held_at place s
+  pub asked_holds : (at : ℕ) (ask : Ask) (s : ClientState) → held_at place (asked digest at ask s) ≤ held_at place s
   asked_holds at ask s =
-      let now : Client = begun ask s.sent s in
-      let few : held_at place now ≤ held_at place s = kept_begun (λ t. held_at place t ≤ held_at place s) (less_kept _) ask s.sent s (omega arith) in
+      let now : ClientState = begun digest ask s.sent s in
+      let few : held_at place now ≤ held_at place s = kept_begun digest (λ t. held_at place t ≤ held_at place s) (less_kept _) ask s.sent s (omega arith) in
       let same : one_if (told_there place (now.sent ++ record { place = at; told = None } ∷ [])) ≡ one_if (told_there place now.sent) = ap one_if (none_more at now.sent) in
       omega (arith, few, same)
 
   -- ---- what the results show
 
-  so_far_count : (stage : Stage) (s : Client) → count_at place (so_far stage s ∷ []) ≡ stage_count place stage
+  so_far_count : (stage : Stage) (s : ClientState) → count_at place (so_far stage s ∷ []) ≡ stage_count place stage
   so_far_count (winds (answers given at) m ms) s = count_one place (result_of given at None s)
   so_far_count (winds retries m ms) s = refl
   so_far_count compose s = refl
   so_far_count (round keys) s = refl
   so_far_count (act flow) s = refl
 
-  unanswered_count : (left : List Call) (s : Client) → count_at place (unanswered left s) ≤ stage_count place s.stage
+  unanswered_count : (left : List Call) (s : ClientState) → count_at place (unanswered left s) ≤ stage_count place s.stage
   unanswered_count [] s = omega arith
   unanswered_count (call ∷ calls) s =
       let rest : List CallResult = unanswered calls (ended answer.Unanswered None s) in
       let whole : count_at place (so_far s.stage s ∷ rest) ≡ count_at place (so_far s.stage s ∷ []) + count_at place rest = count_both place (so_far s.stage s ∷ []) rest in
       omega (arith, whole, so_far_count s.stage s, ap length (none_behind place calls s))
 
-  results_count : (s : Client) → count_at place (results_of s) ≤ held_at place s
+  results_count : (s : ClientState) → count_at place (results_of s) ≤ held_at place s
   results_count s = omega (arith, count_both place s.results (unanswered s.left s), unanswered_count s.left s)
 
-  pub agrees_count : (s : Client) (mine : List CallResult) → Agrees s mine → count_at place mine ≤ held_at place s
+  pub agrees_count : (s : ClientState) (mine : List CallResult) → Agrees s mine → count_at place mine ≤ held_at place s
   agrees_count s mine agrees =
       ⊎_elim
       (λ same. omega (arith, ap (count_at place) same, results_count s))
       (λ (gave : (s.sent ≡ []) × (mine ≡ results_of (all_given_up s.left s))).
-      let few : held_at place (all_given_up s.left s) ≤ held_at place s = kept_all_given_up (λ t. held_at place t ≤ held_at place s) (less_kept _) s.left s (omega arith) in
+      let few : held_at place (all_given_up s.left s) ≤ held_at place s = kept_all_given_up digest (λ t. held_at place t ≤ held_at place s) (less_kept _) s.left s (omega arith) in
       omega (arith, ap (count_at place) gave.1, results_count (all_given_up s.left s), few))
       agrees
 
@@ -177,11 +178,11 @@ module _ (place : ℕ) where
     all_same apart (x ∷ sent) = ap₂ (λ b c. b || c) (told_same apart x.place x.told (eqb x.place ask_place)) (all_same apart sent)
 
     -- a Serve makes a client hold no more of another place
-    pub served_holds : (s : Client) → place ≢ told.serve_place → held_at place (served ask_place told s) ≤ held_at place s
+    pub served_holds : (s : ClientState) → place ≢ told.serve_place → held_at place (served digest ask_place told s) ≤ held_at place s
     served_holds s apart =
-        let now : Client = recorded ask_place told s in
+        let now : ClientState = recorded ask_place told s in
         let same : one_if (told_there place now.sent) ≡ one_if (told_there place s.sent) = ap one_if (all_same apart s.sent) in
-        by_answer (λ t. held_at place t ≤ held_at place s) ask_place told s
+        by_answer digest (λ t. held_at place t ≤ held_at place s) ask_place told s
         (λ e. omega arith)
         (λ here going. omega (arith, same))
         (λ here complete. omega (arith, stage_holds s.stage now, same))
@@ -191,11 +192,11 @@ module _ (place : ℕ) where
     one_at_most false = omega arith
 
     -- and its own place once, where it was not held before
-    pub served_holds_one : (s : Client) → held_at place s ≡ 0 → held_at place (served ask_place told s) ≤ 1
+    pub served_holds_one : (s : ClientState) → held_at place s ≡ 0 → held_at place (served digest ask_place told s) ≤ 1
     served_holds_one s none =
-        let now : Client = recorded ask_place told s in
+        let now : ClientState = recorded ask_place told s in
         let one : one_if (told_there place now.sent) ≤ 1 = one_at_most (told_there place now.sent) in
-        by_answer (λ t. held_at place t ≤ 1) ask_place told s
+        by_answer digest (λ t. held_at place t ≤ 1) ask_place told s
         (λ e. omega (arith, none))
         (λ here going. omega (arith, none, one))
         (λ here complete. omega (arith, stage_holds s.stage now, none, one))

@@ -10,7 +10,7 @@ use Rattle.inf_base.specs.Same.{is_same_id}
 use Rattle.inf_content.specs.Contents.{content_at, if_born}
 use Rattle.inf_duty.specs.Start.{nobody, starting, who_in}
 use Rattle.inf_duty.specs.World.{World}
-use Rattle.inf_flow_dir.specs.Client.{Client}
+use Rattle.inf_flow_dir.specs.Client.{ClientState}
 use Rattle.inf_laws_client.specs.Paths.{KeepsToPath}
 use Rattle.inf_laws_client.specs.Told.{KnowsOnly}
 use Rattle.inf_laws_client.proofs.KnowsFacts.{idle_knows}
@@ -78,20 +78,20 @@ module _ (opens : OpeningStands) (roots : RootStands) (world : World) where
   born_nothing : AreBorn world objects []
   born_nothing dir there = inl (born_in_opening (site_in (service_of world) (server_of dir.id world.setup.servers)) dir there)
 
-  abbrev Knows : Client → Type 0
+  abbrev Knows : ClientState → Type 0
   Knows = KnowsOnly (IsTrue world [] objects none_in_hand)
 
   starts_knowing : (client : ℕ) (line : Option ClientLine) → Knows (starting world client line)
   starts_knowing client None = idle_knows (IsTrue world [] objects none_in_hand) (who_in world client nobody) []
   starts_knowing client (Some line) = idle_knows (IsTrue world [] objects none_in_hand) (who_in world client line.caller) line.calls
 
-  starts_on_path : (client : ℕ) (line : Option ClientLine) → KeepsToPath (starting world client line)
-  starts_on_path client None = idle_keeps (who_in world client nobody) []
-  starts_on_path client (Some line) = idle_keeps (who_in world client line.caller) line.calls
+  starts_on_path : (client : ℕ) (line : Option ClientLine) → KeepsToPath world.digest (starting world client line)
+  starts_on_path client None = idle_keeps world.digest (who_in world client nobody) []
+  starts_on_path client (Some line) = idle_keeps world.digest (who_in world client line.caller) line.calls
 
-  starts_in_hand : (client : ℕ) (line : Option ClientLine) → InHand none_in_hand (starting world client line)
-  starts_in_hand client None = idle_in_hand none_in_hand (who_in world client nobody) [] (λ number. refl)
-  starts_in_hand client (Some line) = idle_in_hand none_in_hand (who_in world client line.caller) line.calls (λ number. refl)
+  starts_in_hand : (client : ℕ) (line : Option ClientLine) → InHand world.digest none_in_hand (starting world client line)
+  starts_in_hand client None = idle_in_hand world.digest none_in_hand (who_in world client nobody) [] (λ number. refl)
+  starts_in_hand client (Some line) = idle_in_hand world.digest none_in_hand (who_in world client line.caller) line.calls (λ number. refl)
 
   kept_nothing : Kept world []
   kept_nothing = record {

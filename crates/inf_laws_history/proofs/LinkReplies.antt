@@ -3,6 +3,7 @@
 use Rattle.std.proofs.Common.{◌≡◌, ◌≢◌, ℕ, Bool, true, false, cond, List, [], ◌∷◌, slice_get, Option, Some, None, is_some, Result, Ok, refl, sym, ap, ◌∙◌, subst}
 use Rattle.std.specs.Option.{ok_or}
 use Rattle.std.proofs.lemmas.Bool.Decides.{Decides-eqb}
+use Rattle.inf_base.specs.declared.id.Id.{Id}
 use Rattle.inf_base.specs.declared.caller.CallRef.{CallRef}
 use Rattle.inf_base.specs.declared.directory.DirRef.{DirRef}
 use Rattle.inf_base.specs.declared.entry.Entry.{Entry}
@@ -16,8 +17,8 @@ use Rattle.inf_content.specs.Slot.{reserves}
 use Rattle.inf_content.specs.Slots.{first, slot_in}
 use Rattle.inf_duty.specs.After.{client_after}
 use Rattle.inf_duty.specs.World.{World}
-use Rattle.inf_flow_dir.specs.Client.{Client, Stage, act, call_ref, compose, round, winds}
-use Rattle.inf_flow_dir.specs.Flow.{Flow, Who, finishes, id_or_root, last_id, links, made_dir, makes, message_of, reserves as keeps_name, seals, unlinks}
+use Rattle.inf_flow_dir.specs.Client.{ClientState, Stage, act, call_ref, compose, round, winds}
+use Rattle.inf_flow_dir.specs.Flow.{Flow, Who, finishes, id_or_root, last_id, links, makes, message_of, reserves as keeps_name, seals, unlinks}
 use Rattle.inf_flow_dir.specs.Group.{group}
 use Rattle.inf_laws_directory.specs.Fits.{EndsIn, Fits}
 use Rattle.inf_laws_directory.specs.Owned.{Has}
@@ -65,20 +66,20 @@ has_end : (found : Option Entry) (dir : DirRef) → EndsIn found dir → HasEnd 
 has_end None dir ends = absurd ends
 has_end (Some last) dir ends = record { last = last; is = refl; same = ends }
 
-module _ (s : Client) (place number : ℕ) (ask : Ask) (phases : Phases) (has : HasPhase s.who s.stage (phases (call_ref s))) (it : Waits s place number ask)
+module _ (digest : List ℕ → Id) (s : ClientState) (place number : ℕ) (ask : Ask) (phases : Phases) (has : HasPhase digest s.who s.stage (phases (call_ref s))) (it : Waits s place number ask)
     (chain : List Entry) (name : List ℕ) (dir : DirRef) (mode : ℕ) (is_link : ask.request ≡ request.Link chain name dir mode) where
   abbrev IsSentTo : Type 0
   IsSentTo = number ≡ server_of (last_id s.who chain) s.who.servers
 
   flow_to : (flow : Flow) → message_of s.who flow ≡ record { number = number; request = ask.request } → IsSentTo
-  flow_to (links way under bits version born) is =
-      let same : request.Link way under (made_dir s.who way under version born) bits ≡ request.Link chain name dir mode =
+  flow_to (links way under bits version made) is =
+      let same : request.Link way under made bits ≡ request.Link chain name dir mode =
       ap (λ (m : Message). m.request) is ∙ is_link in
       let chains : way ≡ chain = cc in
       sym (ap (λ (m : Message). m.number) is) ∙ ap (λ c. server_of (last_id s.who c) s.who.servers) chains
   flow_to (finishes way with) is = absurd (let same = ap (λ (m : Message). m.request) is ∙ is_link in cc)
   flow_to (keeps_name way under bits) is = absurd (let same = ap (λ (m : Message). m.request) is ∙ is_link in cc)
-  flow_to (makes way under bits version) is = absurd (let same = ap (λ (m : Message). m.request) is ∙ is_link in cc)
+  flow_to (makes way under bits version id) is = absurd (let same = ap (λ (m : Message). m.request) is ∙ is_link in cc)
   flow_to (seals way) is = absurd (let same = ap (λ (m : Message). m.request) is ∙ is_link in cc)
   flow_to (unlinks way) is = absurd (let same = ap (λ (m : Message). m.request) is ∙ is_link in cc)
 
@@ -89,7 +90,7 @@ module _ (s : Client) (place number : ℕ) (ask : Ask) (phases : Phases) (has : 
       absurd (let unlike : request.Lookup look.k ≡ request.Link chain name dir mode = sym look.is ∙ is_link in cc)
   stage_to (act flow) at is = flow_to flow (only_one (message_of s.who flow) it.index number ask.request is)
   stage_to (winds ending m ms) at is =
-      absurd (subst (λ (r : Request). IsSentHome s.who.servers number r) is_link (sent_home s place number ask phases has it (subst IsCleanUp (sym at) tt)))
+      absurd (subst (λ (r : Request). IsSentHome s.who.servers number r) is_link (sent_home digest s place number ask phases has it (subst IsCleanUp (sym at) tt)))
 
   sent_to : IsSentTo
   sent_to = stage_to s.stage refl it.message
@@ -163,7 +164,7 @@ module _ (world : World) (h : List Event) (kept : Kept world h) (legal : Legal w
   abbrev from : CallRef
   from = may.posted.ask.from
 
-  abbrev asker : Client
+  abbrev asker : ClientState
   asker = client_after world may.posted.ask.from.client h
 
   it : Waits asker place number may.posted.ask
@@ -181,7 +182,7 @@ module _ (world : World) (h : List Event) (kept : Kept world h) (legal : Legal w
   server_is : number ≡ server_of has.parent.id world.setup.servers
   server_is =
       let own = (kept.clients may.posted.ask.from.client) in
-      sent_to asker place number may.posted.ask kept.phases own.phase it chain name dir mode is
+      sent_to world.digest asker place number may.posted.ask kept.phases own.phase it chain name dir mode is
       ∙ ap (λ i. server_of i asker.who.servers) (id_of_end asker.who (last_of chain) end.last end.is ∙ ap (λ (d : DirRef). d.id) end.same)
       ∙ ap (λ (w : Who). server_of has.parent.id w.servers) own.who
 

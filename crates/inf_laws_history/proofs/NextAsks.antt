@@ -3,13 +3,14 @@ use Rattle.std.proofs.Common.{◌≡◌, ◌≢◌, ℕ, zero, suc, ◌<◌, ◌
 use Rattle.std.proofs.lemmas.Bool.{both_ways, cases_eq}
 use Rattle.std.proofs.lemmas.Bool.Decides.{Decides-eqb}
 use Rattle.std.proofs.lemmas.List.{map-append}
+use Rattle.inf_base.specs.declared.id.Id.{Id}
 use Rattle.inf_base.specs.declared.setup.ClientLine.{ClientLine}
 use Rattle.inf_duty.specs.After.{client_after}
 use Rattle.inf_duty.specs.Duty.{asked, begun}
 use Rattle.inf_duty.specs.Start.{starting}
 use Rattle.inf_duty.specs.World.{World}
 use Rattle.inf_duty.proofs.BegunKept.{if_both}
-use Rattle.inf_flow_dir.specs.Client.{Client, Sent, told_at}
+use Rattle.inf_flow_dir.specs.Client.{ClientState, Sent, told_at}
 use Rattle.inf_flow_dir.specs.Heard.{heard}
 use Rattle.inf_laws_history.proofs.ClientSteps.{Lasts, begun_lasts, served_lasts}
 use Rattle.inf_message.specs.declared.ask.Ask.{Ask}
@@ -89,17 +90,17 @@ pub places_stay : (place : ℕ) (told : Told) (sent : List Sent) → places_of (
 places_stay place told [] = refl
 places_stay place told (x ∷ xs) = ap₂ (λ p ps. p ∷ ps) (place_stays place told x) (places_stay place told xs)
 
-abbrev AsksNext : List Event → ℕ → Client → Type 0
+abbrev AsksNext : List Event → ℕ → ClientState → Type 0
 AsksNext h client s = AreNext h client (places_of s.sent)
 
-next_lasts : (h : List Event) (client : ℕ) → Lasts (AsksNext h client)
-next_lasts h client = record { composing = λ s next. next; ending = λ given at s next. tt; again = λ s next. tt; going_on = λ stage s next. tt }
+next_lasts : (digest : List ℕ → Id) (h : List Event) (client : ℕ) → Lasts digest (AsksNext h client)
+next_lasts digest h client = record { composing = λ s next. next; ending = λ given at s next. tt; again = λ s next. tt; going_on = λ stage s next. tt }
 
-asked_next : (client number : ℕ) (ask : Ask) (h : List Event) (s : Client) → AsksNext h client s → AsksNext (event.Ask number ask ∷ h) client (asked (suc (length h)) ask s)
-asked_next client number ask h s next =
-    let t : Client = begun ask s.sent s in
+asked_next : (digest : List ℕ → Id) (client number : ℕ) (ask : Ask) (h : List Event) (s : ClientState) → AsksNext h client s → AsksNext (event.Ask number ask ∷ h) client (asked digest (suc (length h)) ask s)
+asked_next digest client number ask h s next =
+    let t : ClientState = begun digest ask s.sent s in
     subst (AreNext (event.Ask number ask ∷ h) client) (sym (map-append (λ (x : Sent). x.place) t.sent (record { place = suc (length h); told = None } ∷ [])))
-    (next_more client (event.Ask number ask) h (places_of t.sent) (begun_lasts (AsksNext h client) (next_lasts h client) ask s.sent s next))
+    (next_more client (event.Ask number ask) h (places_of t.sent) (begun_lasts digest (AsksNext h client) (next_lasts digest h client) ask s.sent s next))
 
 starting_next : (world : World) (client : ℕ) (line : Option ClientLine) → AsksNext [] client (starting world client line)
 starting_next world client None = tt
@@ -110,14 +111,14 @@ next_after world client [] = starting_next world client (slice_get world.setup.c
 next_after world client (event.Ask number ask ∷ h) = by (eqb ask.from.client client) refl (next_after world client h)
   where
     by : (b : Bool) → eqb ask.from.client client ≡ b → AsksNext h client (client_after world client h)
-        → AsksNext (event.Ask number ask ∷ h) client (cond b (asked (suc (length h)) ask (client_after world client h)) (client_after world client h))
-    by true same next = asked_next client number ask h (client_after world client h) next
+        → AsksNext (event.Ask number ask ∷ h) client (cond b (asked world.digest (suc (length h)) ask (client_after world client h)) (client_after world client h))
+    by true same next = asked_next world.digest client number ask h (client_after world client h) next
     by false apart next =
         next_stay client (event.Ask number ask) h (places_of (client_after world client h).sent)
         (λ same. both_ways _ apart ((Decides-eqb ask.from.client client).1 same)) next
 next_after world client (event.Serve number ask_place given ∷ h) =
-    let s : Client = client_after world client h in
-    served_lasts (AsksNext (event.Serve number ask_place given ∷ h) client) (next_lasts (event.Serve number ask_place given ∷ h) client)
+    let s : ClientState = client_after world client h in
+    served_lasts world.digest (AsksNext (event.Serve number ask_place given ∷ h) client) (next_lasts world.digest (event.Serve number ask_place given ∷ h) client)
     (λ place told t next. subst (AreNext (event.Serve number ask_place given ∷ h) client) (sym (places_stay place told t.sent)) next)
     ask_place (told_reply (suc (length h)) (heard given)) s
     (next_stay client (event.Serve number ask_place given) h (places_of s.sent) tt (next_after world client h))

@@ -1,5 +1,6 @@
 -- A flow's one message is answered once: what completes its group is what was told just now.
 use Rattle.std.proofs.Common.{◌≡◌, ℕ, ◌≤◌, ◌&&◌, ◌||◌, Bool, true, false, eqb, List, [], ◌∷◌, ◌++◌, length, map, Option, None, Some, refl, sym, ap, ◌∙◌, arith, length-append}
+use Rattle.inf_base.specs.declared.id.Id.{Id}
 use Rattle.std.proofs.lemmas.Bool.Decides.{nat_tests}
 use Rattle.std.proofs.lemmas.List.{length-map}
 use Rattle.std.specs.List.{list_all}
@@ -7,7 +8,7 @@ use Rattle.inf_duty.specs.Duty.{asked, begun}
 use Rattle.inf_duty.specs.Start.{starting}
 use Rattle.inf_duty.specs.World.{World}
 use Rattle.inf_base.specs.declared.setup.ClientLine.{ClientLine}
-use Rattle.inf_flow_dir.specs.Client.{Client, Ending, Sent, Stage, act, answers, compose, has_place, is_told, retries, round, told_at, winds, wound}
+use Rattle.inf_flow_dir.specs.Client.{ClientState, Ending, Sent, Stage, act, answers, compose, has_place, is_told, retries, round, told_at, winds, wound}
 use Rattle.inf_flow_dir.specs.Flow.{Who}
 use Rattle.inf_flow_dir.specs.Group.{group}
 use Rattle.inf_flow_dir.specs.Turn.{Turn, goes_on, is_complete, recorded, served, turned, winds_up}
@@ -22,7 +23,7 @@ abbrev pub IsOpenAt : Stage → List Sent → Type 0
 IsOpenAt (act flow) sent = length sent ≡ 1 → first_told sent ≡ None
 IsOpenAt other_stage sent = Unit {0}
 
-pub record IsOpen (s : Client) : Type 0 where
+pub record IsOpen (s : ClientState) : Type 0 where
   pub waits : IsOpenAt s.stage s.sent
 
 -- a flow's message was answered just now
@@ -40,12 +41,12 @@ pub starting_open : (world : World) (client : ℕ) (line : Option ClientLine) �
 starting_open world client None = record { waits = tt }
 starting_open world client (Some line) = record { waits = tt }
 
-wound_open : (ending : Ending) (more : List Message) (s : Client) → IsOpen (wound ending more s)
+wound_open : (ending : Ending) (more : List Message) (s : ClientState) → IsOpen (wound ending more s)
 wound_open (answers given place) [] s = record { waits = tt }
 wound_open retries [] s = record { waits = tt }
 wound_open ending (m ∷ ms) s = record { waits = tt }
 
-turned_open : (turn : Turn) (s : Client) → IsOpen (turned turn s)
+turned_open : (turn : Turn) (s : ClientState) → IsOpen (turned turn s)
 turned_open (goes_on next) s = record { waits = none_sent next }
 turned_open (winds_up ending more) s = wound_open ending more s
 
@@ -59,9 +60,9 @@ one_more compose sent new waits = tt
 one_more (round keys) sent new waits = tt
 one_more (winds ending m ms) sent new waits = tt
 
-pub asked_open : (place : ℕ) (ask : Ask) (s : Client) → IsOpen (asked place ask s)
-asked_open place ask s =
-    let now : Client = begun ask s.sent s in
+pub asked_open : (digest : List ℕ → Id) (place : ℕ) (ask : Ask) (s : ClientState) → IsOpen (asked digest place ask s)
+asked_open digest place ask s =
+    let now : ClientState = begun digest ask s.sent s in
     record { waits = one_more now.stage now.sent (record { place = place; told = None }) refl }
 
 -- ---- the answer
@@ -116,7 +117,7 @@ tells_flow place told who (round keys) sent is here complete = tt
 tells_flow place told who (winds ending m ms) sent is here complete = tt
 
 -- the answer that completes the group of a flow's message is the one that was just told
-pub told_completes : (place : ℕ) (told : Told) (s : Client) → IsOpen s → has_place place s.sent ≡ true → is_complete (recorded place told s) ≡ true
+pub told_completes : (place : ℕ) (told : Told) (s : ClientState) → IsOpen s → has_place place s.sent ≡ true → is_complete (recorded place told s) ≡ true
     → TellsFlow told s.stage (recorded place told s).sent
 told_completes place told s is here complete = tells_flow place told s.who s.stage s.sent is.waits here complete
 
@@ -129,9 +130,9 @@ still_open place told who compose sent here going = tt
 still_open place told who (round keys) sent here going = tt
 still_open place told who (winds ending m ms) sent here going = tt
 
-pub served_open : (place : ℕ) (told : Told) (s : Client) → IsOpen s → IsOpen (served place told s)
-served_open place told s is =
-    by_answer IsOpen place told s
+pub served_open : (digest : List ℕ → Id) (place : ℕ) (told : Told) (s : ClientState) → IsOpen s → IsOpen (served digest place told s)
+served_open digest place told s is =
+    by_answer digest IsOpen place told s
     (λ apart. is)
     (λ here going. record { waits = still_open place told s.who s.stage s.sent here going })
     (λ here complete. turned_open _ (recorded place told s))

@@ -1,5 +1,6 @@
 -- Results in the order of their places, against what the Serves decide, as far as the tree has a say in them.
 use Rattle.std.proofs.Common.{◌≡◌, ◌≢◌, ℕ, zero, suc, ◌+◌, ◌-◌, ◌≤◌, ◌<◌, Bool, true, false, cond, eqb, List, [], ◌∷◌, ◌++◌, length, filter, slice_get, Option, None, Some, refl, sym, ap, ap₂, subst, ◌∙◌, arith}
+use Rattle.inf_base.specs.declared.id.Id.{Id}
 use Rattle.std.proofs.lemmas.Bool.Decides.{nat_tests}
 use Rattle.std.proofs.lemmas.List.{append-nil}
 use Rattle.std.proofs.lemmas.List.Elements.{filter-append, filter_map-append}
@@ -11,7 +12,7 @@ use Rattle.inf_duty.specs.After.{client_after}
 use Rattle.inf_duty.specs.Outcome.{Outcome, OutcomeFrom, in_order, stands_at}
 use Rattle.inf_duty.specs.Start.{starting}
 use Rattle.inf_duty.specs.World.{World}
-use Rattle.inf_flow_dir.specs.Client.{Client, Stage, act, answers, compose, has_place, retries, round, winds}
+use Rattle.inf_flow_dir.specs.Client.{ClientState, Stage, act, answers, compose, has_place, retries, round, winds}
 use Rattle.inf_flow_dir.specs.Heard.{heard}
 use Rattle.inf_flow_dir.specs.Turn.{Turn, goes_on, recorded, turn_at, winds_up}
 use Rattle.inf_laws_history.specs.Decisions.{decided_at, decided_at_stage, decided_by_turn, decided_for, decided_in, decided_when, is_of_tree, of_tree}
@@ -48,10 +49,10 @@ pub is_open : (world : World) (client : ℕ) (h : List Event) → IsOpen (client
 is_open world client [] = starting_open world client (slice_get world.setup.clients client)
 is_open world client (event.Ask number ask ∷ h) =
     if_both IsOpen (eqb ask.from.client client) _ _
-    (asked_open (suc (length h)) ask (client_after world client h))
+    (asked_open world.digest (suc (length h)) ask (client_after world client h))
     (is_open world client h)
 is_open world client (event.Serve number ask_place given ∷ h) =
-    served_open ask_place (told_reply (suc (length h)) (heard given)) (client_after world client h) (is_open world client h)
+    served_open world.digest ask_place (told_reply (suc (length h)) (heard given)) (client_after world client h) (is_open world client h)
 
 -- where no Ask stands, nobody waits for one
 pub none_waits : (world : World) (client place : ℕ) (h : List Event) → asked_at place h ≡ None → has_place place (client_after world client h).sent ≡ false
@@ -70,13 +71,13 @@ Comes world place h client = comes_to world place (client_after world client h)
 
 ask_comes : (place : ℕ) (world : World) (number : ℕ) (ask : Ask) (h : List Event) (c : ℕ) → Comes world place (event.Ask number ask ∷ h) c ≡ Comes world place h c
 ask_comes place world number ask h c =
-    if_both (λ (t : Client). comes_to world place t ≡ Comes world place h c) (eqb ask.from.client c) _ _
+    if_both (λ (t : ClientState). comes_to world place t ≡ Comes world place h c) (eqb ask.from.client c) _ _
     (asked_comes world c _ refl place (suc (length h)) ask (client_after world c h))
     refl
 
 serve_comes : (place : ℕ) (world : World) (number ask_place : ℕ) (given : Reply) (h : List Event) (c : ℕ)
     → Comes world place (event.Serve number ask_place given ∷ h) c
-    ≡ Comes world place h c ++ only_at place (suc (length h)) (decided_for ask_place (told_reply (suc (length h)) (heard given)) (client_after world c h))
+    ≡ Comes world place h c ++ only_at place (suc (length h)) (decided_for world.digest ask_place (told_reply (suc (length h)) (heard given)) (client_after world c h))
 serve_comes place world number ask_place given h c =
     served_comes world c _ refl place ask_place (told_reply (suc (length h)) (heard given)) (client_after world c h) (is_open world c h) (reads world c h)
 
@@ -136,7 +137,7 @@ all_later place world h past client (line ∷ lines) = ap₂ (λ a b. a ++ b) (n
 -- of the clients from this one on
 abbrev decided_from : World → List Event → ℕ → Told → ℕ → List ClientLine → List Decided
 decided_from world h ask_place told client [] = []
-decided_from world h ask_place told client (line ∷ lines) = decided_for ask_place told (client_after world client h) ++ decided_from world h ask_place told (client + 1) lines
+decided_from world h ask_place told client (line ∷ lines) = decided_for world.digest ask_place told (client_after world client h) ++ decided_from world h ask_place told (client + 1) lines
 
 serve_decides : (world : World) (number ask_place : ℕ) (given : Reply) (h : List Event) (client : ℕ) (lines : List ClientLine)
     → all_come world (suc (length h)) (event.Serve number ask_place given ∷ h) client lines
@@ -151,25 +152,25 @@ serve_decides world number ask_place given h client (line ∷ lines) =
     (serve_decides world number ask_place given h (client + 1) lines)
 
 -- a client that does not wait for the Ask is told nothing
-apart_decides : (ask_place : ℕ) (told : Told) (s : Client) → has_place ask_place s.sent ≡ false → decided_for ask_place told s ≡ []
-apart_decides ask_place told s apart = ap (λ b. decided_when b ask_place told s) apart
+apart_decides : (digest : List ℕ → Id) (ask_place : ℕ) (told : Told) (s : ClientState) → has_place ask_place s.sent ≡ false → decided_for digest ask_place told s ≡ []
+apart_decides digest ask_place told s apart = ap (λ b. decided_when digest b ask_place told s) apart
 
-no_call : (s : Client) (turn : Turn) → s.left ≡ [] → decided_by_turn s turn ≡ []
+no_call : (s : ClientState) (turn : Turn) → s.left ≡ [] → decided_by_turn s turn ≡ []
 no_call s (goes_on next) none = refl
 no_call s (winds_up (answers given None) more) none = refl
 no_call s (winds_up (answers given (Some place)) more) none = ap (λ left. of_tree (decides s left given)) none
 no_call s (winds_up retries more) none = refl
 
-no_call_at : (s : Client) (stage : Stage) → s.left ≡ [] → decided_at_stage s stage ≡ []
-no_call_at s (winds ending m ms) none = refl
-no_call_at s compose none = refl
-no_call_at s (round keys) none = no_call s (turn_at s (round keys)) none
-no_call_at s (act flow) none = no_call s (turn_at s (act flow)) none
+no_call_at : (digest : List ℕ → Id) (s : ClientState) (stage : Stage) → s.left ≡ [] → decided_at_stage digest s stage ≡ []
+no_call_at digest s (winds ending m ms) none = refl
+no_call_at digest s compose none = refl
+no_call_at digest s (round keys) none = no_call s (turn_at digest s (round keys)) none
+no_call_at digest s (act flow) none = no_call s (turn_at digest s (act flow)) none
 
 -- a client that has no call left decides none
-idle_decides : (ask_place : ℕ) (told : Told) (s : Client) → s.left ≡ [] → decided_for ask_place told s ≡ []
-idle_decides ask_place told s none =
-    by_serve (λ t made. made ≡ []) ask_place told s (λ e. refl) (λ e f. refl) (λ e f. no_call_at (recorded ask_place told s) s.stage none)
+idle_decides : (digest : List ℕ → Id) (ask_place : ℕ) (told : Told) (s : ClientState) → s.left ≡ [] → decided_for digest ask_place told s ≡ []
+idle_decides digest ask_place told s none =
+    by_serve digest (λ t made. made ≡ []) ask_place told s (λ e. refl) (λ e f. refl) (λ e f. no_call_at digest (recorded ask_place told s) s.stage none)
 
 nothing_left : (left : List Call) → slice_get left 0 ≡ None → left ≡ []
 nothing_left [] none = refl
@@ -189,23 +190,23 @@ unlike_owner client owner unlike = grind (arith, nat_tests)
 before_owner : (client owner : ℕ) → client ≤ owner → eqb client owner ≡ false → client + 1 ≤ owner
 before_owner client owner within unlike = grind (arith, nat_tests)
 
-none_decide : (world : World) (h : List Event) (ask_place : ℕ) (told : Told) (client : ℕ) (lines : List ClientLine) → ((c : ℕ) → client ≤ c → decided_for ask_place told (client_after world c h) ≡ []) → decided_from world h ask_place told client lines ≡ []
+none_decide : (world : World) (h : List Event) (ask_place : ℕ) (told : Told) (client : ℕ) (lines : List ClientLine) → ((c : ℕ) → client ≤ c → decided_for world.digest ask_place told (client_after world c h) ≡ []) → decided_from world h ask_place told client lines ≡ []
 none_decide world h ask_place told client [] each = refl
 none_decide world h ask_place told client (line ∷ lines) each =
     ap₂ (λ a b. a ++ b) (each client (omega arith)) (none_decide world h ask_place told (client + 1) lines (λ c within. each c (omega arith)))
 
 -- what the clients decide is what the one that asked decides
-one_decides : (world : World) (h : List Event) (ask_place : ℕ) (told : Told) (owner : ℕ) → ((c : ℕ) → c ≢ owner → decided_for ask_place told (client_after world c h) ≡ []) → (client : ℕ) (lines : List ClientLine) → client ≤ owner
-    → (client + length lines ≤ owner → decided_for ask_place told (client_after world owner h) ≡ []) → decided_from world h ask_place told client lines ≡ decided_for ask_place told (client_after world owner h)
+one_decides : (world : World) (h : List Event) (ask_place : ℕ) (told : Told) (owner : ℕ) → ((c : ℕ) → c ≢ owner → decided_for world.digest ask_place told (client_after world c h) ≡ []) → (client : ℕ) (lines : List ClientLine) → client ≤ owner
+    → (client + length lines ≤ owner → decided_for world.digest ask_place told (client_after world owner h) ≡ []) → decided_from world h ask_place told client lines ≡ decided_for world.digest ask_place told (client_after world owner h)
 one_decides world h ask_place told owner apart client [] within stranger = sym (stranger (omega arith))
 one_decides world h ask_place told owner apart client (line ∷ lines) within stranger =
     by_owner (eqb client owner) refl
     (λ less. one_decides world h ask_place told owner apart (client + 1) lines less (λ past. stranger (omega arith)))
   where
-    by_owner : (b : Bool) → eqb client owner ≡ b → (client + 1 ≤ owner → decided_from world h ask_place told (client + 1) lines ≡ decided_for ask_place told (client_after world owner h)) → decided_from world h ask_place told client (line ∷ lines) ≡ decided_for ask_place told (client_after world owner h)
+    by_owner : (b : Bool) → eqb client owner ≡ b → (client + 1 ≤ owner → decided_from world h ask_place told (client + 1) lines ≡ decided_for world.digest ask_place told (client_after world owner h)) → decided_from world h ask_place told client (line ∷ lines) ≡ decided_for world.digest ask_place told (client_after world owner h)
     by_owner true same rest =
         ap₂ (λ a b. a ++ b)
-        (ap (λ c. decided_for ask_place told (client_after world c h)) (counted_same client owner same))
+        (ap (λ c. decided_for world.digest ask_place told (client_after world c h)) (counted_same client owner same))
         (none_decide world h ask_place told (client + 1) lines (λ c past. apart c (after_owner client owner c (counted_same client owner same) past)))
         ∙ append-nil _
     by_owner false unlike rest =
@@ -214,12 +215,12 @@ one_decides world h ask_place told owner apart client (line ∷ lines) within st
 decided_there : (world : World) (h : List Event) (ask_place : ℕ) (told : Told) (found : Option Posted) → asked_at ask_place h ≡ found → decided_from world h ask_place told 0 world.setup.clients ≡ decided_at world h ask_place told found
 decided_there world h ask_place told None none =
     none_decide world h ask_place told 0 world.setup.clients
-    (λ c past. apart_decides ask_place told (client_after world c h) (none_waits world c ask_place h none))
+    (λ c past. apart_decides world.digest ask_place told (client_after world c h) (none_waits world c ask_place h none))
 decided_there world h ask_place told (Some posted) made =
     one_decides world h ask_place told posted.ask.from.client
-    (λ c unlike. apart_decides ask_place told (client_after world c h) (waits_not world h c ask_place posted made (λ same. unlike (sym same))))
+    (λ c unlike. apart_decides world.digest ask_place told (client_after world c h) (waits_not world h c ask_place posted made (λ same. unlike (sym same))))
     0 world.setup.clients (omega arith)
-    (λ past. idle_decides ask_place told (client_after world posted.ask.from.client h) (stranger_idles world posted.ask.from.client h (omega (arith, past))))
+    (λ past. idle_decides world.digest ask_place told (client_after world posted.ask.from.client h) (stranger_idles world posted.ask.from.client h (omega (arith, past))))
 
 -- ---- in order of place
 

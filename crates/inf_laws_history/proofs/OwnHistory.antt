@@ -12,7 +12,7 @@ use Rattle.inf_duty.specs.Duty.{Duty, asked, asks, next_step}
 use Rattle.inf_duty.specs.Own.{after_own, client_of, own_asks, own_of}
 use Rattle.inf_duty.specs.Start.{start}
 use Rattle.inf_duty.specs.World.{World}
-use Rattle.inf_flow_dir.specs.Client.{Client}
+use Rattle.inf_flow_dir.specs.Client.{ClientState}
 use Rattle.inf_flow_dir.specs.Group.{group}
 use Rattle.inf_flow_dir.specs.Turn.{served}
 use Rattle.inf_laws_history.proofs.AnswerOrder.{IsOpenIn, differing, hear, open_recorded, open_stays, over_one}
@@ -34,18 +34,18 @@ some_in a b same = cc
 
 -- ---- the newest first
 
-client_from : World → ℕ → List Own → Client
+client_from : World → ℕ → List Own → ClientState
 client_from world client [] = start world client
-client_from world client (own ∷ owns) = after_own (client_from world client owns) (own_of own)
+client_from world client (own ∷ owns) = after_own world.digest (client_from world client owns) (own_of own)
 
 oldest_first : (world : World) (client : ℕ) (owns : List Own) → client_of world client (map own_of (reverse owns)) ≡ client_from world client owns
 unfolding client_from
 oldest_first world client [] = refl
 oldest_first world client (own ∷ owns) =
     let cut : map own_of (reverse (own ∷ owns)) ≡ map own_of (reverse owns) ++ own_of own ∷ [] = simp (reverse-cons, map-append) refl in
-    ap (fold after_own (start world client)) cut
-    ∙ fold-append after_own (start world client) (map own_of (reverse owns)) (own_of own ∷ [])
-    ∙ ap (λ s. after_own s (own_of own)) (oldest_first world client owns)
+    ap (fold (after_own world.digest) (start world client)) cut
+    ∙ fold-append (after_own world.digest) (start world client) (map own_of (reverse owns)) (own_of own ∷ [])
+    ∙ ap (λ s. after_own world.digest s (own_of own)) (oldest_first world client owns)
 
 -- ---- Asks that wait
 
@@ -61,7 +61,7 @@ record IsNewest (at : ℕ) (own : Own) (owns : List Own) : Type 0 where
   pub apart : AreApart at owns
 
 -- one before it waits, and the newest was made in its group
-record IsBehind (at : ℕ) (own : Own) (Before : Type 0) (s : Client) : Type 0 where
+record IsBehind (at : ℕ) (own : Own) (Before : Type 0) (s : ClientState) : Type 0 where
   pub apart : eqb own.made.ask_place at ≡ false
   pub before : Before
   pub waits : IsOpenIn at s
@@ -87,27 +87,27 @@ module _ (world : World) (client : ℕ) where
   IsOpen at (own ∷ owns) = IsNewest at own owns ⊎ IsBehind at own (IsOpen at owns) (client_from world client owns)
 
   newest_shown : (at : ℕ) (told : Told) (own : Own) (owns : List Own) → IsNewest at own owns
-      → served at (hear told) (client_from world client (own ∷ owns)) ≡ client_from world client (map (served_at at told) (own ∷ owns))
+      → served world.digest at (hear told) (client_from world client (own ∷ owns)) ≡ client_from world client (map (served_at at told) (own ∷ owns))
   unfolding client_from
   newest_shown at told own owns is =
-      subst (λ p. served p (hear told) (client_from world client (own ∷ owns)) ≡ client_from world client (map (served_at p told) (own ∷ owns))) is.place
+      subst (λ p. served world.digest p (hear told) (client_from world client (own ∷ owns)) ≡ client_from world client (map (served_at p told) (own ∷ owns))) is.place
       (at_own (subst (λ p. AreApart p owns) (sym is.place) is.apart))
     where
       at_own : AreApart own.made.ask_place owns
-          → served own.made.ask_place (hear told) (client_from world client (own ∷ owns)) ≡ client_from world client (map (served_at own.made.ask_place told) (own ∷ owns))
+          → served world.digest own.made.ask_place (hear told) (client_from world client (own ∷ owns)) ≡ client_from world client (map (served_at own.made.ask_place told) (own ∷ owns))
       at_own apart = rw (itself own.made.ask_place, apart_untouched own.made.ask_place told owns apart, is.untold) refl
 
   -- the answer may as well be known when the Ask is made
   served_shown : (at : ℕ) (told : Told) (owns : List Own) → IsOpen at owns
-      → served at (hear told) (client_from world client owns) ≡ client_from world client (map (served_at at told) owns)
+      → served world.digest at (hear told) (client_from world client owns) ≡ client_from world client (map (served_at at told) owns)
   unfolding client_from
   served_shown at told [] is = absurd is
   served_shown at told (own ∷ owns) (inl is) = newest_shown at told own owns is
   served_shown at told (own ∷ owns) (inr is) =
       let same : served_at at told own ≡ own = rw is.apart refl in
-      over_one at own.made.ask_place (hear told) own.made.ask (client_from world client owns) is.apart (flipped own.made.ask_place at is.apart) is.waits own.told
-      ∙ ap (λ s. after_own s (own_of own)) (served_shown at told owns is.before)
-      ∙ ap (λ o. after_own (client_from world client (map (served_at at told) owns)) (own_of o)) (sym same)
+      over_one world.digest at own.made.ask_place (hear told) own.made.ask (client_from world client owns) is.apart (flipped own.made.ask_place at is.apart) is.waits own.told
+      ∙ ap (λ s. after_own world.digest s (own_of own)) (served_shown at told owns is.before)
+      ∙ ap (λ o. after_own world.digest (client_from world client (map (served_at at told) owns)) (own_of o)) (sym same)
 
   -- the others wait on
   open_on : (at place : ℕ) (told : Told) (owns : List Own) → eqb at place ≡ false → IsOpen at owns → IsOpen place owns → IsOpen place (map (served_at at told) owns)
@@ -120,7 +120,7 @@ module _ (world : World) (client : ℕ) where
   open_on at place told (own ∷ owns) unlike (inr is) (inl waits) =
       rw is.apart (inl (record { place = waits.place; untold = waits.untold; apart = apart_stay place at told owns waits.apart }))
   open_on at place told (own ∷ owns) unlike (inr is) (inr waits) =
-      let shown = sym (open_recorded at (hear told) (client_from world client owns) is.waits) ∙ served_shown at told owns is.before in
+      let shown = sym (open_recorded world.digest at (hear told) (client_from world client owns) is.waits) ∙ served_shown at told owns is.before in
       rw is.apart (inr (record {
         apart = waits.apart;
         before = open_on at place told owns unlike is.before waits.before;
@@ -129,7 +129,7 @@ module _ (world : World) (client : ℕ) where
 
   -- ---- histories
 
-  record FollowsAs (h : List Event) (owns : List Own) (s : Client) : Type 0 where
+  record FollowsAs (h : List Event) (owns : List Own) (s : ClientState) : Type 0 where
     pub same : client_from world client owns ≡ s
     pub waiting : (place : ℕ) (posted : Posted) → asked_at place h ≡ Some posted → posted.ask.from.client ≡ client → is_served place h ≡ false → IsOpen place owns
 
@@ -158,21 +158,21 @@ module _ (world : World) (client : ℕ) where
   })
 
   -- one that waits has a group that goes on
-  open_in : (place : ℕ) (posted : Posted) (number : ℕ) (ask : Ask) (s : Client) → Duty s number ask → Waits s place posted.number posted.ask → IsOpenIn place s
+  open_in : (place : ℕ) (posted : Posted) (number : ℕ) (ask : Ask) (s : ClientState) → Duty world.digest s number ask → Waits s place posted.number posted.ask → IsOpenIn place s
   open_in place posted number ask s duty waits =
-      let stays = begun_stays ask s.sent s waits.index (waiting_at place) waits.sent in
-      let next : next_step s ≡ asks number ask = subst (λ (t : Client). next_step t ≡ asks number ask) stays duty in
+      let stays = begun_stays world.digest ask s.sent s waits.index (waiting_at place) waits.sent in
+      let next : next_step s ≡ asks number ask = subst (λ (t : ClientState). next_step t ≡ asks number ask) stays duty in
       record {
         index = waits.index;
         waits = waits.sent;
         room = slice_get_within (group s.who s.stage) (length s.sent) _ (goes s number ask next).message;
       }
 
-  it_asks : (number : ℕ) (ask : Ask) (h : List Event) → eqb ask.from.client client ≡ true → Duty (client_after world client h) number ask
+  it_asks : (number : ℕ) (ask : Ask) (h : List Event) → eqb ask.from.client client ≡ true → Duty world.digest (client_after world client h) number ask
       → ArePending world h → Follows h → Follows (event.Ask number ask ∷ h)
   unfolding client_from
   it_asks number ask h own duty pending is = rw own (record {
-    same = ap (asked (suc (length h)) ask) is.same;
+    same = ap (asked world.digest (suc (length h)) ask) is.same;
     waiting = λ place posted found by_client unserved.
         by_test (eqb place (suc (length h))) found
         (λ newest here.
@@ -212,7 +212,7 @@ module _ (world : World) (client : ℕ) where
       let told : Told = told_reply (suc (length h)) given in
       let waits : IsOpen at (asks_of client h) = is.waiting at posted made own unserved in
       record {
-        same = sym (served_shown at told (asks_of client h) waits) ∙ ap (served at (hear told)) is.same;
+        same = sym (served_shown at told (asks_of client h) waits) ∙ ap (served world.digest at (hear told)) is.same;
         waiting = λ place p found by_client later.
             let before = unserved_before number at place given h later in
             open_on at place told (asks_of client h) before.0 waits (is.waiting place p found by_client before.1);
@@ -226,7 +226,7 @@ module _ (world : World) (client : ℕ) where
       by_client : (b : Bool) → eqb ask.from.client client ≡ b → Follows (event.Ask number ask ∷ h)
       by_client true own =
           it_asks number ask h own
-          (subst (λ c. Duty (client_after world c h) number ask) ((Decides-eqb ask.from.client client).0 own) may.duty) pending is
+          (subst (λ c. Duty world.digest (client_after world c h) number ask) ((Decides-eqb ask.from.client client).0 own) may.duty) pending is
       by_client false another = another_asks number ask h another is
 
   served_follows : (number at : ℕ) (given : Reply) (h : List Event) → MayServe world h number at given → Follows h → Follows (event.Serve number at given ∷ h)

@@ -6,7 +6,7 @@ use Rattle.inf_duty.specs.After.{client_after}
 use Rattle.inf_duty.specs.Outcome.{Outcome, OutcomeFrom, is_place, stands_at}
 use Rattle.inf_duty.specs.Places.{HaveOwnPlaces}
 use Rattle.inf_duty.specs.World.{World}
-use Rattle.inf_flow_dir.specs.Client.{Client, has_place}
+use Rattle.inf_flow_dir.specs.Client.{ClientState, has_place}
 use Rattle.inf_flow_dir.specs.Heard.{heard}
 use Rattle.inf_message.specs.declared.ask.Ask.{Ask}
 use Rattle.inf_message.specs.declared.call_result.CallResult.{CallResult}
@@ -29,19 +29,19 @@ Held world place h client = held_at place (client_after world client h)
 
 ask_holds : (place : ℕ) (world : World) (number : ℕ) (ask : Ask) (h : List Event) (c : ℕ) → Held world place (event.Ask number ask ∷ h) c ≤ Held world place h c
 ask_holds place world number ask h c =
-    if_both (λ (t : Client). held_at place t ≤ Held world place h c) (eqb ask.from.client c) _ _
-    (asked_holds place (suc (length h)) ask (client_after world c h))
+    if_both (λ (t : ClientState). held_at place t ≤ Held world place h c) (eqb ask.from.client c) _ _
+    (asked_holds world.digest place (suc (length h)) ask (client_after world c h))
     (omega arith)
 
 serve_holds : (place : ℕ) (world : World) (number ask_place : ℕ) (given : Reply) (h : List Event) → place ≢ suc (length h) → (c : ℕ)
     → Held world place (event.Serve number ask_place given ∷ h) c ≤ Held world place h c
 serve_holds place world number ask_place given h apart c =
-    served_holds place ask_place (told_reply (suc (length h)) (heard given)) (client_after world c h) apart
+    served_holds world.digest place ask_place (told_reply (suc (length h)) (heard given)) (client_after world c h) apart
 
 serve_leaves : (place : ℕ) (world : World) (number ask_place : ℕ) (given : Reply) (h : List Event) (c : ℕ) → has_place ask_place (client_after world c h).sent ≡ false
     → Held world place (event.Serve number ask_place given ∷ h) c ≡ Held world place h c
 serve_leaves place world number ask_place given h c apart =
-    ap (held_at place) (served_apart ask_place (told_reply (suc (length h)) (heard given)) (client_after world c h) apart)
+    ap (held_at place) (served_apart world.digest ask_place (told_reply (suc (length h)) (heard given)) (client_after world c h) apart)
 
 -- no client holds a place that is still to come
 none_later : (world : World) (client place : ℕ) (h : List Event) → length h < place → Held world place h client ≡ 0
@@ -72,7 +72,7 @@ outcome_count place world h client (line ∷ lines) results out =
       arith,
       ap (count_at place) out.all,
       count_both place out.mine out.others,
-      agrees_count place (client_after world client h) out.mine out.agrees,
+      agrees_count world.digest place (client_after world client h) out.mine out.agrees,
       outcome_count place world h (client + 1) lines out.others out.later,
     )
 
@@ -116,7 +116,7 @@ served_once world number ask_place given h (Some posted) made =
     (λ c unlike.
     serve_leaves place world number ask_place given h c (waits_not world h c ask_place posted made (λ same. unlike (sym same)))
     ∙ none_later world c place h (omega arith))
-    (served_holds_one place ask_place (told_reply place (heard given)) (client_after world owner h) (none_later world owner place h (omega arith)))
+    (served_holds_one world.digest place ask_place (told_reply place (heard given)) (client_after world owner h) (none_later world owner place h (omega arith)))
     0 world.setup.clients
 
 one_each : (place : ℕ) (world : World) (h : List Event) → all_hold world place h 0 world.setup.clients ≤ 1

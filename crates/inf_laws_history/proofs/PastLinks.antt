@@ -3,6 +3,7 @@ use Rattle.std.proofs.Common.{◌≡◌, ◌≢◌, ◌⊎◌, inl, inr, ℕ, su
 use Rattle.inf_base.specs.declared.caller.CallRef.{CallRef}
 use Rattle.inf_base.specs.declared.directory.DirRef.{DirRef}
 use Rattle.inf_base.specs.declared.entry.Entry.{Entry}
+use Rattle.inf_base.specs.declared.id.Id.{Id}
 use Rattle.inf_base.specs.declared.triple.Triple.{Triple}
 use Rattle.inf_base.specs.declared.triple.Triple.TheVariants as triple
 use Rattle.inf_base.specs.Content.{Content}
@@ -11,8 +12,8 @@ use Rattle.inf_base.specs.Same.{dir_of}
 use Rattle.inf_content.specs.Contents.{content_at, empty_content}
 use Rattle.inf_duty.specs.After.{client_after}
 use Rattle.inf_duty.specs.World.{World}
-use Rattle.inf_flow_dir.specs.Client.{Client, Sent, Stage, act, compose, round, winds}
-use Rattle.inf_flow_dir.specs.Flow.{Flow, Who, birth_of, dir_in, finishes, id_or_root, last_dir, last_entry, links, made_dir, makes, message_of, reserves, seals, unlinks}
+use Rattle.inf_flow_dir.specs.Client.{ClientState, Sent, Stage, act, compose, round, winds}
+use Rattle.inf_flow_dir.specs.Flow.{Flow, Who, birth_of, dir_in, finishes, id_or_root, last_dir, last_entry, links, makes, message_of, reserves, seals, unlinks}
 use Rattle.inf_flow_dir.specs.Group.{group}
 use Rattle.inf_flow_dir.specs.Heard.{heard}
 use Rattle.inf_flow_dir.specs.Turn.{served}
@@ -47,8 +48,8 @@ use Rattle.inf_laws_history.proofs.PhaseFacts.{one_ask, served_one, staged}
 
 -- ---- the numbers of calls grow
 
-number_lasts : (n : ℕ) → Lasts (λ (s : Client). n ≤ s.number)
-number_lasts n = record {
+number_lasts : (digest : List ℕ → Id) (n : ℕ) → Lasts digest (λ (s : ClientState). n ≤ s.number)
+number_lasts digest n = record {
   composing = λ s less. less;
   ending = λ given place s less. omega (arith, less);
   again = λ s less. less;
@@ -57,12 +58,12 @@ number_lasts n = record {
 
 pub numbers_grow : (world : World) (e : Event) (h : List Event) (client : ℕ) → (client_after world client h).number ≤ (client_after world client (e ∷ h)).number
 numbers_grow world (event.Ask number ask) h client =
-    let s : Client = client_after world client h in
-    if_both (λ (t : Client). s.number ≤ t.number) (eqb ask.from.client client) _ s
-    (begun_lasts (λ (t : Client). s.number ≤ t.number) (number_lasts s.number) ask s.sent s (omega arith)) (omega arith)
+    let s : ClientState = client_after world client h in
+    if_both (λ (t : ClientState). s.number ≤ t.number) (eqb ask.from.client client) _ s
+    (begun_lasts world.digest (λ (t : ClientState). s.number ≤ t.number) (number_lasts world.digest s.number) ask s.sent s (omega arith)) (omega arith)
 numbers_grow world (event.Serve number ask_place given) h client =
-    let s : Client = client_after world client h in
-    served_lasts (λ (t : Client). s.number ≤ t.number) (number_lasts s.number) (λ place told t less. less) ask_place (told_reply (suc (length h)) (heard given)) s (omega arith)
+    let s : ClientState = client_after world client h in
+    served_lasts world.digest (λ (t : ClientState). s.number ≤ t.number) (number_lasts world.digest s.number) (λ place told t less. less) ask_place (told_reply (suc (length h)) (heard given)) s (omega arith)
 
 -- ---- where a call stands that is to make or link a directory
 
@@ -94,7 +95,7 @@ lifts_none servers (has_unlinked target) m P cancels drops unseals forgets is = 
 
 module _ (who : Who) (phase : Phase) where
   flow_makes : (flow : Flow) (birth : Triple) → (message_of who flow).request ≡ request.Make birth → FlowHas who flow phase → FlowMay who.caller flow → MakesAt phase birth
-  flow_makes (makes chain name mode version) birth is has may =
+  flow_makes (makes chain name mode version id) birth is has may =
       let same : birth_of who chain name version ≡ birth = cc in
       record {
         parent = last_dir chain;
@@ -105,14 +106,14 @@ module _ (who : Who) (phase : Phase) where
       }
   flow_makes (finishes chain asked) birth is has may = absurd cc
   flow_makes (reserves chain name mode) birth is has may = absurd cc
-  flow_makes (links chain name mode version born) birth is has may = absurd cc
+  flow_makes (links chain name mode version dir) birth is has may = absurd cc
   flow_makes (seals chain) birth is has may = absurd cc
   flow_makes (unlinks chain) birth is has may = absurd cc
 
   flow_links : (flow : Flow) (way : List Entry) (under : List ℕ) (dir : DirRef) (bits : ℕ) → (message_of who flow).request ≡ request.Link way under dir bits
       → FlowHas who flow phase → FlowMay who.caller flow → LinksAt phase dir
-  flow_links (links chain name mode version born) way under dir bits is has may =
-      let same : made_dir who chain name version born ≡ dir = cc in
+  flow_links (links chain name mode version made) way under dir bits is has may =
+      let same : made ≡ dir = cc in
       record {
         parent = last_dir chain;
         name = name;
@@ -121,61 +122,62 @@ module _ (who : Who) (phase : Phase) where
       }
   flow_links (finishes chain asked) way under dir bits is has may = absurd cc
   flow_links (reserves chain name mode) way under dir bits is has may = absurd cc
-  flow_links (makes chain name mode version) way under dir bits is has may = absurd cc
+  flow_links (makes chain name mode version id) way under dir bits is has may = absurd cc
   flow_links (seals chain) way under dir bits is has may = absurd cc
   flow_links (unlinks chain) way under dir bits is has may = absurd cc
 
+module _ (digest : List ℕ → Id) (who : Who) (phase : Phase) where
   stage_makes : (stage : Stage) (index number : ℕ) (asked : Request) (birth : Triple) → slice_get (group who stage) index ≡ Some (record { number = number; request = asked })
-      → asked ≡ request.Make birth → HasPhase who stage phase → StageMay who.caller stage → MakesAt phase birth
+      → asked ≡ request.Make birth → HasPhase digest who stage phase → StageMay who.caller stage → MakesAt phase birth
   stage_makes compose index number asked birth is makes_it has may = absurd cc
   stage_makes (round keys) index number asked birth is makes_it has may =
       let look = look_in who keys index number asked is in
       absurd (let unlike : request.Lookup look.k ≡ request.Make birth = sym look.is ∙ makes_it in cc)
   stage_makes (act flow) index number asked birth is makes_it has may =
-      flow_makes flow birth (ap (λ (m : Message). m.request) (only_one (message_of who flow) index number asked is) ∙ makes_it) has may
+      flow_makes who phase flow birth (ap (λ (m : Message). m.request) (only_one (message_of who flow) index number asked is) ∙ makes_it) has.0 may
   stage_makes (winds ending m ms) index number asked birth is makes_it has may =
       absurd (lifts_none who.servers phase m (λ (r : Request). r ≡ request.Make birth → ⊥) (λ dir it. cc) (λ dir it. cc) (λ dir it. cc) (λ id dir it. cc) has.0
       (ap (λ (x : Message). x.request) (only_one m index number asked is) ∙ makes_it))
 
   stage_links : (stage : Stage) (index number : ℕ) (asked : Request) (way : List Entry) (under : List ℕ) (dir : DirRef) (bits : ℕ)
       → slice_get (group who stage) index ≡ Some (record { number = number; request = asked })
-      → asked ≡ request.Link way under dir bits → HasPhase who stage phase → StageMay who.caller stage → LinksAt phase dir
+      → asked ≡ request.Link way under dir bits → HasPhase digest who stage phase → StageMay who.caller stage → LinksAt phase dir
   stage_links compose index number asked way under dir bits is links_it has may = absurd cc
   stage_links (round keys) index number asked way under dir bits is links_it has may =
       let look = look_in who keys index number asked is in
       absurd (let unlike : request.Lookup look.k ≡ request.Link way under dir bits = sym look.is ∙ links_it in cc)
   stage_links (act flow) index number asked way under dir bits is links_it has may =
-      flow_links flow way under dir bits (ap (λ (m : Message). m.request) (only_one (message_of who flow) index number asked is) ∙ links_it) has may
+      flow_links who phase flow way under dir bits (ap (λ (m : Message). m.request) (only_one (message_of who flow) index number asked is) ∙ links_it) has.0 may
   stage_links (winds ending m ms) index number asked way under dir bits is links_it has may =
       absurd (lifts_none who.servers phase m (λ (r : Request). r ≡ request.Link way under dir bits → ⊥) (λ d it. cc) (λ d it. cc) (λ d it. cc) (λ id d it. cc) has.0
       (ap (λ (x : Message). x.request) (only_one m index number asked is) ∙ links_it))
 
 -- ---- a link that is done ends its call
 
-module _ (A : ℕ → Request → Type 0) (s : Client) (place number serve_place : ℕ) (ask : Ask) (way : List Entry) (under : List ℕ) (dir : DirRef) (bits : ℕ)
+module _ (digest : List ℕ → Id) (A : ℕ → Request → Type 0) (s : ClientState) (place number serve_place : ℕ) (ask : Ask) (way : List Entry) (under : List ℕ) (dir : DirRef) (bits : ℕ)
     (links_it : ask.request ≡ request.Link way under dir bits) where
   abbrev told : Told
   told = told_reply serve_place reply.Fine
 
   flow_ends : (flow : Flow) → (message_of s.who flow).request ≡ request.Link way under dir bits
-      → s.number < (served place told (staged s (act flow) (one_ask place None))).number
-  flow_ends (links chain name mode version born) is =
-      served_one (λ (t : Client). s.number < t.number) s (act (links chain name mode version born)) place told refl (omega arith)
+      → s.number < (served digest place told (staged s (act flow) (one_ask place None))).number
+  flow_ends (links chain name mode version dir) is =
+      served_one digest (λ (t : ClientState). s.number < t.number) s (act (links chain name mode version dir)) place told refl (omega arith)
   flow_ends (finishes chain asked) is = absurd cc
   flow_ends (reserves chain name mode) is = absurd cc
-  flow_ends (makes chain name mode version) is = absurd cc
+  flow_ends (makes chain name mode version id) is = absurd cc
   flow_ends (seals chain) is = absurd cc
   flow_ends (unlinks chain) is = absurd cc
 
   stage_ends : (stage : Stage) (sent : List Sent) (phase : Phase) → Waits (staged s stage sent) place number ask → AreAskedFor A (group s.who stage) sent
-      → HasPhase s.who stage phase → s.number < (served place told (staged s stage sent)).number
+      → HasPhase digest s.who stage phase → s.number < (served digest place told (staged s stage sent)).number
   stage_ends compose sent phase waits_it asks has = let none = waits_it.message in absurd cc
   stage_ends (round keys) sent phase waits_it asks has =
       let look = look_in s.who keys waits_it.index number ask.request waits_it.message in
       absurd (let unlike : request.Lookup look.k ≡ request.Link way under dir bits = sym look.is ∙ links_it in cc)
   stage_ends (act flow) sent phase waits_it asks has =
       let lone = alone A (message_of s.who flow) sent waits_it.index place number ask.request waits_it.sent waits_it.message asks in
-      subst (λ (xs : List Sent). s.number < (served place told (staged s (act flow) xs)).number) (sym lone.sent_alone)
+      subst (λ (xs : List Sent). s.number < (served digest place told (staged s (act flow) xs)).number) (sym lone.sent_alone)
       (flow_ends flow (ap (λ (m : Message). m.request) lone.message ∙ links_it))
   stage_ends (winds ending m ms) sent phase waits_it asks has =
       absurd (lifts_none s.who.servers phase m (λ (r : Request). r ≡ request.Link way under dir bits → ⊥) (λ d it. cc) (λ d it. cc) (λ d it. cc) (λ id d it. cc) has.0
@@ -232,37 +234,37 @@ module _ (world : World) (h : List Event) (kept : Kept world h) (legal : Legal w
       by_origin identifies (inr was) = was
 
   module _ (number place : ℕ) (given : Reply) (may : MayServe world h number place given) where
-    abbrev asker : Client
+    abbrev asker : ClientState
     asker = client_after world may.posted.ask.from.client h
 
     abbrev asker_waits : Waits asker place number may.posted.ask
     asker_waits = waits world h kept number place given may
 
-    asker_phase : HasPhase asker.who asker.stage (kept.phases may.posted.ask.from)
+    asker_phase : HasPhase world.digest asker.who asker.stage (kept.phases may.posted.ask.from)
     asker_phase =
-        subst (λ (c : CallRef). HasPhase asker.who asker.stage (kept.phases c)) (sym asker_waits.from) (kept.clients may.posted.ask.from.client).phase
+        subst (λ (c : CallRef). HasPhase world.digest asker.who asker.stage (kept.phases c)) (sym asker_waits.from) (kept.clients may.posted.ask.from.client).phase
 
     pub asker_makes : (birth : Triple) → may.posted.ask.request ≡ request.Make birth → MakesAt (kept.phases may.posted.ask.from) birth
     asker_makes birth is =
-        stage_makes asker.who (kept.phases may.posted.ask.from) asker.stage asker_waits.index number may.posted.ask.request birth asker_waits.message is asker_phase
+        stage_makes world.digest asker.who (kept.phases may.posted.ask.from) asker.stage asker_waits.index number may.posted.ask.request birth asker_waits.message is asker_phase
         (kept.clients may.posted.ask.from.client).may
 
     pub asker_links : (chain : List Entry) (name : List ℕ) (dir : DirRef) (mode : ℕ) → may.posted.ask.request ≡ request.Link chain name dir mode
         → LinksAt (kept.phases may.posted.ask.from) dir
     asker_links chain name dir mode is =
-        stage_links asker.who (kept.phases may.posted.ask.from) asker.stage asker_waits.index number may.posted.ask.request chain name dir mode asker_waits.message is
+        stage_links world.digest asker.who (kept.phases may.posted.ask.from) asker.stage asker_waits.index number may.posted.ask.request chain name dir mode asker_waits.message is
         asker_phase (kept.clients may.posted.ask.from.client).may
 
   link_passes : (number place : ℕ) (may : MayServe world h number place reply.Fine) (dir : DirRef) → links_to dir may.posted.ask.request ≡ true
       → IsPast world (event.Serve number place reply.Fine ∷ h) dir
   link_passes number place may dir is =
       let link = link_to dir may.posted.ask.request is in
-      let s : Client = client_after world may.posted.ask.from.client h in
+      let s : ClientState = client_after world may.posted.ask.from.client h in
       let waits_it = waits world h kept number place reply.Fine may in
       let has = asker_links number place reply.Fine may link.chain link.name dir link.mode link.is in
       let was = made_by may.posted.ask.from has.parent has.name (triple.Of has.parent.id has.name has.version) dir has.phase_is in
       let less : s.number < (client_after world may.posted.ask.from.client (event.Serve number place reply.Fine ∷ h)).number =
-      stage_ends (WasAskedIn h) s place number (suc (length h)) may.posted.ask link.chain link.name dir link.mode link.is s.stage s.sent (kept.phases may.posted.ask.from)
+      stage_ends world.digest (WasAskedIn h) s place number (suc (length h)) may.posted.ask link.chain link.name dir link.mode link.is s.stage s.sent (kept.phases may.posted.ask.from)
       waits_it (kept.clients may.posted.ask.from.client).asks.asked (asker_phase number place reply.Fine may) in
       let number_is : may.posted.ask.from.number ≡ s.number = ap (λ (c : CallRef). c.number) waits_it.from in
       record {

@@ -1,5 +1,6 @@
 -- Every Ask that was not served is one of its client's group: before the first event, after an Ask and after a Serve.
 use Rattle.std.proofs.Common.{◌≡◌, ℕ, suc, ◌<◌, Bool, true, false, cond, eqb, ◌&&◌, ◌||◌, List, [], ◌∷◌, ◌++◌, length, map, slice_get, Option, Some, None, option_map, zero, ap₂, refl, sym, ap, ◌∙◌, subst, arith}
+use Rattle.inf_base.specs.declared.id.Id.{Id}
 use Rattle.std.specs.List.{list_all}
 use Rattle.std.proofs.lemmas.Option.{slice_get-map}
 use Rattle.std.proofs.lemmas.Bool.Decides.{Decides-eqb, nat_tests}
@@ -7,7 +8,7 @@ use Rattle.inf_base.specs.declared.call.Call.{Call}
 use Rattle.inf_duty.specs.After.{client_after}
 use Rattle.inf_duty.specs.Duty.{asked, asks, begun, next_in, next_of, next_step}
 use Rattle.inf_duty.specs.World.{World}
-use Rattle.inf_flow_dir.specs.Client.{Client, Sent, call_ref, is_told, placed, told_at}
+use Rattle.inf_flow_dir.specs.Client.{ClientState, Sent, call_ref, is_told, placed, told_at}
 use Rattle.inf_flow_dir.specs.Group.{group}
 use Rattle.inf_flow_dir.specs.Heard.{heard}
 use Rattle.inf_flow_dir.specs.Turn.{is_complete, recorded, served}
@@ -32,18 +33,18 @@ message_to number asked = record { number = number; request = asked }
 
 -- ---- a client that does its duty
 
-pub record Goes (s : Client) (number : ℕ) (ask : Ask) : Type 0 where
+pub record Goes (s : ClientState) (number : ℕ) (ask : Ask) : Type 0 where
   pub message : slice_get (group s.who s.stage) (length s.sent) ≡ Some (record { number = number; request = ask.request })
   pub from : ask.from ≡ call_ref s
   pub caller : ask.caller ≡ s.who.caller
   pub under_way : 0 < length s.left
 
-record IsNext (s : Client) (found : Option Message) (number : ℕ) (ask : Ask) : Type 0 where
+record IsNext (s : ClientState) (found : Option Message) (number : ℕ) (ask : Ask) : Type 0 where
   message : found ≡ Some (message_to number ask.request)
   from : ask.from ≡ call_ref s
   caller : ask.caller ≡ s.who.caller
 
-is_next : (s : Client) (found : Option Message) (number : ℕ) (ask : Ask) → next_of s found ≡ asks number ask → IsNext s found number ask
+is_next : (s : ClientState) (found : Option Message) (number : ℕ) (ask : Ask) → next_of s found ≡ asks number ask → IsNext s found number ask
 is_next s None number ask next = absurd cc
 is_next s (Some message) number ask next =
     let to : message.number ≡ number = cc in
@@ -54,12 +55,12 @@ is_next s (Some message) number ask next =
       caller = sym (ap (λ (a : Ask). a.caller) sent);
     }
 
-goes_in : (s : Client) (number : ℕ) (ask : Ask) (calls : List Call) → next_in s calls ≡ asks number ask
+goes_in : (s : ClientState) (number : ℕ) (ask : Ask) (calls : List Call) → next_in s calls ≡ asks number ask
     → (0 < length calls) × IsNext s (slice_get (group s.who s.stage) (length s.sent)) number ask
 goes_in s number ask [] next = absurd cc
 goes_in s number ask (call ∷ calls) next = (omega arith, is_next s (slice_get (group s.who s.stage) (length s.sent)) number ask next)
 
-pub goes : (s : Client) (number : ℕ) (ask : Ask) → next_step s ≡ asks number ask → Goes s number ask
+pub goes : (s : ClientState) (number : ℕ) (ask : Ask) → next_step s ≡ asks number ask → Goes s number ask
 goes s number ask next =
     let is = goes_in s number ask s.left next in
     record { message = is.1.message; from = is.1.from; caller = is.1.caller; under_way = is.0 }
@@ -76,11 +77,11 @@ sent_stays (z ∷ sent) y zero x found = found
 sent_stays (z ∷ sent) y (suc index) x found = sent_stays sent y index x found
 
 -- a client that waits asks within its group
-pub begun_stays : (ask : Ask) (sent : List Sent) (s : Client) (index : ℕ) (x : Sent) → slice_get sent index ≡ Some x → begun ask sent s ≡ s
-begun_stays ask [] s index x found = absurd cc
-begun_stays ask (y ∷ sent) s index x found = refl
+pub begun_stays : (digest : List ℕ → Id) (ask : Ask) (sent : List Sent) (s : ClientState) (index : ℕ) (x : Sent) → slice_get sent index ≡ Some x → begun digest ask sent s ≡ s
+begun_stays digest ask [] s index x found = absurd cc
+begun_stays digest ask (y ∷ sent) s index x found = refl
 
-waits_newly : (place number : ℕ) (ask : Ask) (s : Client) → next_step s ≡ asks number ask → Waits (placed place s) place number ask
+waits_newly : (place number : ℕ) (ask : Ask) (s : ClientState) → next_step s ≡ asks number ask → Waits (placed place s) place number ask
 waits_newly place number ask s next =
     let is = goes s number ask next in
     record {
@@ -92,9 +93,9 @@ waits_newly place number ask s next =
       under_way = is.under_way;
     }
 
-waits_on : (at place number : ℕ) (another ask : Ask) (s : Client) → Waits s place number ask → Waits (asked at another s) place number ask
-waits_on at place number another ask s waits =
-    subst (λ (t : Client). Waits (placed at t) place number ask) (sym (begun_stays another s.sent s waits.index (waiting_at place) waits.sent))
+waits_on : (digest : List ℕ → Id) (at place number : ℕ) (another ask : Ask) (s : ClientState) → Waits s place number ask → Waits (asked digest at another s) place number ask
+waits_on digest at place number another ask s waits =
+    subst (λ (t : ClientState). Waits (placed at t) place number ask) (sym (begun_stays digest another s.sent s waits.index (waiting_at place) waits.sent))
     (record {
       index = waits.index;
       sent = sent_stays s.sent (waiting_at at) waits.index (waiting_at place) waits.sent;
@@ -124,16 +125,16 @@ not_all_told place (x ∷ sent) zero found =
 not_all_told place (x ∷ sent) (suc index) found = ap (λ b. is_told x && b) (not_all_told place sent index found) ∙ and_false (is_told x)
 
 -- a group that still waits for an Ask is not over
-pub not_complete : (place : ℕ) (s : Client) (index : ℕ) → slice_get s.sent index ≡ Some (waiting_at place) → is_complete s ≡ false
+pub not_complete : (place : ℕ) (s : ClientState) (index : ℕ) → slice_get s.sent index ≡ Some (waiting_at place) → is_complete s ≡ false
 not_complete place s index found =
     ap (λ b. eqb (length s.sent) (length (group s.who s.stage)) && b) (not_all_told place s.sent index found)
     ∙ and_false (eqb (length s.sent) (length (group s.who s.stage)))
 
-waits_still : (at place number : ℕ) (told : Told) (ask : Ask) (s : Client) → eqb place at ≡ false → Waits s place number ask
-    → Waits (served at told s) place number ask
-waits_still at place number told ask s unlike waits =
+waits_still : (digest : List ℕ → Id) (at place number : ℕ) (told : Told) (ask : Ask) (s : ClientState) → eqb place at ≡ false → Waits s place number ask
+    → Waits (served digest at told s) place number ask
+waits_still digest at place number told ask s unlike waits =
     let still = sent_recorded at place told s.sent waits.index unlike waits.sent in
-    by_answer (λ t. Waits t place number ask) at told s
+    by_answer digest (λ t. Waits t place number ask) at told s
     (λ apart. waits)
     (λ here going. record {
       index = waits.index;
@@ -156,16 +157,16 @@ module _ (world : World) (h : List Event) (number : ℕ) (ask : Ask) where
 
   newest_waits : MayAsk world h number ask → Waits (client_after world ask.from.client now) (suc (length h)) number ask
   newest_waits may =
-      let s : Client = client_after world ask.from.client h in
-      subst (λ b. Waits (cond b (asked (suc (length h)) ask s) s) (suc (length h)) number ask) (sym (itself ask.from.client))
-      (waits_newly (suc (length h)) number ask (begun ask s.sent s) may.duty)
+      let s : ClientState = client_after world ask.from.client h in
+      subst (λ b. Waits (cond b (asked world.digest (suc (length h)) ask s) s) (suc (length h)) number ask) (sym (itself ask.from.client))
+      (waits_newly (suc (length h)) number ask (begun world.digest ask s.sent s) may.duty)
 
   older_waits : (place : ℕ) (posted : Posted) → Waits (client_after world posted.ask.from.client h) place posted.number posted.ask
       → Waits (client_after world posted.ask.from.client now) place posted.number posted.ask
   older_waits place posted waits =
-      let s : Client = client_after world posted.ask.from.client h in
-      if_both (λ t. Waits t place posted.number posted.ask) (eqb ask.from.client posted.ask.from.client) (asked (suc (length h)) ask s) s
-      (waits_on (suc (length h)) place posted.number ask posted.ask s waits) waits
+      let s : ClientState = client_after world posted.ask.from.client h in
+      if_both (λ t. Waits t place posted.number posted.ask) (eqb ask.from.client posted.ask.from.client) (asked world.digest (suc (length h)) ask s) s
+      (waits_on world.digest (suc (length h)) place posted.number ask posted.ask s waits) waits
 
   pub pending_ask : MayAsk world h number ask → ArePending world h → ArePending world (event.Ask number ask ∷ h)
   pending_ask may pending place posted found unserved =
@@ -193,7 +194,7 @@ pub pending_serve : (world : World) (h : List Event) (number ask_place : ℕ) (g
     → ArePending world (event.Serve number ask_place given ∷ h)
 pending_serve world h number ask_place given pending place posted found unserved =
     let before = unserved_before number ask_place place given h unserved in
-    waits_still ask_place place posted.number (told_reply (suc (length h)) (heard given)) posted.ask (client_after world posted.ask.from.client h)
+    waits_still world.digest ask_place place posted.number (told_reply (suc (length h)) (heard given)) posted.ask (client_after world posted.ask.from.client h)
     (flipped ask_place place before.0) (pending place posted found before.1)
 
 pub pending_after : (world : World) (h : List Event) → Legal world h → ArePending world h

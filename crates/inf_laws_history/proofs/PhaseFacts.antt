@@ -1,5 +1,6 @@
 -- What a client's call has in hand, from its first Ask on.
 use Rattle.std.proofs.Common.{◌≡◌, ◌≢◌, ℕ, ◌+◌, ◌==◌, Bool, true, false, if◌then◌else◌, ◌||◌, ◌&&◌, List, [], ◌∷◌, length, slice_get, Option, Some, None, refl, sym, ap, ◌∙◌, subst}
+use Rattle.inf_base.specs.declared.id.Id.{Id}
 use Rattle.std.specs.List.{list_all}
 use Rattle.std.proofs.lemmas.Bool.{both_ways}
 use Rattle.std.proofs.lemmas.Bool.Decides.{Decides-eqb}
@@ -13,7 +14,7 @@ use Rattle.inf_base.specs.declared.key.Key.{Key}
 use Rattle.inf_base.specs.declared.key.LookKey.{LookKey}
 use Rattle.inf_duty.specs.Duty.{begun, given_up_in}
 use Rattle.inf_duty.proofs.BegunKept.{IsKept, if_both, kept_begun}
-use Rattle.inf_flow_dir.specs.Client.{Client, Ending, Sent, Stage, act, answers, call_ref, compose, finished, has_place, idle as idle_client, is_told, placed, retries, round, winds, wound}
+use Rattle.inf_flow_dir.specs.Client.{ClientState, Ending, Sent, Stage, act, answers, call_ref, compose, finished, has_place, idle as idle_client, is_told, placed, retries, round, winds, wound}
 use Rattle.inf_flow_dir.specs.Flow.{Who, clean_up, message_of}
 use Rattle.inf_flow_dir.specs.Group.{Course, composed_stage, group, keys_of, next_course}
 use Rattle.inf_flow_dir.specs.Heard.{heard}
@@ -38,15 +39,15 @@ use Rattle.inf_message.specs.declared.request.Request.TheVariants as request
 use Rattle.inf_message.specs.History.{Told, told_reply}
 use Rattle.inf_server.specs.Chains.{before_last}
 
-abbrev pub call_of : Client → ℕ → CallRef
+abbrev pub call_of : ClientState → ℕ → CallRef
 call_of s number = record { client = s.who.client; number = number }
 
 -- the client's calls but the one under way have nothing in hand
-abbrev pub OthersIdle : Phases → Client → Type 0
+abbrev pub OthersIdle : Phases → ClientState → Type 0
 OthersIdle phases s = (number : ℕ) → number ≢ s.number → phases (call_of s number) ≡ idle
 
-pub record InHand (phases : Phases) (s : Client) : Type 0 where
-  pub phase : HasPhase s.who s.stage (phases (call_ref s))
+pub record InHand (digest : List ℕ → Id) (phases : Phases) (s : ClientState) : Type 0 where
+  pub phase : HasPhase digest s.who s.stage (phases (call_ref s))
   pub others : OthersIdle phases s
   pub may : StageMay s.who.caller s.stage
 
@@ -55,7 +56,7 @@ IsCleanUp (winds ending m ms) = Unit {0}
 IsCleanUp other_stage = ⊥
 
 -- what is asked of a reply to the client's Ask
-pub record Answering (s : Client) (ask : Ask) (given : Reply) : Type 0 where
+pub record Answering (s : ClientState) (ask : Ask) (given : Reply) : Type 0 where
   pub same : heard given ≡ given
   pub cleans : IsCleanUp s.stage → given ≡ reply.Fine
   pub reserves : (chain : List Entry) (name : List ℕ) (version : ℕ) → ask.request ≡ request.Reserve chain name → given ≡ reply.Reserved version
@@ -64,139 +65,139 @@ pub record Answering (s : Client) (ask : Ask) (given : Reply) : Type 0 where
 
 -- ---- the calls of a client
 
-all_idle : (phases : Phases) (s : Client) → phases (call_ref s) ≡ idle → OthersIdle phases s → (number : ℕ) → phases (call_of s number) ≡ idle
+all_idle : (phases : Phases) (s : ClientState) → phases (call_ref s) ≡ idle → OthersIdle phases s → (number : ℕ) → phases (call_of s number) ≡ idle
 all_idle phases s here others number = by (number == s.number) refl
   where
     by : (b : Bool) → (number == s.number) ≡ b → phases (call_of s number) ≡ idle
     by true same = subst (λ (n : ℕ). phases (call_of s n) ≡ idle) (sym ((Decides-eqb number s.number).0 same)) here
     by false unlike = others number (λ same. both_ways _ unlike ((Decides-eqb number s.number).1 same))
 
-pub idle_in_hand : (phases : Phases) (who : Who) (calls : List Call)
-    → ((number : ℕ) → phases (record { client = who.client; number = number }) ≡ idle) → InHand phases (idle_client who calls)
-idle_in_hand phases who calls all = record { phase = all 1; others = λ number apart. all number; may = tt }
+pub idle_in_hand : (digest : List ℕ → Id) (phases : Phases) (who : Who) (calls : List Call)
+    → ((number : ℕ) → phases (record { client = who.client; number = number }) ≡ idle) → InHand digest phases (idle_client who calls)
+idle_in_hand digest phases who calls all = record { phase = all 1; others = λ number apart. all number; may = tt }
 
-finished_in_hand : (phases : Phases) (ending : Ending) (s : Client) → ((number : ℕ) → phases (call_of s number) ≡ idle) → InHand phases (finished ending s)
-finished_in_hand phases (answers given place) s all = record { phase = all (s.number + 1); others = λ number apart. all number; may = tt }
-finished_in_hand phases retries s all = record { phase = all s.number; others = λ number apart. all number; may = tt }
+finished_in_hand : (digest : List ℕ → Id) (phases : Phases) (ending : Ending) (s : ClientState) → ((number : ℕ) → phases (call_of s number) ≡ idle) → InHand digest phases (finished ending s)
+finished_in_hand digest phases (answers given place) s all = record { phase = all (s.number + 1); others = λ number apart. all number; may = tt }
+finished_in_hand digest phases retries s all = record { phase = all s.number; others = λ number apart. all number; may = tt }
 
-wound_in_hand : (phases : Phases) (ending : Ending) (more : List Message) (s : Client) → Lifts s.who.servers (phases (call_ref s)) more
-    → OthersIdle phases s → InHand phases (wound ending more s)
-wound_in_hand phases ending [] s lifts others = finished_in_hand phases ending s (all_idle phases s lifts others)
-wound_in_hand phases ending (m ∷ ms) s lifts others = record { phase = lifts; others = others; may = tt }
+wound_in_hand : (digest : List ℕ → Id) (phases : Phases) (ending : Ending) (more : List Message) (s : ClientState) → Lifts s.who.servers (phases (call_ref s)) more
+    → OthersIdle phases s → InHand digest phases (wound ending more s)
+wound_in_hand digest phases ending [] s lifts others = finished_in_hand digest phases ending s (all_idle phases s lifts others)
+wound_in_hand digest phases ending (m ∷ ms) s lifts others = record { phase = lifts; others = others; may = tt }
 
-turned_in_hand : (phases : Phases) (t : Turn) (s : Client) → TurnHas s.who (phases (call_ref s)) t → OthersIdle phases s → InHand phases (turned t s)
-turned_in_hand phases (goes_on next) s has others = record { phase = has.0; others = others; may = has.1 }
-turned_in_hand phases (winds_up ending more) s has others = wound_in_hand phases ending more s has others
+turned_in_hand : (digest : List ℕ → Id) (phases : Phases) (t : Turn) (s : ClientState) → TurnHas digest s.who (phases (call_ref s)) t → OthersIdle phases s → InHand digest phases (turned t s)
+turned_in_hand digest phases (goes_on next) s has others = record { phase = has.0; others = others; may = has.1 }
+turned_in_hand digest phases (winds_up ending more) s has others = wound_in_hand digest phases ending more s has others
 
 -- ---- before a group
 
-keys_in_hand : (phases : Phases) (s : Client) (found : Option Course) → phases (call_ref s) ≡ idle → OthersIdle phases s
-    → InHand phases (record s { stage = keys_of s.who found })
-keys_in_hand phases s None here others = record { phase = here; others = others; may = tt }
-keys_in_hand phases s (Some course) here others = record { phase = here; others = others; may = tt }
+keys_in_hand : (digest : List ℕ → Id) (phases : Phases) (s : ClientState) (found : Option Course) → phases (call_ref s) ≡ idle → OthersIdle phases s
+    → InHand digest phases (record s { stage = keys_of digest s.who found })
+keys_in_hand digest phases s None here others = record { phase = here; others = others; may = tt }
+keys_in_hand digest phases s (Some course) here others = record { phase = here; others = others; may = tt }
 
-composed_in_hand : (phases : Phases) (s : Client) (stage : Stage) → HasPhase s.who stage (phases (call_ref s)) → OthersIdle phases s
-    → StageMay s.who.caller stage → InHand phases (record s { stage = composed_stage s stage })
-composed_in_hand phases s compose here others may = keys_in_hand phases s (next_course s.left) here others
-composed_in_hand phases s (round keys) here others may = record { phase = here; others = others; may = may }
-composed_in_hand phases s (act flow) here others may = record { phase = here; others = others; may = may }
-composed_in_hand phases s (winds ending m ms) here others may = record { phase = here; others = others; may = may }
+composed_in_hand : (digest : List ℕ → Id) (phases : Phases) (s : ClientState) (stage : Stage) → HasPhase digest s.who stage (phases (call_ref s)) → OthersIdle phases s
+    → StageMay s.who.caller stage → InHand digest phases (record s { stage = composed_stage digest s stage })
+composed_in_hand digest phases s compose here others may = keys_in_hand digest phases s (next_course s.left) here others
+composed_in_hand digest phases s (round keys) here others may = record { phase = here; others = others; may = may }
+composed_in_hand digest phases s (act flow) here others may = record { phase = here; others = others; may = may }
+composed_in_hand digest phases s (winds ending m ms) here others may = record { phase = here; others = others; may = may }
 
-given_up_at : (phases : Phases) (s : Client) (stage : Stage) → HasPhase s.who stage (phases (call_ref s)) → InHand phases s
-    → InHand phases (given_up_in s stage)
-given_up_at phases s (act flow) here hand =
-    wound_in_hand phases (answers answer.NoMemory None) (clean_up s.who flow) s (clean_up_lifts s.who flow (phases (call_ref s)) here) hand.others
-given_up_at phases s (winds ending m ms) here hand = hand
-given_up_at phases s compose here hand = finished_in_hand phases (answers answer.NoMemory None) s (all_idle phases s here hand.others)
-given_up_at phases s (round keys) here hand = finished_in_hand phases (answers answer.NoMemory None) s (all_idle phases s here hand.others)
+given_up_at : (digest : List ℕ → Id) (phases : Phases) (s : ClientState) (stage : Stage) → HasPhase digest s.who stage (phases (call_ref s)) → InHand digest phases s
+    → InHand digest phases (given_up_in s stage)
+given_up_at digest phases s (act flow) here hand =
+    wound_in_hand digest phases (answers answer.NoMemory None) (clean_up s.who flow) s (clean_up_lifts s.who flow (phases (call_ref s)) here.0) hand.others
+given_up_at digest phases s (winds ending m ms) here hand = hand
+given_up_at digest phases s compose here hand = finished_in_hand digest phases (answers answer.NoMemory None) s (all_idle phases s here hand.others)
+given_up_at digest phases s (round keys) here hand = finished_in_hand digest phases (answers answer.NoMemory None) s (all_idle phases s here hand.others)
 
-in_hand_kept : (phases : Phases) → IsKept (InHand phases)
-in_hand_kept phases = record {
-  composing = λ s hand. composed_in_hand phases s s.stage hand.phase hand.others hand.may;
-  giving_up = λ s hand. given_up_at phases s s.stage hand.phase hand;
+in_hand_kept : (digest : List ℕ → Id) (phases : Phases) → IsKept digest (InHand digest phases)
+in_hand_kept digest phases = record {
+  composing = λ s hand. composed_in_hand digest phases s s.stage hand.phase hand.others hand.may;
+  giving_up = λ s hand. given_up_at digest phases s s.stage hand.phase hand;
 }
 
-pub begun_in_hand : (phases : Phases) (ask : Ask) (s : Client) → InHand phases s → InHand phases (begun ask s.sent s)
-begun_in_hand phases ask s hand = kept_begun (InHand phases) (in_hand_kept phases) ask s.sent s hand
+pub begun_in_hand : (digest : List ℕ → Id) (phases : Phases) (ask : Ask) (s : ClientState) → InHand digest phases s → InHand digest phases (begun digest ask s.sent s)
+begun_in_hand digest phases ask s hand = kept_begun digest (InHand digest phases) (in_hand_kept digest phases) ask s.sent s hand
 
-pub placed_in_hand : (phases : Phases) (place : ℕ) (s : Client) → InHand phases s → InHand phases (placed place s)
-placed_in_hand phases place s hand = record { phase = hand.phase; others = hand.others; may = hand.may }
+pub placed_in_hand : (digest : List ℕ → Id) (phases : Phases) (place : ℕ) (s : ClientState) → InHand digest phases s → InHand digest phases (placed place s)
+placed_in_hand digest phases place s hand = record { phase = hand.phase; others = hand.others; may = hand.may }
 
 -- ---- once an Ask was served
 
 -- another client's calls have in hand what they had
-pub apart_in_hand : (by : CallRef) (phase : Phase) (phases : Phases) (s : Client) → by.client ≢ s.who.client → InHand phases s
-    → InHand (with_phase by phase phases) s
-apart_in_hand by phase phases s apart hand =
+pub apart_in_hand : (digest : List ℕ → Id) (by : CallRef) (phase : Phase) (phases : Phases) (s : ClientState) → by.client ≢ s.who.client → InHand digest phases s
+    → InHand digest (with_phase by phase phases) s
+apart_in_hand digest by phase phases s apart hand =
     let other : (number : ℕ) → with_phase by phase phases (call_of s number) ≡ phases (call_of s number) =
     λ number. phase_apart by phase phases (call_of s number) (λ same. apart (sym (ap (λ (c : CallRef). c.client) same))) in
     record {
-      phase = subst (λ (p : Phase). HasPhase s.who s.stage p) (sym (other s.number)) hand.phase;
+      phase = subst (λ (p : Phase). HasPhase digest s.who s.stage p) (sym (other s.number)) hand.phase;
       others = λ number unlike. other number ∙ hand.others number unlike;
       may = hand.may;
     }
 
-others_stay : (phases : Phases) (s : Client) (phase : Phase) → OthersIdle phases s → OthersIdle (with_phase (call_ref s) phase phases) s
+others_stay : (phases : Phases) (s : ClientState) (phase : Phase) → OthersIdle phases s → OthersIdle (with_phase (call_ref s) phase phases) s
 others_stay phases s phase others number unlike =
     phase_apart (call_ref s) phase phases (call_of s number) (λ same. unlike (ap (λ (c : CallRef). c.number) same)) ∙ others number unlike
 
 -- the client at this stage of its call, with these Asks
-abbrev pub staged : Client → Stage → List Sent → Client
+abbrev pub staged : ClientState → Stage → List Sent → ClientState
 staged s stage sent = record s { stage = stage; sent = sent }
 
 abbrev pub one_ask : ℕ → Option Told → List Sent
 one_ask place told = record { place = place; told = told } ∷ []
 
 -- the client whose one Ask was answered
-abbrev pub answered : ℕ → Told → Stage → Client → Client
+abbrev pub answered : ℕ → Told → Stage → ClientState → ClientState
 answered place told stage s =
     record s { stage = stage; sent = one_ask place (Some told); counts = record s.counts { last = later_place s.counts.last told.serve_place } }
 
 -- a group of one message is over with its answer
-pub served_one : (P : Client → Type 0) (s : Client) (stage : Stage) (place : ℕ) (told : Told) → length (group s.who stage) ≡ 1
-    → P (turned (turn_at (answered place told stage s) stage) (answered place told stage s)) → P (served place told (staged s stage (one_ask place None)))
-served_one P s stage place told one now = by (place == place) ((Decides-eqb place place).1 refl)
+pub served_one : (digest : List ℕ → Id) (P : ClientState → Type 0) (s : ClientState) (stage : Stage) (place : ℕ) (told : Told) → length (group s.who stage) ≡ 1
+    → P (turned (turn_at digest (answered place told stage s) stage) (answered place told stage s)) → P (served digest place told (staged s stage (one_ask place None)))
+served_one digest P s stage place told one now = by (place == place) ((Decides-eqb place place).1 refl)
   where
     by : (b : Bool) → b ≡ true
-        → P (if b || false then after_record (record s {
+        → P (if b || false then after_record digest (record s {
           stage = stage;
           sent = (if b then record { place = place; told = Some told } else record { place = place; told = None }) ∷ [];
           counts = record s.counts { last = later_place s.counts.last told.serve_place };
         }) else staged s stage (one_ask place None))
-    by true same = subst (λ (n : ℕ). P (settled ((1 == n) && list_all is_told (one_ask place (Some told))) (answered place told stage s))) (sym one) now
+    by true same = subst (λ (n : ℕ). P (settled digest ((1 == n) && list_all is_told (one_ask place (Some told))) (answered place told stage s))) (sym one) now
     by false same = absurd cc
 
-one_in_hand : (phases : Phases) (s : Client) (stage : Stage) (place : ℕ) (told : Told) (phase : Phase) → length (group s.who stage) ≡ 1
-    → TurnHas s.who phase (turn_at (answered place told stage s) stage) → OthersIdle phases s
-    → InHand (with_phase (call_ref s) phase phases) (served place told (staged s stage (one_ask place None)))
-one_in_hand phases s stage place told phase one has others =
+one_in_hand : (digest : List ℕ → Id) (phases : Phases) (s : ClientState) (stage : Stage) (place : ℕ) (told : Told) (phase : Phase) → length (group s.who stage) ≡ 1
+    → TurnHas digest s.who phase (turn_at digest (answered place told stage s) stage) → OthersIdle phases s
+    → InHand digest (with_phase (call_ref s) phase phases) (served digest place told (staged s stage (one_ask place None)))
+one_in_hand digest phases s stage place told phase one has others =
     let now = with_phase (call_ref s) phase phases in
-    let t = turn_at (answered place told stage s) stage in
-    served_one (λ (c : Client). InHand now c) s stage place told one
-    (turned_in_hand now t (answered place told stage s)
-    (subst (λ (p : Phase). TurnHas s.who p t) (sym (phase_here (call_ref s) phase phases)) has) (others_stay phases s phase others))
+    let t = turn_at digest (answered place told stage s) stage in
+    served_one digest (λ (c : ClientState). InHand digest now c) s stage place told one
+    (turned_in_hand digest now t (answered place told stage s)
+    (subst (λ (p : Phase). TurnHas digest s.who p t) (sym (phase_here (call_ref s) phase phases)) has) (others_stay phases s phase others))
 
-settled_in_hand : (phases : Phases) (b : Bool) (s : Client) → InHand phases s → TurnHas s.who (phases (call_ref s)) (turn_at s s.stage)
-    → InHand phases (settled b s)
-settled_in_hand phases true s hand has = turned_in_hand phases (turn_at s s.stage) s has hand.others
-settled_in_hand phases false s hand has = hand
+settled_in_hand : (digest : List ℕ → Id) (phases : Phases) (b : Bool) (s : ClientState) → InHand digest phases s → TurnHas digest s.who (phases (call_ref s)) (turn_at digest s s.stage)
+    → InHand digest phases (settled digest b s)
+settled_in_hand digest phases true s hand has = turned_in_hand digest phases (turn_at digest s s.stage) s has hand.others
+settled_in_hand digest phases false s hand has = hand
 
-round_in_hand : (phases : Phases) (s : Client) (keys : List LookKey) (sent : List Sent) (place : ℕ) (told : Told) → phases (call_ref s) ≡ idle
-    → OthersIdle phases s → InHand phases (served place told (staged s (round keys) sent))
-round_in_hand phases s keys sent place told none others =
+round_in_hand : (digest : List ℕ → Id) (phases : Phases) (s : ClientState) (keys : List LookKey) (sent : List Sent) (place : ℕ) (told : Told) → phases (call_ref s) ≡ idle
+    → OthersIdle phases s → InHand digest phases (served digest place told (staged s (round keys) sent))
+round_in_hand digest phases s keys sent place told none others =
     let now = recorded place told (staged s (round keys) sent) in
-    if_both (InHand phases) (has_place place sent) (after_record now) (staged s (round keys) sent)
-    (settled_in_hand phases (is_complete now) now (record { phase = none; others = others; may = tt })
-    (round_has s.who (phases (call_ref s)) none s.left now.sent))
+    if_both (InHand digest phases) (has_place place sent) (after_record digest now) (staged s (round keys) sent)
+    (settled_in_hand digest phases (is_complete now) now (record { phase = none; others = others; may = tt })
+    (round_has digest s.who (phases (call_ref s)) none s.left now.sent))
     (record { phase = none; others = others; may = tt })
 
-module _ (service : Service) (A : ℕ → Request → Type 0) (T : Key → Access → Type 0) (s : Client) (index place number serve_place : ℕ)
+module _ (service : Service) (A : ℕ → Request → Type 0) (T : Key → Access → Type 0) (s : ClientState) (index place number serve_place : ℕ)
     (asked : Request) (given : Reply) (phases : Phases) where
   abbrev after : Request → Phases
   after r = with_phase (call_ref s) (next_phase service place (phases (call_ref s)) r given) phases
 
   abbrev Comes : Stage → List Sent → Request → Type 0
-  Comes stage sent r = InHand (after r) (served place (told_reply serve_place given) (staged s stage sent))
+  Comes stage sent r = InHand service.digest (after r) (served service.digest place (told_reply serve_place given) (staged s stage sent))
 
   come : (m : Message) (stage : Stage) (sent : List Sent) → IsAlone m sent place number asked → Comes stage (one_ask place None) m.request
       → Comes stage sent asked
@@ -204,44 +205,44 @@ module _ (service : Service) (A : ℕ → Request → Type 0) (T : Key → Acces
       subst (λ (r : Request). Comes stage sent r) (ap (λ (x : Message). x.request) is.message)
       (subst (λ (xs : List Sent). Comes stage xs m.request) (sym is.sent_alone) one)
 
-  stage_in_hand : (stage : Stage) (sent : List Sent) → s.who.digest ≡ service.digest → HasPhase s.who stage (phases (call_ref s)) → OthersIdle phases s
+  stage_in_hand : (stage : Stage) (sent : List Sent) → HasPhase service.digest s.who stage (phases (call_ref s)) → OthersIdle phases s
       → StageMay s.who.caller stage → StandsOn T stage → AreAskedFor A (group s.who stage) sent
       → slice_get sent index ≡ Some (record { place = place; told = None })
       → slice_get (group s.who stage) index ≡ Some (record { number = number; request = asked }) → MayGoOn s.who.caller asked given
       → (IsCleanUp stage → given ≡ reply.Fine) → Comes stage sent asked
-  stage_in_hand compose sent digest phase others may stands asks there is goes cleans = absurd cc
-  stage_in_hand (round keys) sent digest phase others may stands asks there is goes cleans =
+  stage_in_hand compose sent phase others may stands asks there is goes cleans = absurd cc
+  stage_in_hand (round keys) sent phase others may stands asks there is goes cleans =
       let look = look_in s.who keys index number asked is in
       subst (λ (r : Request). Comes (round keys) sent r) (sym look.is)
-      (subst (λ (ps : Phases). InHand ps (served place (told_reply serve_place given) (staged s (round keys) sent))) (sym (same_phases (call_ref s) phases))
-      (round_in_hand phases s keys sent place (told_reply serve_place given) phase others))
-  stage_in_hand (act flow) sent digest phase others may stands asks there is goes cleans =
+      (subst (λ (ps : Phases). InHand service.digest ps (served service.digest place (told_reply serve_place given) (staged s (round keys) sent))) (sym (same_phases (call_ref s) phases))
+      (round_in_hand service.digest phases s keys sent place (told_reply serve_place given) phase others))
+  stage_in_hand (act flow) sent phase others may stands asks there is goes cleans =
       let m = message_of s.who flow in
       let one = alone A m sent index place number asked there is asks in
       let same : asked ≡ m.request = sym (ap (λ (x : Message). x.request) one.message) in
       come m (act flow) sent one
-      (one_in_hand phases s (act flow) place (told_reply serve_place given) (next_phase service place (phases (call_ref s)) m.request given) refl
-      (act_has service s.who place serve_place (phases (call_ref s)) flow given digest phase may stands.links_up
+      (one_in_hand service.digest phases s (act flow) place (told_reply serve_place given) (next_phase service place (phases (call_ref s)) m.request given) refl
+      (act_has service s.who place serve_place (phases (call_ref s)) flow given phase.0 phase.1 may stands.links_up
       (subst (λ (r : Request). MayGoOn s.who.caller r given) same goes)) others)
-  stage_in_hand (winds ending m ms) sent digest phase others may stands asks there is goes cleans =
+  stage_in_hand (winds ending m ms) sent phase others may stands asks there is goes cleans =
       let one = alone A m sent index place number asked there is asks in
       let lifts = ap (next_phase service place (phases (call_ref s)) m.request) (cleans tt) ∙ lifted_by service place s.who.servers (phases (call_ref s)) m phase.0 in
       come m (winds ending m ms) sent one
-      (one_in_hand phases s (winds ending m ms) place (told_reply serve_place given) (next_phase service place (phases (call_ref s)) m.request given) refl
+      (one_in_hand service.digest phases s (winds ending m ms) place (told_reply serve_place given) (next_phase service place (phases (call_ref s)) m.request given) refl
       (subst (λ (p : Phase). Lifts s.who.servers p ms) (sym lifts) phase.1) others)
 
-pub served_in_hand : (service : Service) (A : ℕ → Request → Type 0) (T : Key → Access → Type 0) (s : Client) (place number serve_place : ℕ)
+pub served_in_hand : (service : Service) (A : ℕ → Request → Type 0) (T : Key → Access → Type 0) (s : ClientState) (place number serve_place : ℕ)
     (ask : Ask) (given : Reply) (phases : Phases)
-    → s.who.servers ≡ service.servers → s.who.digest ≡ service.digest
-    → InHand phases s → AsksItsGroup A s → KnowsOnly T s → Waits s place number ask → Answering s ask given
-    → InHand (with_phase ask.from (next_phase service place (phases ask.from) ask.request given) phases)
-    (served place (told_reply serve_place (heard given)) s)
-served_in_hand service A T s place number serve_place ask given phases servers digest hand asks knows waits answering =
+    → s.who.servers ≡ service.servers
+    → InHand service.digest phases s → AsksItsGroup A s → KnowsOnly T s → Waits s place number ask → Answering s ask given
+    → InHand service.digest (with_phase ask.from (next_phase service place (phases ask.from) ask.request given) phases)
+    (served service.digest place (told_reply serve_place (heard given)) s)
+served_in_hand service A T s place number serve_place ask given phases servers hand asks knows waits answering =
     let may : MayGoOn s.who.caller ask.request given =
     subst (λ (caller : Caller). MayGoOn caller ask.request given) waits.caller (record { reserves = answering.reserves; seals = answering.seals }) in
-    subst (λ (r : Reply). InHand (with_phase ask.from (next_phase service place (phases ask.from) ask.request given) phases) (served place (told_reply serve_place r) s))
+    subst (λ (r : Reply). InHand service.digest (with_phase ask.from (next_phase service place (phases ask.from) ask.request given) phases) (served service.digest place (told_reply serve_place r) s))
     (sym answering.same)
-    (subst (λ (by : CallRef). InHand (with_phase by (next_phase service place (phases by) ask.request given) phases) (served place (told_reply serve_place given) s))
+    (subst (λ (by : CallRef). InHand service.digest (with_phase by (next_phase service place (phases by) ask.request given) phases) (served service.digest place (told_reply serve_place given) s))
     (sym waits.from)
-    (stage_in_hand service A T s waits.index place number serve_place ask.request given phases s.stage s.sent digest hand.phase hand.others hand.may knows.stands
+    (stage_in_hand service A T s waits.index place number serve_place ask.request given phases s.stage s.sent hand.phase hand.others hand.may knows.stands
     asks.asked waits.sent waits.message may answering.cleans))

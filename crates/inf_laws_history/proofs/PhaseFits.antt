@@ -3,11 +3,12 @@ use Rattle.std.proofs.Common.{◌≡◌, ℕ, List, slice_get, Option, Some, Non
 use Rattle.inf_base.specs.declared.access.Access.{Access}
 use Rattle.inf_base.specs.declared.caller.CallRef.{CallRef}
 use Rattle.inf_base.specs.declared.entry.Entry.{Entry}
+use Rattle.inf_base.specs.declared.id.Id.{Id}
 use Rattle.inf_base.specs.declared.item.Item.{Item}
 use Rattle.inf_base.specs.declared.key.Key.{Key}
 use Rattle.inf_base.specs.Identity.{server_of}
 use Rattle.inf_content.specs.Contents.{dropped_at, lifted_at, unsealed_at}
-use Rattle.inf_flow_dir.specs.Client.{Client, Stage, act, call_ref, compose, round, winds}
+use Rattle.inf_flow_dir.specs.Client.{ClientState, Stage, act, call_ref, compose, round, winds}
 use Rattle.inf_flow_dir.specs.Flow.{Flow, Who, dir_in, finishes, links, makes, message_of, reserves, seals, unlinks}
 use Rattle.inf_flow_dir.specs.Group.{group}
 use Rattle.inf_flow_dir.specs.Heard.{heard}
@@ -42,10 +43,10 @@ flow_fits : (who : Who) (flow : Flow) (phase : Phase) → FlowHas who flow phase
     → Fits phase (message_of who flow).request
 flow_fits who (finishes chain asked) phase has may up = subst (λ (p : Phase). Fits p (request.Finish chain asked)) (sym has) tt
 flow_fits who (reserves chain name mode) phase has may up = subst (λ (p : Phase). Fits p (request.Reserve chain name)) (sym has) tt
-flow_fits who (makes chain name mode version) phase has may up =
-    subst (λ (p : Phase). Fits p (message_of who (makes chain name mode version)).request) (sym has) refl
-flow_fits who (links chain name mode version born) phase has may up =
-    subst (λ (p : Phase). Fits p (message_of who (links chain name mode version born)).request) (sym has) (ends_in (last_of chain) may.last may.ends, refl, refl)
+flow_fits who (makes chain name mode version id) phase has may up =
+    subst (λ (p : Phase). Fits p (message_of who (makes chain name mode version id)).request) (sym has) refl
+flow_fits who (links chain name mode version dir) phase has may up =
+    subst (λ (p : Phase). Fits p (message_of who (links chain name mode version dir)).request) (sym has) (ends_in (last_of chain) may.last may.ends, refl, refl)
 flow_fits who (seals chain) phase has may up = subst (λ (p : Phase). Fits p (request.Seal chain)) (sym has) tt
 flow_fits who (unlinks chain) phase has may up =
     let under = ends_under chain may.last up may.ends in
@@ -59,29 +60,29 @@ lifted_fits servers (has_made parent name birth made) m is = subst (λ (x : Mess
 lifted_fits servers (has_sealed parent name target) m is = subst (λ (x : Message). Fits (has_sealed parent name target) x.request) (sym is) refl
 lifted_fits servers (has_unlinked target) m is = subst (λ (x : Message). Fits (has_unlinked target) x.request) (sym is) refl
 
-stage_fits : (T : Key → Access → Type 0) (who : Who) (stage : Stage) (index number : ℕ) (asked : Request) (phase : Phase) → HasPhase who stage phase
+stage_fits : (digest : List ℕ → Id) (T : Key → Access → Type 0) (who : Who) (stage : Stage) (index number : ℕ) (asked : Request) (phase : Phase) → HasPhase digest who stage phase
     → StageMay who.caller stage → StandsOn T stage → slice_get (group who stage) index ≡ Some (record { number = number; request = asked })
     → Fits phase asked
-stage_fits T who compose index number asked phase has may stands is = absurd cc
-stage_fits T who (round keys) index number asked phase has may stands is =
+stage_fits digest T who compose index number asked phase has may stands is = absurd cc
+stage_fits digest T who (round keys) index number asked phase has may stands is =
     let look = look_in who keys index number asked is in
     subst (λ (r : Request). Fits phase r) (sym look.is) (subst (λ (p : Phase). Fits p (request.Lookup look.k)) (sym has) tt)
-stage_fits T who (act flow) index number asked phase has may stands is =
-    subst (λ (x : Message). Fits phase x.request) (only_one (message_of who flow) index number asked is) (flow_fits who flow phase has may stands.links_up)
-stage_fits T who (winds ending m ms) index number asked phase has may stands is =
+stage_fits digest T who (act flow) index number asked phase has may stands is =
+    subst (λ (x : Message). Fits phase x.request) (only_one (message_of who flow) index number asked is) (flow_fits who flow phase has.0 may stands.links_up)
+stage_fits digest T who (winds ending m ms) index number asked phase has may stands is =
     subst (λ (x : Message). Fits phase x.request) (only_one m index number asked is) (lifted_fits who.servers phase m has.0)
 
-pub fits_phase : (T : Key → Access → Type 0) (s : Client) (place number : ℕ) (ask : Ask) (phases : Phases)
-    → HasPhase s.who s.stage (phases (call_ref s)) → StageMay s.who.caller s.stage → KnowsOnly T s → Waits s place number ask
+pub fits_phase : (digest : List ℕ → Id) (T : Key → Access → Type 0) (s : ClientState) (place number : ℕ) (ask : Ask) (phases : Phases)
+    → HasPhase digest s.who s.stage (phases (call_ref s)) → StageMay s.who.caller s.stage → KnowsOnly T s → Waits s place number ask
     → Fits (phases ask.from) ask.request
-fits_phase T s place number ask phases phase may knows waits =
+fits_phase digest T s place number ask phases phase may knows waits =
     subst (λ (by : CallRef). Fits (phases by) ask.request) (sym waits.from)
-    (stage_fits T s.who s.stage waits.index number ask.request (phases (call_ref s)) phase may knows.stands waits.message)
+    (stage_fits digest T s.who s.stage waits.index number ask.request (phases (call_ref s)) phase may knows.stands waits.message)
 
 -- what a client asks fits what its call has in hand
-pub fits : (T : Key → Access → Type 0) (s : Client) (place number : ℕ) (ask : Ask) (phases : Phases)
-    → InHand phases s → KnowsOnly T s → Waits s place number ask → Fits (phases ask.from) ask.request
-fits T s place number ask phases hand knows waits = fits_phase T s place number ask phases hand.phase hand.may knows waits
+pub fits : (digest : List ℕ → Id) (T : Key → Access → Type 0) (s : ClientState) (place number : ℕ) (ask : Ask) (phases : Phases)
+    → InHand digest phases s → KnowsOnly T s → Waits s place number ask → Fits (phases ask.from) ask.request
+fits digest T s place number ask phases hand knows waits = fits_phase digest T s place number ask phases hand.phase hand.may knows waits
 
 -- ---- clean-ups are done
 
@@ -100,22 +101,22 @@ lifted_home servers (has_made parent name birth made) m is = subst (λ (x : Mess
 lifted_home servers (has_sealed parent name target) m is = subst (λ (x : Message). IsSentHome servers x.number x.request) (sym is) refl
 lifted_home servers (has_unlinked target) m is = subst (λ (x : Message). IsSentHome servers x.number x.request) (sym is) refl
 
-stage_home : (who : Who) (stage : Stage) (index number : ℕ) (asked : Request) (phase : Phase) → HasPhase who stage phase → IsCleanUp stage
+stage_home : (digest : List ℕ → Id) (who : Who) (stage : Stage) (index number : ℕ) (asked : Request) (phase : Phase) → HasPhase digest who stage phase → IsCleanUp stage
     → slice_get (group who stage) index ≡ Some (record { number = number; request = asked }) → IsSentHome who.servers number asked
-stage_home who compose index number asked phase has cleans is = absurd cleans
-stage_home who (round keys) index number asked phase has cleans is = absurd cleans
-stage_home who (act flow) index number asked phase has cleans is = absurd cleans
-stage_home who (winds ending m ms) index number asked phase has cleans is =
+stage_home digest who compose index number asked phase has cleans is = absurd cleans
+stage_home digest who (round keys) index number asked phase has cleans is = absurd cleans
+stage_home digest who (act flow) index number asked phase has cleans is = absurd cleans
+stage_home digest who (winds ending m ms) index number asked phase has cleans is =
     subst (λ (x : Message). IsSentHome who.servers x.number x.request) (only_one m index number asked is) (lifted_home who.servers phase m has.0)
 
-pub sent_home : (s : Client) (place number : ℕ) (ask : Ask) (phases : Phases)
-    → HasPhase s.who s.stage (phases (call_ref s)) → Waits s place number ask → IsCleanUp s.stage → IsSentHome s.who.servers number ask.request
-sent_home s place number ask phases phase waits cleans =
-    stage_home s.who s.stage waits.index number ask.request (phases (call_ref s)) phase cleans waits.message
+pub sent_home : (digest : List ℕ → Id) (s : ClientState) (place number : ℕ) (ask : Ask) (phases : Phases)
+    → HasPhase digest s.who s.stage (phases (call_ref s)) → Waits s place number ask → IsCleanUp s.stage → IsSentHome s.who.servers number ask.request
+sent_home digest s place number ask phases phase waits cleans =
+    stage_home digest s.who s.stage waits.index number ask.request (phases (call_ref s)) phase cleans waits.message
 
-pub right_server : (s : Client) (place number : ℕ) (ask : Ask) (phases : Phases)
-    → InHand phases s → Waits s place number ask → IsCleanUp s.stage → IsSentHome s.who.servers number ask.request
-right_server s place number ask phases hand waits cleans = sent_home s place number ask phases hand.phase waits cleans
+pub right_server : (digest : List ℕ → Id) (s : ClientState) (place number : ℕ) (ask : Ask) (phases : Phases)
+    → InHand digest phases s → Waits s place number ask → IsCleanUp s.stage → IsSentHome s.who.servers number ask.request
+right_server digest s place number ask phases hand waits cleans = sent_home digest s place number ask phases hand.phase waits cleans
 
 module _ (service : Service) (number place : ℕ) (ask : Ask) (given : Reply) (old new : State) where
   done_home : (asked : Request) → Serves (site_in service number) old place ask given new → ask.request ≡ asked → IsSentHome service.servers number asked
@@ -134,12 +135,12 @@ module _ (service : Service) (number place : ℕ) (ask : Ask) (given : Reply) (o
       (record old { renames = forgotten parent dir old.renames }) given serves is refl refl (kept_here service number old place ask new parent here)
   done_home other_request serves is here = absurd here
 
-pub clean_up_done : (service : Service) (s : Client) (place number : ℕ) (ask : Ask) (given : Reply) (phases : Phases) (old new : State)
-    → s.who.servers ≡ service.servers → HasPhase s.who s.stage (phases (call_ref s)) → Waits s place number ask
+pub clean_up_done : (service : Service) (s : ClientState) (place number : ℕ) (ask : Ask) (given : Reply) (phases : Phases) (old new : State)
+    → s.who.servers ≡ service.servers → HasPhase service.digest s.who s.stage (phases (call_ref s)) → Waits s place number ask
     → Serves (site_in service number) old place ask given new → IsCleanUp s.stage → given ≡ reply.Fine
 clean_up_done service s place number ask given phases old new servers phase waits serves cleans =
     done_home service number place ask given old new ask.request serves refl
-    (subst (λ (n : ℕ). IsSentHome n number ask.request) servers (sent_home s place number ask phases phase waits cleans))
+    (subst (λ (n : ℕ). IsSentHome n number ask.request) servers (sent_home service.digest s place number ask phases phase waits cleans))
 
 -- ---- what servers reply
 
@@ -148,8 +149,8 @@ heard_same (reply.Listing items) no_listing_here = absurd (no_listing_here items
 heard_same given no_listing_here = refl
 
 -- the replies of servers are such
-pub is_answering : (service : Service) (s : Client) (place number : ℕ) (ask : Ask) (given : Reply) (phases : Phases) (old new : State)
-    → s.who.servers ≡ service.servers → InHand phases s → Waits s place number ask
+pub is_answering : (service : Service) (s : ClientState) (place number : ℕ) (ask : Ask) (given : Reply) (phases : Phases) (old new : State)
+    → s.who.servers ≡ service.servers → InHand service.digest phases s → Waits s place number ask
     → Serves (site_in service number) old place ask given new → Answering s ask given
 is_answering service s place number ask given phases old new servers hand waits serves =
     let site = site_in service number in

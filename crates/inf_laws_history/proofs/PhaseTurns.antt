@@ -16,8 +16,8 @@ use Rattle.inf_base.specs.declared.triple.Triple.TheVariants as triple
 use Rattle.inf_base.specs.Identity.{identity}
 use Rattle.inf_base.specs.Path.{path_of}
 use Rattle.inf_base.specs.Same.{dir_of}
-use Rattle.inf_flow_dir.specs.Client.{Sent, answers, retries}
-use Rattle.inf_flow_dir.specs.Flow.{Flow, Who, birth_of, clean_up, dir_in, finishes, forget_in, id_or_root, last_dir, last_id, lift, links, lives_at, makes, message_of, reserves, row_of, seals, unlinks, way_to}
+use Rattle.inf_flow_dir.specs.Client.{Sent, act, answers, retries}
+use Rattle.inf_flow_dir.specs.Flow.{Flow, HasBirthId, Who, birth_of, clean_up, dir_in, finishes, forget_in, id_or_root, last_dir, last_id, lift, links, lives_at, makes, message_of, reserves, row_of, seals, unlinks, way_to}
 use Rattle.inf_flow_dir.specs.Group.{Course, course_at, course_in, next_course, split, text_of}
 use Rattle.inf_flow_dir.specs.Turn.{Next, Turn, after_act, after_make, after_round, by_next, fails, follow, from_root, goes_on, is_busy, next_entry, steps, stops, told_entry, winds_up}
 use Rattle.inf_laws_client.specs.Told.{IsIn, LinksFrom, LinksUp, chain_of}
@@ -27,7 +27,7 @@ use Rattle.inf_laws_directory.specs.Owes.{MayWriteAt}
 use Rattle.inf_laws_directory.specs.Phases.{Phase, has_made, has_reserved, has_sealed, has_unlinked, idle}
 use Rattle.inf_laws_directory.proofs.CallFacts.{none_not_some}
 use Rattle.inf_laws_directory.proofs.Chains.{less, last_of-next, last_of-one}
-use Rattle.inf_laws_history.specs.Phases.{FlowHas, FlowMay, HasPhase, IsLiftedBy, Lifts, StageMay, lifted}
+use Rattle.inf_laws_history.specs.Phases.{FlowHas, FlowMay, HasPhase, IsLiftedBy, Lifts, SealsIn, StageMay, lifted}
 use Rattle.inf_message.specs.declared.op.Op.{Op}
 use Rattle.inf_message.specs.declared.op.Op.TheVariants as op
 use Rattle.inf_message.specs.declared.reply.Reply.{Reply}
@@ -39,9 +39,9 @@ use Rattle.inf_message.specs.History.{Told}
 use Rattle.inf_server.specs.Chains.{before_last, last_of}
 
 -- what the call has in hand is what the turn needs
-abbrev pub TurnHas : Who → Phase → Turn → Type 0
-TurnHas who phase (goes_on next) = HasPhase who next phase × StageMay who.caller next
-TurnHas who phase (winds_up ending more) = Lifts who.servers phase more
+abbrev pub TurnHas : (List ℕ → Id) → Who → Phase → Turn → Type 0
+TurnHas digest who phase (goes_on next) = HasPhase digest who next phase × StageMay who.caller next
+TurnHas digest who phase (winds_up ending more) = Lifts who.servers phase more
 
 -- ---- clean-ups
 
@@ -49,10 +49,10 @@ TurnHas who phase (winds_up ending more) = Lifts who.servers phase more
 pub clean_up_lifts : (who : Who) (flow : Flow) (phase : Phase) → FlowHas who flow phase → Lifts who.servers phase (clean_up who flow)
 clean_up_lifts who (finishes chain asked) phase has = has
 clean_up_lifts who (reserves chain name mode) phase has = has
-clean_up_lifts who (makes chain name mode version) phase has =
-    subst (λ (p : Phase). Lifts who.servers p (clean_up who (makes chain name mode version))) (sym has) (refl, refl)
-clean_up_lifts who (links chain name mode version born) phase has =
-    subst (λ (p : Phase). Lifts who.servers p (clean_up who (links chain name mode version born))) (sym has) (refl, (refl, refl))
+clean_up_lifts who (makes chain name mode version id) phase has =
+    subst (λ (p : Phase). Lifts who.servers p (clean_up who (makes chain name mode version id))) (sym has) (refl, refl)
+clean_up_lifts who (links chain name mode version dir) phase has =
+    subst (λ (p : Phase). Lifts who.servers p (clean_up who (links chain name mode version dir))) (sym has) (refl, (refl, refl))
 clean_up_lifts who (seals chain) phase has = has
 clean_up_lifts who (unlinks chain) phase has = subst (λ (p : Phase). Lifts who.servers p (clean_up who (unlinks chain))) (sym has.is) (refl, refl)
 
@@ -71,16 +71,16 @@ lifted_by service place servers (has_unlinked target) m is =
 
 -- ---- after a message of a flow that does not succeed
 
-fails_has : (who : Who) (flow : Flow) (place : ℕ) (given : Reply) (phase : Phase) → FlowHas who flow phase → TurnHas who phase (fails who flow place given)
-fails_has who flow place (reply.Busy by at born) phase has = clean_up_lifts who flow phase has
-fails_has who flow place (reply.Refused error) phase has = clean_up_lifts who flow phase has
-fails_has who flow place reply.NoMem phase has = clean_up_lifts who flow phase has
-fails_has who flow place any_reply phase has = clean_up_lifts who flow phase has
+fails_has : (digest : List ℕ → Id) (who : Who) (flow : Flow) (place : ℕ) (given : Reply) (phase : Phase) → FlowHas who flow phase → TurnHas digest who phase (fails who flow place given)
+fails_has digest who flow place (reply.Busy by at born) phase has = clean_up_lifts who flow phase has
+fails_has digest who flow place (reply.Refused error) phase has = clean_up_lifts who flow phase has
+fails_has digest who flow place reply.NoMem phase has = clean_up_lifts who flow phase has
+fails_has digest who flow place any_reply phase has = clean_up_lifts who flow phase has
 
-make_fails : (who : Who) (flow : Flow) (own : Triple) (place : ℕ) (given : Reply) (phase : Phase) → FlowHas who flow phase
-    → TurnHas who phase (after_make who flow own place given)
-make_fails who flow own place (reply.Clash kept) phase has = clean_up_lifts who flow phase has
-make_fails who flow own place any_reply phase has = fails_has who flow place any_reply phase has
+make_fails : (digest : List ℕ → Id) (who : Who) (flow : Flow) (own : Triple) (place : ℕ) (given : Reply) (phase : Phase) → FlowHas who flow phase
+    → TurnHas digest who phase (after_make who flow own place given)
+make_fails digest who flow own place (reply.Clash kept) phase has = clean_up_lifts who flow phase has
+make_fails digest who flow own place any_reply phase has = fails_has digest who flow place any_reply phase has
 
 -- ---- after a message of each kind
 
@@ -158,86 +158,88 @@ pub record MayGoOn (caller : Caller) (asked : Request) (given : Reply) : Type 0 
 
 module _ (service : Service) (who : Who) (place serve_place : ℕ) (phase : Phase) where
   abbrev Comes : Flow → Reply → Type 0
-  Comes flow given = TurnHas who (next_phase service place phase (message_of who flow).request given) (after_act who flow place serve_place given)
+  Comes flow given = TurnHas service.digest who (next_phase service place phase (message_of who flow).request given) (after_act service.digest who flow place serve_place given)
 
   finish_has : (chain : List Entry) (asked : Op) (given : Reply) → FlowHas who (finishes chain asked) phase → Comes (finishes chain asked) given
   finish_has chain (op.Create name mode) reply.Fine has = has
   finish_has chain (op.Stat name) (reply.Stat kind meta) has = has
-  finish_has chain asked given has = fails_has who (finishes chain asked) serve_place given phase has
+  finish_has chain asked given has = fails_has service.digest who (finishes chain asked) serve_place given phase has
 
   reserve_has : (chain : List Entry) (name : List ℕ) (mode : ℕ) (given : Reply) → FlowHas who (reserves chain name mode) phase
       → ((version : ℕ) → given ≡ reply.Reserved version → MayWriteAt who.caller chain) → Comes (reserves chain name mode) given
   reserve_has chain name mode (reply.Reserved version) has may =
       let at = may version refl in
-      (reserved_same who (last_of chain) at.last phase name version at.ends, at)
-  reserve_has chain name mode given has may = fails_has who (reserves chain name mode) serve_place given phase has
+      ((reserved_same who (last_of chain) at.last phase name version at.ends, refl), at)
+  reserve_has chain name mode given has may = fails_has service.digest who (reserves chain name mode) serve_place given phase has
 
-  make_has : (chain : List Entry) (name : List ℕ) (mode version : ℕ) (given : Reply) → who.digest ≡ service.digest
-      → FlowHas who (makes chain name mode version) phase → FlowMay who.caller (makes chain name mode version) → Comes (makes chain name mode version) given
-  make_has chain name mode version reply.Fine digest has may = (
-    ap (made_after service place) has
-        ∙ ap (λ (rule : List ℕ → Id). has_made (last_dir chain) name (birth_of who chain name version)
-        (record { id = identity rule (birth_of who chain name version); born = place })) (sym digest),
+  make_has : (chain : List Entry) (name : List ℕ) (mode version : ℕ) (id : Id) (given : Reply) → FlowHas who (makes chain name mode version id) phase
+      → id ≡ identity service.digest (birth_of who chain name version) → FlowMay who.caller (makes chain name mode version id)
+      → Comes (makes chain name mode version id) given
+  make_has chain name mode version id reply.Fine has of_birth may = (
+    (
+      ap (made_after service place) has
+          ∙ ap (λ (i : Id). has_made (last_dir chain) name (birth_of who chain name version) (record { id = i; born = place })) (sym of_birth),
+      of_birth,
+    ),
     may,
   )
-  make_has chain name mode version given digest has may =
-      make_fails who (makes chain name mode version) (birth_of who chain name version) serve_place given phase has
+  make_has chain name mode version id given has of_birth may =
+      make_fails service.digest who (makes chain name mode version id) (birth_of who chain name version) serve_place given phase has
 
-  link_has : (chain : List Entry) (name : List ℕ) (mode version born : ℕ) (given : Reply) → FlowHas who (links chain name mode version born) phase
-      → Comes (links chain name mode version born) given
-  link_has chain name mode version born reply.Fine has = refl
-  link_has chain name mode version born given has = fails_has who (links chain name mode version born) serve_place given phase has
+  link_has : (chain : List Entry) (name : List ℕ) (mode version : ℕ) (dir : DirRef) (given : Reply) → FlowHas who (links chain name mode version dir) phase
+      → Comes (links chain name mode version dir) given
+  link_has chain name mode version dir reply.Fine has = refl
+  link_has chain name mode version dir given has = fails_has service.digest who (links chain name mode version dir) serve_place given phase has
 
   seal_has : (chain : List Entry) (given : Reply) → FlowHas who (seals chain) phase → LinksUp chain
       → (given ≡ reply.Fine → MayWriteAt who.caller (before_last chain)) → Comes (seals chain) given
   seal_has chain reply.Fine has up may =
       let at = may refl in
-      let under = ends_under chain at.last up at.ends in (
-        record {
-          name = under.name;
-          is = sealed_same (last_of (before_last chain)) (last_of chain) phase at.last under.target under.dir under.name at.ends under.is under.key;
-        },
-        at,
-      )
-  seal_has chain given has up may = fails_has who (seals chain) serve_place given phase has
+      let under = ends_under chain at.last up at.ends in
+      let sealed : SealsIn chain (next_phase service place phase (request.Seal chain) reply.Fine) = record {
+        name = under.name;
+        is = sealed_same (last_of (before_last chain)) (last_of chain) phase at.last under.target under.dir under.name at.ends under.is under.key;
+      } in
+      ((sealed, tt), at)
+  seal_has chain given has up may = fails_has service.digest who (seals chain) serve_place given phase has
 
   unlink_has : (chain : List Entry) (given : Reply) → FlowHas who (unlinks chain) phase → LinksUp chain → FlowMay who.caller (unlinks chain)
       → Comes (unlinks chain) given
   unlink_has chain reply.Fine has up may =
       let under = ends_under chain may.last up may.ends in
       unlinked_lifts who (last_id who (way_to chain)) (last_of chain) under.target phase under.is
-  unlink_has chain given has up may = fails_has who (unlinks chain) serve_place given phase has
+  unlink_has chain given has up may = fails_has service.digest who (unlinks chain) serve_place given phase has
 
   -- whatever is replied to a flow's message, the turn needs what is in hand then
-  pub act_has : (flow : Flow) (given : Reply) → who.digest ≡ service.digest → FlowHas who flow phase → FlowMay who.caller flow → LinksUp (chain_of flow)
+  pub act_has : (flow : Flow) (given : Reply) → FlowHas who flow phase → HasBirthId service.digest who flow → FlowMay who.caller flow → LinksUp (chain_of flow)
       → MayGoOn who.caller (message_of who flow).request given → Comes flow given
-  act_has (finishes chain asked) given digest has may up goes = finish_has chain asked given has
-  act_has (reserves chain name mode) given digest has may up goes =
+  act_has (finishes chain asked) given has of_birth may up goes = finish_has chain asked given has
+  act_has (reserves chain name mode) given has of_birth may up goes =
       reserve_has chain name mode given has (λ version is. goes.reserves chain name version refl is)
-  act_has (makes chain name mode version) given digest has may up goes = make_has chain name mode version given digest has may
-  act_has (links chain name mode version born) given digest has may up goes = link_has chain name mode version born given has
-  act_has (seals chain) given digest has may up goes = seal_has chain given has up (λ is. goes.seals chain refl is)
-  act_has (unlinks chain) given digest has may up goes = unlink_has chain given has up may
+  act_has (makes chain name mode version id) given has of_birth may up goes = make_has chain name mode version id given has of_birth may
+  act_has (links chain name mode version dir) given has of_birth may up goes = link_has chain name mode version dir given has
+  act_has (seals chain) given has of_birth may up goes = seal_has chain given has up (λ is. goes.seals chain refl is)
+  act_has (unlinks chain) given has of_birth may up goes = unlink_has chain given has up may
 
 -- ---- after a round
 
-module _ (who : Who) (phase : Phase) (none : phase ≡ idle) where
+module _ (digest : List ℕ → Id) (who : Who) (phase : Phase) (none : phase ≡ idle) where
   -- a course begins with nothing in hand
   record Opens (course : Course) : Type 0 where
-    opens : (way : List Entry) → FlowHas who (course.arrive way) phase × FlowMay who.caller (course.arrive way)
+    opens : (way : List Entry) → HasPhase digest who (act (course.arrive way)) phase × FlowMay who.caller (course.arrive way)
 
   abbrev IfOpens : Option Course → Type 0
   IfOpens None = Unit {0}
   IfOpens (Some course) = Opens course
 
   opens_in : (asked : Call) (names : List (List ℕ) × List ℕ) → IfOpens (course_in asked names)
-  opens_in (call.Create path mode) (way, name) = record { opens = λ chain. (none, tt) }
-  opens_in (call.Stat path) (way, name) = record { opens = λ chain. (none, tt) }
-  opens_in (call.Mkdir path mode) (way, name) = record { opens = λ chain. (none, tt) }
+  opens_in (call.Create path mode) (way, name) = record { opens = λ chain. ((none, tt), tt) }
+  opens_in (call.Stat path) (way, name) = record { opens = λ chain. ((none, tt), tt) }
+  opens_in (call.Mkdir path mode) (way, name) = record { opens = λ chain. ((none, tt), tt) }
   opens_in other names = tt
 
   opens_at : (asked : Call) (path : Result (List (List ℕ)) Errno) → IfOpens (course_at asked path)
-  opens_at (call.Rmdir path) (Ok (name ∷ names)) = record { opens = λ chain. (none, tt) }
+  opens_at (call.Rmdir path) (Ok (name ∷ names)) = record { opens = λ chain. ((none, tt), tt) }
   opens_at asked (Ok (name ∷ names)) = opens_in asked (split name names)
   opens_at asked other = tt
 
@@ -246,39 +248,39 @@ module _ (who : Who) (phase : Phase) (none : phase ≡ idle) where
   course_opens (next ∷ calls) = opens_at next (path_of (text_of next))
 
   by_next_has : (course : Course) (chain : List Entry) (name : List ℕ) (names : List (List ℕ)) (go : Entry → Turn) (next : Next)
-      → ((e : Entry) → TurnHas who phase (go e)) → TurnHas who phase (by_next course chain name names go next)
+      → ((e : Entry) → TurnHas digest who phase (go e)) → TurnHas digest who phase (by_next course chain name names go next)
   by_next_has course chain name names go (steps e) goes = goes e
-  by_next_has course chain name names go stops goes = (none, tt)
+  by_next_has course chain name names go stops goes = ((none, tt), tt)
   by_next_has course chain name names go (is_busy given place) goes = none
 
   follow_has : (course : Course) (chain : List Entry) (before : Entry) (names : List (List ℕ)) (sent : List Sent) → Opens course
-      → TurnHas who phase (follow course chain before names sent)
+      → TurnHas digest who phase (follow course chain before names sent)
   follow_has course chain before [] sent opens = opens.opens chain
-  follow_has course chain before (name ∷ names) [] opens = (none, tt)
+  follow_has course chain before (name ∷ names) [] opens = ((none, tt), tt)
   follow_has course chain before (name ∷ names) (x ∷ xs) opens =
       by_next_has course chain name names (λ e. follow course (chain ++ e ∷ []) e names xs) (next_entry before x.told)
       (λ e. follow_has course (chain ++ e ∷ []) e names xs opens)
 
-  from_root_has : (course : Course) (xs : List Sent) (told : Told) (given : Reply) → Opens course → TurnHas who phase (from_root course xs told given)
+  from_root_has : (course : Course) (xs : List Sent) (told : Told) (given : Reply) → Opens course → TurnHas digest who phase (from_root course xs told given)
   from_root_has course xs told (reply.Found k access) opens =
       let first = told_entry k access told.serve_place in follow_has course (first ∷ []) first course.looked xs opens
   from_root_has course xs told (reply.Busy by at born) opens = none
   from_root_has course xs told any_reply opens = none
 
-  turn_if : (b : Bool) (first second : Turn) → TurnHas who phase first → TurnHas who phase second → TurnHas who phase (if b then first else second)
+  turn_if : (b : Bool) (first second : Turn) → TurnHas digest who phase first → TurnHas digest who phase second → TurnHas digest who phase (if b then first else second)
   turn_if true first second one other = one
   turn_if false first second one other = other
 
   first_has : (course : Course) (place : ℕ) (told : Option Told) (xs : List Sent) → Opens course
-      → TurnHas who phase (after_round (Some course) (record { place = place; told = told } ∷ xs))
+      → TurnHas digest who phase (after_round (Some course) (record { place = place; told = told } ∷ xs))
   first_has course place None xs opens = turn_if _ (winds_up (answers answer.NoMemory None) []) (winds_up retries []) none none
   first_has course place (Some told) xs opens =
       turn_if _ (winds_up (answers answer.NoMemory None) []) (from_root course xs told told.reply) none (from_root_has course xs told told.reply opens)
 
-  found_has : (found : Option Course) (sent : List Sent) → IfOpens found → TurnHas who phase (after_round found sent)
+  found_has : (found : Option Course) (sent : List Sent) → IfOpens found → TurnHas digest who phase (after_round found sent)
   found_has None sent opens = none
   found_has (Some course) [] opens = none
   found_has (Some course) (x ∷ xs) opens = first_has course x.place x.told xs opens
 
-  pub round_has : (calls : List Call) (sent : List Sent) → TurnHas who phase (after_round (next_course calls) sent)
+  pub round_has : (calls : List Call) (sent : List Sent) → TurnHas digest who phase (after_round (next_course calls) sent)
   round_has calls sent = found_has (next_course calls) sent (course_opens calls)

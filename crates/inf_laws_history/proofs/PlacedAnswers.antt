@@ -1,6 +1,7 @@
 -- What holds of each answer that a group may come to, with its place, holds of all results that agree with a history.
 use Rattle.std.proofs.Common.{◌≡◌, ℕ, suc, ◌+◌, ◌==◌, eqb, List, [], ◌∷◌, ◌++◌, length, slice_get, Option, None, Some, All, sym, subst, ⊎_elim}
 use Rattle.std.proofs.lemmas.List.Elements.{All-append, All-cons, All-nil, All-push}
+use Rattle.inf_base.specs.declared.id.Id.{Id}
 use Rattle.inf_base.specs.declared.answer.Answer.{Answer}
 use Rattle.inf_base.specs.declared.answer.Answer.TheVariants as answer
 use Rattle.inf_base.specs.declared.call.Call.{Call}
@@ -18,7 +19,7 @@ use Rattle.inf_duty.specs.Outcome.{Agrees, OutcomeFrom, all_given_up, results_of
 use Rattle.inf_duty.specs.Start.{starting}
 use Rattle.inf_duty.specs.World.{World}
 use Rattle.inf_duty.proofs.BegunKept.{IsKept, if_both, kept_all_given_up, kept_begun}
-use Rattle.inf_flow_dir.specs.Client.{Client, Ending, Sent, Stage, act, answers, compose, ended, result_of, retries, round, winds, wound}
+use Rattle.inf_flow_dir.specs.Client.{ClientState, Ending, Sent, Stage, act, answers, compose, ended, result_of, retries, round, winds, wound}
 use Rattle.inf_flow_dir.specs.Flow.{Flow, Who, birth_of, clean_up, finishes, links, makes, reserves, seals, unlinks}
 use Rattle.inf_flow_dir.specs.Group.{Course, composed_stage, keys_of, next_course}
 use Rattle.inf_flow_dir.specs.Heard.{heard}
@@ -75,26 +76,26 @@ module _ (P : Of) (of : IsOfServes P) where
   make_is who flow own place (reply.Clash kept) = of.clash own kept place
   make_is who flow own place any_reply = fails_is who flow place any_reply
 
-  act_is : (who : Who) (flow : Flow) (asked place : ℕ) (given : Reply) → TurnIs P (after_act who flow asked place given)
-  act_is who (finishes chain (op.Create name mode)) asked place reply.Fine = of.done place
-  act_is who (finishes chain (op.Stat name)) asked place (reply.Stat kind meta) = of.stat kind meta place
-  act_is who (reserves chain name mode) asked place (reply.Reserved version) = tt
-  act_is who (makes chain name mode version) asked place reply.Fine = tt
-  act_is who (makes chain name mode version) asked place given =
-      make_is who (makes chain name mode version) (birth_of who chain name version) place given
-  act_is who (links chain name mode version born) asked place reply.Fine = of.done place
-  act_is who (seals chain) asked place reply.Fine = tt
-  act_is who (unlinks chain) asked place reply.Fine = of.done place
-  act_is who flow asked place given = fails_is who flow place given
+  act_is : (digest : List ℕ → Id) (who : Who) (flow : Flow) (asked place : ℕ) (given : Reply) → TurnIs P (after_act digest who flow asked place given)
+  act_is digest who (finishes chain (op.Create name mode)) asked place reply.Fine = of.done place
+  act_is digest who (finishes chain (op.Stat name)) asked place (reply.Stat kind meta) = of.stat kind meta place
+  act_is digest who (reserves chain name mode) asked place (reply.Reserved version) = tt
+  act_is digest who (makes chain name mode version id) asked place reply.Fine = tt
+  act_is digest who (makes chain name mode version id) asked place given =
+      make_is who (makes chain name mode version id) (birth_of who chain name version) place given
+  act_is digest who (links chain name mode version dir) asked place reply.Fine = of.done place
+  act_is digest who (seals chain) asked place reply.Fine = tt
+  act_is digest who (unlinks chain) asked place reply.Fine = of.done place
+  act_is digest who flow asked place given = fails_is who flow place given
 
-  told_is : (who : Who) (flow : Flow) (place : ℕ) (told : Option Told) (xs : List Sent)
-      → TurnIs P (act_turn who flow (record { place = place; told = told } ∷ xs))
-  told_is who flow place None xs = tt
-  told_is who flow place (Some told) xs = act_is who flow place told.serve_place told.reply
+  told_is : (digest : List ℕ → Id) (who : Who) (flow : Flow) (place : ℕ) (told : Option Told) (xs : List Sent)
+      → TurnIs P (act_turn digest who flow (record { place = place; told = told } ∷ xs))
+  told_is digest who flow place None xs = tt
+  told_is digest who flow place (Some told) xs = act_is digest who flow place told.serve_place told.reply
 
-  flow_is : (who : Who) (flow : Flow) (sent : List Sent) → TurnIs P (act_turn who flow sent)
-  flow_is who flow [] = tt
-  flow_is who flow (x ∷ xs) = told_is who flow x.place x.told xs
+  flow_is : (digest : List ℕ → Id) (who : Who) (flow : Flow) (sent : List Sent) → TurnIs P (act_turn digest who flow sent)
+  flow_is digest who flow [] = tt
+  flow_is digest who flow (x ∷ xs) = told_is digest who flow x.place x.told xs
 
   -- ---- after a round
 
@@ -141,61 +142,61 @@ module _ (P : Of) (of : IsOfServes P) where
   round_is (Some course) [] = tt
   round_is (Some course) (x ∷ xs) = first_is course x.place x.told xs
 
-  turn_is : (s : Client) (stage : Stage) → StageIs P stage → TurnIs P (turn_at s stage)
-  turn_is s compose is = tt
-  turn_is s (round keys) is = round_is (next_course s.left) s.sent
-  turn_is s (act flow) is = flow_is s.who flow s.sent
-  turn_is s (winds ending m ms) is = is
+  turn_is : (digest : List ℕ → Id) (s : ClientState) (stage : Stage) → StageIs P stage → TurnIs P (turn_at digest s stage)
+  turn_is digest s compose is = tt
+  turn_is digest s (round keys) is = round_is (next_course s.left) s.sent
+  turn_is digest s (act flow) is = flow_is digest s.who flow s.sent
+  turn_is digest s (winds ending m ms) is = is
 
   -- ---- a client
 
-  pub record AllAre (s : Client) : Type 0 where
+  pub record AllAre (s : ClientState) : Type 0 where
     pub results : All (ResultIs P) s.results
     pub stage : StageIs P s.stage
 
-  ended_are : (given : Answer) (at : Option ℕ) (s : Client) → P given at → All (ResultIs P) s.results → AllAre (ended given at s)
+  ended_are : (given : Answer) (at : Option ℕ) (s : ClientState) → P given at → All (ResultIs P) s.results → AllAre (ended given at s)
   ended_are given at s is before =
       record { results = All-push (ResultIs P) s.results (result_of given at s.counts.last s) before is; stage = tt }
 
-  wound_are : (ending : Ending) (more : List Message) (s : Client) → EndingIs P ending → All (ResultIs P) s.results → AllAre (wound ending more s)
+  wound_are : (ending : Ending) (more : List Message) (s : ClientState) → EndingIs P ending → All (ResultIs P) s.results → AllAre (wound ending more s)
   wound_are (answers given at) [] s is before = ended_are given at s is before
   wound_are retries [] s is before = record { results = before; stage = tt }
   wound_are ending (m ∷ ms) s is before = record { results = before; stage = is }
 
-  turned_are : (turn : Turn) (s : Client) → TurnIs P turn → All (ResultIs P) s.results → AllAre (turned turn s)
+  turned_are : (turn : Turn) (s : ClientState) → TurnIs P turn → All (ResultIs P) s.results → AllAre (turned turn s)
   turned_are (goes_on next) s is before = record { results = before; stage = is }
   turned_are (winds_up ending more) s is before = wound_are ending more s is before
 
-  given_up_are : (s : Client) (stage : Stage) → AllAre s → AllAre (given_up_in s stage)
+  given_up_are : (s : ClientState) (stage : Stage) → AllAre s → AllAre (given_up_in s stage)
   given_up_are s (act flow) before = wound_are (answers answer.NoMemory None) (clean_up s.who flow) s of.wanting before.results
   given_up_are s (winds ending m ms) before = before
   given_up_are s compose before = ended_are answer.NoMemory None s of.wanting before.results
   given_up_are s (round keys) before = ended_are answer.NoMemory None s of.wanting before.results
 
-  keys_are : (who : Who) (course : Option Course) → StageIs P (keys_of who course)
-  keys_are who None = tt
-  keys_are who (Some course) = tt
+  keys_are : (digest : List ℕ → Id) (who : Who) (course : Option Course) → StageIs P (keys_of digest who course)
+  keys_are digest who None = tt
+  keys_are digest who (Some course) = tt
 
-  composed_is : (s : Client) (stage : Stage) → StageIs P stage → StageIs P (composed_stage s stage)
-  composed_is s compose is = keys_are s.who (next_course s.left)
-  composed_is s (round keys) is = is
-  composed_is s (act flow) is = is
-  composed_is s (winds ending m ms) is = is
+  composed_is : (digest : List ℕ → Id) (s : ClientState) (stage : Stage) → StageIs P stage → StageIs P (composed_stage digest s stage)
+  composed_is digest s compose is = keys_are digest s.who (next_course s.left)
+  composed_is digest s (round keys) is = is
+  composed_is digest s (act flow) is = is
+  composed_is digest s (winds ending m ms) is = is
 
-  kept : IsKept AllAre
-  kept = record {
-    composing = λ s before. record { results = before.results; stage = composed_is s s.stage before.stage };
+  kept : (digest : List ℕ → Id) → IsKept digest AllAre
+  kept digest = record {
+    composing = λ s before. record { results = before.results; stage = composed_is digest s s.stage before.stage };
     giving_up = λ s before. given_up_are s s.stage before;
   }
 
-  served_are : (ask_place : ℕ) (told : Told) (s : Client) → AllAre s → AllAre (served ask_place told s)
-  served_are ask_place told s before =
-      by_answer AllAre ask_place told s
+  served_are : (digest : List ℕ → Id) (ask_place : ℕ) (told : Told) (s : ClientState) → AllAre s → AllAre (served digest ask_place told s)
+  served_are digest ask_place told s before =
+      by_answer digest AllAre ask_place told s
       (λ apart. before)
       (λ here going. record { results = before.results; stage = before.stage })
       (λ here over.
-      turned_are (turn_at (recorded ask_place told s) s.stage) (recorded ask_place told s)
-      (turn_is (recorded ask_place told s) s.stage before.stage) before.results)
+      turned_are (turn_at digest (recorded ask_place told s) s.stage) (recorded ask_place told s)
+      (turn_is digest (recorded ask_place told s) s.stage before.stage) before.results)
 
   starting_are : (world : World) (client : ℕ) (line : Option ClientLine) → AllAre (starting world client line)
   starting_are world client None = record { results = All-nil (ResultIs P); stage = tt }
@@ -204,41 +205,41 @@ module _ (P : Of) (of : IsOfServes P) where
   pub answers_after : (world : World) (client : ℕ) (h : List Event) → AllAre (client_after world client h)
   answers_after world client [] = starting_are world client (slice_get world.setup.clients client)
   answers_after world client (event.Ask number ask ∷ h) =
-      let s : Client = client_after world client h in
-      let now = kept_begun AllAre kept ask s.sent s (answers_after world client h) in
-      if_both AllAre (eqb ask.from.client client) (asked (suc (length h)) ask s) s
+      let s : ClientState = client_after world client h in
+      let now = kept_begun world.digest AllAre (kept world.digest) ask s.sent s (answers_after world client h) in
+      if_both AllAre (eqb ask.from.client client) (asked world.digest (suc (length h)) ask s) s
       (record { results = now.results; stage = now.stage }) (answers_after world client h)
   answers_after world client (event.Serve number ask_place given ∷ h) =
-      served_are ask_place (told_reply (suc (length h)) (heard given)) (client_after world client h) (answers_after world client h)
+      served_are world.digest ask_place (told_reply (suc (length h)) (heard given)) (client_after world client h) (answers_after world client h)
 
-  pub all_given_up_are : (s : Client) → AllAre s → AllAre (all_given_up s.left s)
-  all_given_up_are s are = kept_all_given_up AllAre kept s.left s are
+  pub all_given_up_are : (digest : List ℕ → Id) (s : ClientState) → AllAre s → AllAre (all_given_up s.left s)
+  all_given_up_are digest s are = kept_all_given_up digest AllAre (kept digest) s.left s are
 
   -- ---- all results
 
   module _ (open_yet : P answer.Unanswered None) where
-    so_far_is : (stage : Stage) (s : Client) → StageIs P stage → ResultIs P (so_far stage s)
+    so_far_is : (stage : Stage) (s : ClientState) → StageIs P stage → ResultIs P (so_far stage s)
     so_far_is (winds (answers given at) m ms) s is = is
     so_far_is (winds retries m ms) s is = open_yet
     so_far_is compose s is = open_yet
     so_far_is (round keys) s is = open_yet
     so_far_is (act flow) s is = open_yet
 
-    left_are : (calls : List Call) (s : Client) → StageIs P s.stage → All (ResultIs P) (unanswered calls s)
+    left_are : (calls : List Call) (s : ClientState) → StageIs P s.stage → All (ResultIs P) (unanswered calls s)
     left_are [] s is = All-nil (ResultIs P)
     left_are (call ∷ calls) s is =
         All-cons (ResultIs P) (so_far s.stage s) (unanswered calls (ended answer.Unanswered None s)) (so_far_is s.stage s is)
         (left_are calls (ended answer.Unanswered None s) tt)
 
-    results_are : (s : Client) → AllAre s → All (ResultIs P) (results_of s)
+    results_are : (s : ClientState) → AllAre s → All (ResultIs P) (results_of s)
     results_are s are = All-append (ResultIs P) s.results (unanswered s.left s) are.results (left_are s.left s are.stage)
 
-    agreeing_are : (s : Client) (mine : List CallResult) → AllAre s → Agrees s mine → All (ResultIs P) mine
-    agreeing_are s mine are agrees =
+    agreeing_are : (digest : List ℕ → Id) (s : ClientState) (mine : List CallResult) → AllAre s → Agrees s mine → All (ResultIs P) mine
+    agreeing_are digest s mine are agrees =
         ⊎_elim
         (λ (same : mine ≡ results_of s). subst (All (ResultIs P)) (sym same) (results_are s are))
         (λ (gave : (s.sent ≡ []) × (mine ≡ results_of (all_given_up s.left s))).
-        subst (All (ResultIs P)) (sym gave.1) (results_are (all_given_up s.left s) (all_given_up_are s are)))
+        subst (All (ResultIs P)) (sym gave.1) (results_are (all_given_up s.left s) (all_given_up_are digest s are)))
         agrees
 
     -- the answers of all results, with their places
@@ -248,5 +249,5 @@ module _ (P : Of) (of : IsOfServes P) where
     outcome_are world h client (line ∷ lines) results out =
         subst (All (ResultIs P)) (sym out.all)
         (All-append (ResultIs P) out.mine out.others
-        (agreeing_are (client_after world client h) out.mine (answers_after world client h) out.agrees)
+        (agreeing_are world.digest (client_after world client h) out.mine (answers_after world client h) out.agrees)
         (outcome_are world h (client + 1) lines out.others out.later))

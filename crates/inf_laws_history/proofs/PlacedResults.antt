@@ -13,7 +13,7 @@ use Rattle.inf_duty.specs.Outcome.{Agrees, OutcomeFrom, all_given_up, results_of
 use Rattle.inf_duty.specs.Start.{starting}
 use Rattle.inf_duty.specs.World.{World}
 use Rattle.inf_duty.proofs.BegunKept.{IsKept, if_both, kept_all_given_up, kept_begun}
-use Rattle.inf_flow_dir.specs.Client.{Client, Ending, Stage, act, answers, call_ref, compose, ended, has_place, result_of, retries, round, winds, wound}
+use Rattle.inf_flow_dir.specs.Client.{ClientState, Ending, Stage, act, answers, call_ref, compose, ended, has_place, result_of, retries, round, winds, wound}
 use Rattle.inf_flow_dir.specs.Flow.{Flow, Who, clean_up}
 use Rattle.inf_flow_dir.specs.Group.{Course, composed_stage, keys_of, next_course}
 use Rattle.inf_flow_dir.specs.Heard.{heard}
@@ -61,10 +61,10 @@ pub record IsBrought (world : World) (P : Of) : Type 0 where
   pub by_flow : (h : List Event) → Legal world h → (number ask_place : ℕ) (given : Reply) → MayServe world h number ask_place given → (client : ℕ) (flow : Flow)
       → (client_after world client h).stage ≡ act flow → has_place ask_place (client_after world client h).sent ≡ true
       → TurnOf (P (event.Serve number ask_place given ∷ h) (call_ref (client_after world client h)))
-      (act_turn (client_after world client h).who flow (recorded ask_place (told_reply (suc (length h)) (heard given)) (client_after world client h)).sent)
+      (act_turn world.digest (client_after world client h).who flow (recorded ask_place (told_reply (suc (length h)) (heard given)) (client_after world client h)).sent)
 
 module _ (world : World) (P : Of) (brought : IsBrought world P) where
-  record AllHave (h : List Event) (s : Client) : Type 0 where
+  record AllHave (h : List Event) (s : ClientState) : Type 0 where
     results : All (ResultHas P h) s.results
     stage : StageHas P h (call_ref s) s.stage
 
@@ -79,43 +79,43 @@ module _ (world : World) (P : Of) (brought : IsBrought world P) where
   stage_stays e h call (round keys) is = tt
   stage_stays e h call (act flow) is = tt
 
-  have_stay : (e : Event) (h : List Event) (s : Client) → AllHave h s → AllHave (e ∷ h) s
+  have_stay : (e : Event) (h : List Event) (s : ClientState) → AllHave h s → AllHave (e ∷ h) s
   have_stay e h s have = record {
     results = All-weaker (ResultHas P h) (ResultHas P (e ∷ h)) (λ r is. placed_stays e h r.call r.answer r.place is) s.results have.results;
     stage = stage_stays e h (call_ref s) s.stage have.stage;
   }
 
   module _ (h : List Event) where
-    ended_have : (given : Answer) (at : Option ℕ) (s : Client) → IfPlaced P h (call_ref s) given at → All (ResultHas P h) s.results → AllHave h (ended given at s)
+    ended_have : (given : Answer) (at : Option ℕ) (s : ClientState) → IfPlaced P h (call_ref s) given at → All (ResultHas P h) s.results → AllHave h (ended given at s)
     ended_have given at s is before =
         record { results = All-push (ResultHas P h) s.results (result_of given at s.counts.last s) before is; stage = tt }
 
-    wound_have : (ending : Ending) (more : List Message) (s : Client) → EndingHas P h (call_ref s) ending → All (ResultHas P h) s.results → AllHave h (wound ending more s)
+    wound_have : (ending : Ending) (more : List Message) (s : ClientState) → EndingHas P h (call_ref s) ending → All (ResultHas P h) s.results → AllHave h (wound ending more s)
     wound_have (answers given at) [] s is before = ended_have given at s is before
     wound_have retries [] s is before = record { results = before; stage = tt }
     wound_have ending (m ∷ ms) s is before = record { results = before; stage = is }
 
-    turned_have : (turn : Turn) (s : Client) → TurnHas P h (call_ref s) turn → All (ResultHas P h) s.results → AllHave h (turned turn s)
+    turned_have : (turn : Turn) (s : ClientState) → TurnHas P h (call_ref s) turn → All (ResultHas P h) s.results → AllHave h (turned turn s)
     turned_have (goes_on next) s is before = record { results = before; stage = is }
     turned_have (winds_up ending more) s is before = wound_have ending more s is before
 
-    given_up_have : (s : Client) (stage : Stage) → AllHave h s → AllHave h (given_up_in s stage)
+    given_up_have : (s : ClientState) (stage : Stage) → AllHave h s → AllHave h (given_up_in s stage)
     given_up_have s (act flow) before = wound_have (answers answer.NoMemory None) (clean_up s.who flow) s tt before.results
     given_up_have s (winds ending m ms) before = before
     given_up_have s compose before = ended_have answer.NoMemory None s tt before.results
     given_up_have s (round keys) before = ended_have answer.NoMemory None s tt before.results
 
-    keys_have : (call : CallRef) (who : Who) (course : Option Course) → StageHas P h call (keys_of who course)
+    keys_have : (call : CallRef) (who : Who) (course : Option Course) → StageHas P h call (keys_of world.digest who course)
     keys_have call who None = tt
     keys_have call who (Some course) = tt
 
-    composed_has : (s : Client) (stage : Stage) → StageHas P h (call_ref s) stage → StageHas P h (call_ref s) (composed_stage s stage)
+    composed_has : (s : ClientState) (stage : Stage) → StageHas P h (call_ref s) stage → StageHas P h (call_ref s) (composed_stage world.digest s stage)
     composed_has s compose is = keys_have (call_ref s) s.who (next_course s.left)
     composed_has s (round keys) is = is
     composed_has s (act flow) is = is
     composed_has s (winds ending m ms) is = is
 
-    kept : IsKept (AllHave h)
+    kept : IsKept world.digest (AllHave h)
     kept = record {
       composing = λ s before. record { results = before.results; stage = composed_has s s.stage before.stage };
       giving_up = λ s before. given_up_have s s.stage before;
@@ -133,25 +133,25 @@ module _ (world : World) (P : Of) (brought : IsBrought world P) where
     abbrev now : List Event
     now = event.Serve number ask_place given ∷ h
 
-    abbrev s : Client
+    abbrev s : ClientState
     s = client_after world client h
 
     abbrev told : Told
     told = told_reply (suc (length h)) (heard given)
 
     by_stage : has_place ask_place s.sent ≡ true → (stage : Stage) → s.stage ≡ stage → StageHas P now (call_ref s) stage
-        → TurnHas P now (call_ref s) (turn_at (recorded ask_place told s) stage)
+        → TurnHas P now (call_ref s) (turn_at world.digest (recorded ask_place told s) stage)
     by_stage here compose is has = tt
     by_stage here (round keys) is has = turn_has now (call_ref s) _ (brought.by_round h legal number ask_place given may client keys is here)
     by_stage here (act flow) is has = turn_has now (call_ref s) _ (brought.by_flow h legal number ask_place given may client flow is here)
     by_stage here (winds ending m ms) is has = has
 
-    served_has : AllHave now s → AllHave now (served ask_place told s)
+    served_has : AllHave now s → AllHave now (served world.digest ask_place told s)
     served_has before =
-        by_answer (AllHave now) ask_place told s
+        by_answer world.digest (AllHave now) ask_place told s
         (λ apart. before)
         (λ here going. record { results = before.results; stage = before.stage })
-        (λ here over. turned_have now (turn_at (recorded ask_place told s) s.stage) (recorded ask_place told s) (by_stage here s.stage refl before.stage) before.results)
+        (λ here over. turned_have now (turn_at world.digest (recorded ask_place told s) s.stage) (recorded ask_place told s) (by_stage here s.stage refl before.stage) before.results)
 
   starting_have : (client : ℕ) (line : Option ClientLine) → AllHave [] (starting world client line)
   starting_have client None = record { results = All-nil (ResultHas P []); stage = tt }
@@ -160,10 +160,10 @@ module _ (world : World) (P : Of) (brought : IsBrought world P) where
   have_after : (h : List Event) → Legal world h → (client : ℕ) → AllHave h (client_after world client h)
   have_after [] legal client = starting_have client (slice_get world.setup.clients client)
   have_after (event.Ask number ask ∷ h) legal client =
-      let s : Client = client_after world client h in
+      let s : ClientState = client_after world client h in
       let before = have_stay (event.Ask number ask) h s (have_after h legal.0 client) in
-      let now = kept_begun (AllHave (event.Ask number ask ∷ h)) (kept (event.Ask number ask ∷ h)) ask s.sent s before in
-      if_both (AllHave (event.Ask number ask ∷ h)) (eqb ask.from.client client) (asked (suc (length h)) ask s) s
+      let now = kept_begun world.digest (AllHave (event.Ask number ask ∷ h)) (kept (event.Ask number ask ∷ h)) ask s.sent s before in
+      if_both (AllHave (event.Ask number ask ∷ h)) (eqb ask.from.client client) (asked world.digest (suc (length h)) ask s) s
       (record { results = now.results; stage = now.stage }) before
   have_after (event.Serve number ask_place given ∷ h) legal client =
       served_has h legal.0 number ask_place given legal.1 client
@@ -172,28 +172,28 @@ module _ (world : World) (P : Of) (brought : IsBrought world P) where
   -- ---- all results
 
   module _ (h : List Event) where
-    so_far_has : (stage : Stage) (s : Client) → StageHas P h (call_ref s) stage → ResultHas P h (so_far stage s)
+    so_far_has : (stage : Stage) (s : ClientState) → StageHas P h (call_ref s) stage → ResultHas P h (so_far stage s)
     so_far_has (winds (answers given at) m ms) s is = is
     so_far_has (winds retries m ms) s is = tt
     so_far_has compose s is = tt
     so_far_has (round keys) s is = tt
     so_far_has (act flow) s is = tt
 
-    left_have : (calls : List Call) (s : Client) → StageHas P h (call_ref s) s.stage → All (ResultHas P h) (unanswered calls s)
+    left_have : (calls : List Call) (s : ClientState) → StageHas P h (call_ref s) s.stage → All (ResultHas P h) (unanswered calls s)
     left_have [] s is = All-nil (ResultHas P h)
     left_have (call ∷ calls) s is =
         All-cons (ResultHas P h) (so_far s.stage s) (unanswered calls (ended answer.Unanswered None s)) (so_far_has s.stage s is)
         (left_have calls (ended answer.Unanswered None s) tt)
 
-    results_have : (s : Client) → AllHave h s → All (ResultHas P h) (results_of s)
+    results_have : (s : ClientState) → AllHave h s → All (ResultHas P h) (results_of s)
     results_have s have = All-append (ResultHas P h) s.results (unanswered s.left s) have.results (left_have s.left s have.stage)
 
-    agreeing_have : (s : Client) (mine : List CallResult) → AllHave h s → Agrees s mine → All (ResultHas P h) mine
+    agreeing_have : (s : ClientState) (mine : List CallResult) → AllHave h s → Agrees s mine → All (ResultHas P h) mine
     agreeing_have s mine have agrees =
         ⊎_elim
         (λ (same : mine ≡ results_of s). subst (All (ResultHas P h)) (sym same) (results_have s have))
         (λ (gave : (s.sent ≡ []) × (mine ≡ results_of (all_given_up s.left s))).
-        subst (All (ResultHas P h)) (sym gave.1) (results_have (all_given_up s.left s) (kept_all_given_up (AllHave h) (kept h) s.left s have)))
+        subst (All (ResultHas P h)) (sym gave.1) (results_have (all_given_up s.left s) (kept_all_given_up world.digest (AllHave h) (kept h) s.left s have)))
         agrees
 
     -- each result with a place has it

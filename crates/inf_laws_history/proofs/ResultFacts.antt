@@ -12,7 +12,7 @@ use Rattle.inf_duty.specs.Duty.{asked, given_up_in}
 use Rattle.inf_duty.specs.Outcome.{Agrees, all_given_up, results_of, so_far, stands_at, unanswered}
 use Rattle.inf_duty.specs.Start.{starting}
 use Rattle.inf_duty.specs.World.{World}
-use Rattle.inf_flow_dir.specs.Client.{Client, Ending, Stage, act, answers, compose, ended, rest_of, result_of, retries, round, winds, wound}
+use Rattle.inf_flow_dir.specs.Client.{ClientState, Ending, Stage, act, answers, compose, ended, rest_of, result_of, retries, round, winds, wound}
 use Rattle.inf_flow_dir.specs.Flow.{Who, clean_up}
 use Rattle.inf_flow_dir.specs.Group.{Course, composed_stage, keys_of, next_course}
 use Rattle.inf_flow_dir.specs.Turn.{Turn, act_turn, after_round, goes_on, recorded, served, turn_at, turned, winds_up}
@@ -35,7 +35,7 @@ abbrev pub calls_of : Option ClientLine → List Call
 calls_of None = []
 calls_of (Some line) = line.calls
 
-pub record Reads (world : World) (client : ℕ) (line : Option ClientLine) (s : Client) : Type 0 where
+pub record Reads (world : World) (client : ℕ) (line : Option ClientLine) (s : ClientState) : Type 0 where
   pub who : s.who ≡ (starting world client line).who
   pub counted : 1 ≤ s.number
   pub left : (k : ℕ) → slice_get s.left k ≡ slice_get (calls_of line) (s.number - 1 + k)
@@ -57,7 +57,7 @@ one_on : (number k : ℕ) → 1 ≤ number → number - 1 + suc k ≡ number + 1
 one_on number k counted = omega arith
 
 module _ (world : World) (client : ℕ) (line : Option ClientLine) where
-  reads_last : Lasts (Reads world client line)
+  reads_last : Lasts world.digest (Reads world client line)
   reads_last = record {
     composing = λ s is. record { who = is.who; counted = is.counted; left = is.left };
     ending = λ given place s is. record {
@@ -69,14 +69,14 @@ module _ (world : World) (client : ℕ) (line : Option ClientLine) where
     going_on = λ next s is. record { who = is.who; counted = is.counted; left = is.left };
   }
 
-  pub asked_reads : (place : ℕ) (ask : Ask) (s : Client) → Reads world client line s → Reads world client line (asked place ask s)
+  pub asked_reads : (place : ℕ) (ask : Ask) (s : ClientState) → Reads world client line s → Reads world client line (asked world.digest place ask s)
   asked_reads place ask s is =
-      let now = begun_lasts (Reads world client line) reads_last ask s.sent s is in
+      let now = begun_lasts world.digest (Reads world client line) reads_last ask s.sent s is in
       record { who = now.who; counted = now.counted; left = now.left }
 
-  pub served_reads : (ask_place : ℕ) (told : Told) (s : Client) → Reads world client line s → Reads world client line (served ask_place told s)
+  pub served_reads : (ask_place : ℕ) (told : Told) (s : ClientState) → Reads world client line s → Reads world client line (served world.digest ask_place told s)
   served_reads =
-      served_lasts (Reads world client line) reads_last (λ place told s is. record { who = is.who; counted = is.counted; left = is.left })
+      served_lasts world.digest (Reads world client line) reads_last (λ place told s is. record { who = is.who; counted = is.counted; left = is.left })
 
 -- ---- the call that a result names is the one that ends
 
@@ -84,7 +84,7 @@ abbrev head_decides : Caller → Answer → Option Call → List Decided
 head_decides caller given None = []
 head_decides caller given (Some next) = record { caller = caller; call = next; answer = given } ∷ []
 
-decides_head : (s : Client) (left : List Call) (given : Answer) → decides s left given ≡ head_decides s.who.caller given (slice_get left 0)
+decides_head : (s : ClientState) (left : List Call) (given : Answer) → decides s left given ≡ head_decides s.who.caller given (slice_get left 0)
 decides_head s [] given = refl
 decides_head s (next ∷ left) given = refl
 
@@ -98,7 +98,7 @@ by_head line result before = by_call (slice_get line.calls before)
 first_left : (number : ℕ) → number - 1 + 0 ≡ number - 1
 first_left number = omega arith
 
-by_line : (world : World) (client : ℕ) (line : Option ClientLine) (s : Client) (result : CallResult) → Reads world client line s → cons_option (decided_by result (s.number - 1) line) [] ≡ decides s s.left result.answer
+by_line : (world : World) (client : ℕ) (line : Option ClientLine) (s : ClientState) (result : CallResult) → Reads world client line s → cons_option (decided_by result (s.number - 1) line) [] ≡ decides s s.left result.answer
 by_line world client None s result is = sym (decides_head s s.left result.answer ∙ ap (head_decides s.who.caller result.answer) (is.left 0))
 by_line world client (Some line) s result is =
     by_head line result (s.number - 1)
@@ -110,7 +110,7 @@ by_line world client (Some line) s result is =
     ∙ ap (λ (w : Who). head_decides w.caller result.answer (slice_get line.calls (s.number - 1 + 0))) is.who
     )
 
-ended_is_decided : (world : World) (client : ℕ) (line : Option ClientLine) (s : Client) (given : Answer) (place last : Option ℕ) → slice_get world.setup.clients client ≡ line → Reads world client line s → cons_option (decided_of world (result_of given place last s)) [] ≡ decides s s.left given
+ended_is_decided : (world : World) (client : ℕ) (line : Option ClientLine) (s : ClientState) (given : Answer) (place last : Option ℕ) → slice_get world.setup.clients client ≡ line → Reads world client line s → cons_option (decided_of world (result_of given place last s)) [] ≡ decides s s.left given
 ended_is_decided world client line s given place last at is =
     ap (λ found. cons_option (decided_by (result_of given place last s) (s.number - 1) found) [])
     (ap (λ (w : Who). slice_get world.setup.clients w.client) is.who ∙ ap (slice_get world.setup.clients) (client_of world client line) ∙ at)
@@ -132,7 +132,7 @@ abbrev pub called : Caller → List Call → Answer → List Decided
 called caller [] given = []
 called caller (call ∷ calls) given = of_tree (record { caller = caller; call = call; answer = given } ∷ [])
 
-called_is : (s : Client) (left : List Call) (given : Answer) → of_tree (decides s left given) ≡ called s.who.caller left given
+called_is : (s : ClientState) (left : List Call) (given : Answer) → of_tree (decides s left given) ≡ called s.who.caller left given
 called_is s [] given = refl
 called_is s (call ∷ calls) given = refl
 
@@ -164,7 +164,7 @@ by_stage place caller left (winds ending m ms) = by_ending place caller left end
 by_stage place caller left other_stage = []
 
 -- what a client's calls come to at a place: those that ended, and the one that is decided and winds up
-abbrev pub comes_to : World → ℕ → Client → List Decided
+abbrev pub comes_to : World → ℕ → ClientState → List Decided
 comes_to world place s = tree_at world place s.results ++ by_stage place s.who.caller s.left s.stage
 
 none_called : (place : ℕ) (caller : Caller) (ending : Ending) → by_ending place caller [] ending ≡ []
@@ -179,12 +179,12 @@ none_staged place caller (round keys) = refl
 none_staged place caller (act flow) = refl
 
 -- a call behind the one under way has no place
-pub none_behind : (place : ℕ) (calls : List Call) (s : Client) → filter (stands_at place) (unanswered calls (ended answer.Unanswered None s)) ≡ []
+pub none_behind : (place : ℕ) (calls : List Call) (s : ClientState) → filter (stands_at place) (unanswered calls (ended answer.Unanswered None s)) ≡ []
 none_behind place [] s = refl
 none_behind place (call ∷ calls) s = none_behind place calls (ended answer.Unanswered None s)
 
 module _ (world : World) (client : ℕ) (line : Option ClientLine) (found : slice_get world.setup.clients client ≡ line) (place : ℕ) where
-  one_result : (given : Answer) (at last : Option ℕ) (s : Client) → Reads world client line s
+  one_result : (given : Answer) (at last : Option ℕ) (s : ClientState) → Reads world client line s
       → tree_at world place (result_of given at last s ∷ []) ≡ if_at place at (called s.who.caller s.left given)
   one_result given None last s reads = refl
   one_result given (Some at) last s reads = by_test (eqb place at)
@@ -195,82 +195,82 @@ module _ (world : World) (client : ℕ) (line : Option ClientLine) (found : slic
 
   -- ---- what is decided so far
 
-  so_far_at : (stage : Stage) (s : Client) → Reads world client line s → tree_at world place (so_far stage s ∷ []) ≡ by_stage place s.who.caller s.left stage
+  so_far_at : (stage : Stage) (s : ClientState) → Reads world client line s → tree_at world place (so_far stage s ∷ []) ≡ by_stage place s.who.caller s.left stage
   so_far_at (winds (answers given at) m ms) s reads = one_result given at None s reads
   so_far_at (winds retries m ms) s reads = refl
   so_far_at compose s reads = refl
   so_far_at (round keys) s reads = refl
   so_far_at (act flow) s reads = refl
 
-  unanswered_at : (left : List Call) (s : Client) → s.left ≡ left → Reads world client line s → tree_at world place (unanswered left s) ≡ by_stage place s.who.caller s.left s.stage
+  unanswered_at : (left : List Call) (s : ClientState) → s.left ≡ left → Reads world client line s → tree_at world place (unanswered left s) ≡ by_stage place s.who.caller s.left s.stage
   unanswered_at [] s is reads = sym (ap (λ calls. by_stage place s.who.caller calls s.stage) is ∙ none_staged place s.who.caller s.stage)
   unanswered_at (call ∷ calls) s is reads =
       tree_at_both world place (so_far s.stage s ∷ []) (unanswered calls (ended answer.Unanswered None s))
       ∙ ap₂ (λ a b. a ++ b) (so_far_at s.stage s reads) (ap (λ results. of_tree (filter_map (decided_of world) results)) (none_behind place calls s))
       ∙ append-nil _
 
-  results_at : (s : Client) → Reads world client line s → tree_at world place (results_of s) ≡ comes_to world place s
+  results_at : (s : ClientState) → Reads world client line s → tree_at world place (results_of s) ≡ comes_to world place s
   results_at s reads =
       tree_at_both world place s.results (unanswered s.left s)
       ∙ ap (λ more. tree_at world place s.results ++ more) (unanswered_at s.left s refl reads)
 
   -- ---- before a group
 
-  keys_at : (who : Who) (caller : Caller) (left : List Call) (course : Option Course) → by_stage place caller left (keys_of who course) ≡ []
+  keys_at : (who : Who) (caller : Caller) (left : List Call) (course : Option Course) → by_stage place caller left (keys_of world.digest who course) ≡ []
   keys_at who caller left None = refl
   keys_at who caller left (Some course) = refl
 
-  composed_at : (stage : Stage) (s : Client) → by_stage place s.who.caller s.left (composed_stage s stage) ≡ by_stage place s.who.caller s.left stage
+  composed_at : (stage : Stage) (s : ClientState) → by_stage place s.who.caller s.left (composed_stage world.digest s stage) ≡ by_stage place s.who.caller s.left stage
   composed_at compose s = keys_at s.who s.who.caller s.left (next_course s.left)
   composed_at (round keys) s = refl
   composed_at (act flow) s = refl
   composed_at (winds ending m ms) s = refl
 
-  gave_up_at : (s : Client) → comes_to world place (ended answer.NoMemory None s) ≡ tree_at world place s.results ++ []
+  gave_up_at : (s : ClientState) → comes_to world place (ended answer.NoMemory None s) ≡ tree_at world place s.results ++ []
   gave_up_at s =
       append-nil (tree_at world place (ended answer.NoMemory None s).results)
       ∙ tree_at_both world place s.results _
 
-  winding_at : (more : List Message) (s : Client) → comes_to world place (wound (answers answer.NoMemory None) more s) ≡ tree_at world place s.results ++ []
+  winding_at : (more : List Message) (s : ClientState) → comes_to world place (wound (answers answer.NoMemory None) more s) ≡ tree_at world place s.results ++ []
   winding_at [] s = gave_up_at s
   winding_at (m ∷ ms) s = refl
 
-  given_up_at : (stage : Stage) (s : Client) → s.stage ≡ stage → comes_to world place (given_up_in s stage) ≡ tree_at world place s.results ++ by_stage place s.who.caller s.left stage
+  given_up_at : (stage : Stage) (s : ClientState) → s.stage ≡ stage → comes_to world place (given_up_in s stage) ≡ tree_at world place s.results ++ by_stage place s.who.caller s.left stage
   given_up_at (act flow) s is = winding_at (clean_up s.who flow) s
   given_up_at (winds ending m ms) s is = ap (λ stage. tree_at world place s.results ++ by_stage place s.who.caller s.left stage) is
   given_up_at compose s is = gave_up_at s
   given_up_at (round keys) s is = gave_up_at s
 
-  abbrev ComesTo : List Decided → Client → Type 0
+  abbrev ComesTo : List Decided → ClientState → Type 0
   ComesTo these s = comes_to world place s ≡ these
 
-  comes_kept : (these : List Decided) → IsKept (ComesTo these)
+  comes_kept : (these : List Decided) → IsKept world.digest (ComesTo these)
   comes_kept these = record {
     composing = λ s is. ap (λ more. tree_at world place s.results ++ more) (composed_at s.stage s) ∙ is;
     giving_up = λ s is. given_up_at s.stage s refl ∙ is;
   }
 
   -- an Ask changes nothing of what a client's calls came to
-  pub asked_comes : (number : ℕ) (ask : Ask) (s : Client) → comes_to world place (asked number ask s) ≡ comes_to world place s
-  asked_comes number ask s = kept_begun (ComesTo (comes_to world place s)) (comes_kept _) ask s.sent s refl
+  pub asked_comes : (number : ℕ) (ask : Ask) (s : ClientState) → comes_to world place (asked world.digest number ask s) ≡ comes_to world place s
+  asked_comes number ask s = kept_begun world.digest (ComesTo (comes_to world place s)) (comes_kept _) ask s.sent s refl
 
-  all_given_up_reads : (s : Client) → Reads world client line s → Reads world client line (all_given_up s.left s)
-  all_given_up_reads s reads = kept_all_given_up (Reads world client line) (lasts_kept (Reads world client line) (reads_last world client line)) s.left s reads
+  all_given_up_reads : (s : ClientState) → Reads world client line s → Reads world client line (all_given_up s.left s)
+  all_given_up_reads s reads = kept_all_given_up world.digest (Reads world client line) (lasts_kept world.digest (Reads world client line) (reads_last world client line)) s.left s reads
 
   -- the results that agree with a client
-  pub agrees_at : (s : Client) (mine : List CallResult) → Reads world client line s → Agrees s mine → tree_at world place mine ≡ comes_to world place s
+  pub agrees_at : (s : ClientState) (mine : List CallResult) → Reads world client line s → Agrees s mine → tree_at world place mine ≡ comes_to world place s
   agrees_at s mine reads agrees =
       ⊎_elim
       (λ same. ap (tree_at world place) same ∙ results_at s reads)
       (λ (gave : (s.sent ≡ []) × (mine ≡ results_of (all_given_up s.left s))).
       ap (tree_at world place) gave.1
       ∙ results_at (all_given_up s.left s) (all_given_up_reads s reads)
-      ∙ kept_all_given_up (ComesTo (comes_to world place s)) (comes_kept _) s.left s refl)
+      ∙ kept_all_given_up world.digest (ComesTo (comes_to world place s)) (comes_kept _) s.left s refl)
       agrees
 
   -- ---- the turn after a group
 
-  wound_comes : (ending : Ending) (more : List Message) (s : Client) → Reads world client line s
+  wound_comes : (ending : Ending) (more : List Message) (s : ClientState) → Reads world client line s
       → comes_to world place (wound ending more s) ≡ tree_at world place s.results ++ by_ending place s.who.caller s.left ending
   wound_comes (answers given at) [] s reads =
       append-nil (tree_at world place (ended given at s).results)
@@ -288,7 +288,7 @@ module _ (world : World) (client : ℕ) (line : Option ClientLine) (found : slic
   not_called caller [] given other = refl
   not_called caller (call ∷ calls) given other = ap (λ b. cond b (record { caller = caller; call = call; answer = given } ∷ []) []) other
 
-  said_at : (now at : ℕ) (given : Answer) (s : Client) → IsSaidAt now given at
+  said_at : (now at : ℕ) (given : Answer) (s : ClientState) → IsSaidAt now given at
       → only_at place at (called s.who.caller s.left given) ≡ only_at place now (of_tree (decides s s.left given))
   said_at now at given s said =
       ⊎_elim
@@ -298,7 +298,7 @@ module _ (world : World) (client : ℕ) (line : Option ClientLine) (found : slic
       none_only place at _ none ∙ sym (none_only place now _ (called_is s s.left given ∙ none)))
       said
 
-  turned_comes : (now : ℕ) (turn : Turn) (s : Client) → Reads world client line s → TurnOf (IsSaidAt now) turn
+  turned_comes : (now : ℕ) (turn : Turn) (s : ClientState) → Reads world client line s → TurnOf (IsSaidAt now) turn
       → comes_to world place (turned turn s) ≡ tree_at world place s.results ++ only_at place now (decided_by_turn s turn)
   turned_comes now (goes_on (act flow)) s reads is = ap (λ more. tree_at world place s.results ++ more) (sym (no_more (eqb place now)))
   turned_comes now (goes_on other_stage) s reads is = absurd is
@@ -312,8 +312,8 @@ module _ (world : World) (client : ℕ) (line : Option ClientLine) (found : slic
       wound_comes retries more s reads
       ∙ ap (λ these. tree_at world place s.results ++ these) (sym (no_more (eqb place now)))
 
-  stage_comes : (told : Told) (stage : Stage) (s : Client) → Reads world client line s → TellsFlow told stage s.sent
-      → comes_to world place (turned (turn_at s stage) s) ≡ (tree_at world place s.results ++ by_stage place s.who.caller s.left stage) ++ only_at place told.serve_place (decided_at_stage s stage)
+  stage_comes : (told : Told) (stage : Stage) (s : ClientState) → Reads world client line s → TellsFlow told stage s.sent
+      → comes_to world place (turned (turn_at world.digest s stage) s) ≡ (tree_at world place s.results ++ by_stage place s.who.caller s.left stage) ++ only_at place told.serve_place (decided_at_stage world.digest s stage)
   stage_comes told compose s reads tells =
       ap (λ front. front ++ []) (sym (append-nil (tree_at world place s.results)))
       ∙ ap (λ more. (tree_at world place s.results ++ []) ++ more) (sym (no_more (eqb place told.serve_place)))
@@ -322,23 +322,23 @@ module _ (world : World) (client : ℕ) (line : Option ClientLine) (found : slic
       (weaker_turn (IsOfRound s.sent) (IsSaidAt told.serve_place) (λ given at is. inr is.other) _ (round_turn_is (next_course s.left) s.sent))
       ∙ ap (λ front. front ++ only_at place told.serve_place (decided_by_turn s (after_round (next_course s.left) s.sent))) (sym (append-nil (tree_at world place s.results)))
   stage_comes told (act flow) s reads tells =
-      turned_comes told.serve_place (act_turn s.who flow s.sent) s reads
-      (weaker_turn (IsAt told.serve_place) (IsSaidAt told.serve_place) (λ given at is. inl is) _ (act_turn_at s.who flow s.sent told tells))
-      ∙ ap (λ front. front ++ only_at place told.serve_place (decided_by_turn s (act_turn s.who flow s.sent))) (sym (append-nil (tree_at world place s.results)))
+      turned_comes told.serve_place (act_turn world.digest s.who flow s.sent) s reads
+      (weaker_turn (IsAt told.serve_place) (IsSaidAt told.serve_place) (λ given at is. inl is) _ (act_turn_at world.digest s.who flow s.sent told tells))
+      ∙ ap (λ front. front ++ only_at place told.serve_place (decided_by_turn s (act_turn world.digest s.who flow s.sent))) (sym (append-nil (tree_at world place s.results)))
   stage_comes told (winds ending m ms) s reads tells =
       wound_comes ending ms s reads
       ∙ sym (append-nil _)
       ∙ ap (λ more. (tree_at world place s.results ++ by_ending place s.who.caller s.left ending) ++ more) (sym (no_more (eqb place told.serve_place)))
 
   -- a Serve adds what it decides, at its own place
-  pub served_comes : (ask_place : ℕ) (told : Told) (s : Client) → IsOpen s → Reads world client line s
-      → comes_to world place (served ask_place told s) ≡ comes_to world place s ++ only_at place told.serve_place (decided_for ask_place told s)
+  pub served_comes : (ask_place : ℕ) (told : Told) (s : ClientState) → IsOpen s → Reads world client line s
+      → comes_to world place (served world.digest ask_place told s) ≡ comes_to world place s ++ only_at place told.serve_place (decided_for world.digest ask_place told s)
   served_comes ask_place told s is reads =
       let now : Reads world client line (recorded ask_place told s) = record { who = reads.who; counted = reads.counted; left = reads.left } in
       let same : comes_to world place s ≡ comes_to world place s ++ only_at place told.serve_place nothing =
       sym (append-nil _) ∙ ap (λ more. comes_to world place s ++ more) (sym (no_more (eqb place told.serve_place)))
       in
-      by_serve (λ t made. comes_to world place t ≡ comes_to world place s ++ only_at place told.serve_place made) ask_place told s
+      by_serve world.digest (λ t made. comes_to world place t ≡ comes_to world place s ++ only_at place told.serve_place made) ask_place told s
       (λ apart. same)
       (λ here going. same)
       (λ here complete. stage_comes told s.stage (recorded ask_place told s) now (told_completes ask_place told s is here complete))

@@ -2,7 +2,8 @@
 use Rattle.std.proofs.Common.{◌≡◌, ℕ, ◌||◌, Bool, true, false, if◌then◌else◌, List, [], ◌∷◌, Some, None, refl, sym, ap, ◌∙◌, subst}
 use Rattle.inf_base.specs.declared.call.Call.{Call}
 use Rattle.inf_base.specs.declared.caller.Caller.{Caller}
-use Rattle.inf_flow_dir.specs.Client.{Client, Sent, Stage, act, compose, has_place, round, told_at, winds}
+use Rattle.inf_base.specs.declared.id.Id.{Id}
+use Rattle.inf_flow_dir.specs.Client.{ClientState, Sent, Stage, act, compose, has_place, round, told_at, winds}
 use Rattle.inf_flow_dir.specs.Flow.{Flow, message_of}
 use Rattle.inf_flow_dir.specs.Group.{group, next_course}
 use Rattle.inf_flow_dir.specs.Heard.{heard}
@@ -58,50 +59,50 @@ lift_quiet servers (has_unlinked target) m lifts = subst (λ (n : Message). IsQu
 
 -- ---- the moment of a Serve, by the stage that the client is in
 
-if_none : (b : Bool) (s : Client) → decided_at_stage s s.stage ≡ [] → decided_if b s ≡ []
-if_none true s none = none
-if_none false s none = refl
+if_none : (digest : List ℕ → Id) (b : Bool) (s : ClientState) → decided_at_stage digest s s.stage ≡ [] → decided_if digest b s ≡ []
+if_none digest true s none = none
+if_none digest false s none = refl
 
-when_none : (b : Bool) (place : ℕ) (told : Told) (s : Client) → decided_at_stage (recorded place told s) s.stage ≡ [] → decided_when b place told s ≡ []
-when_none true place told s none = if_none (is_complete (recorded place told s)) (recorded place told s) none
-when_none false place told s none = refl
+when_none : (digest : List ℕ → Id) (b : Bool) (place : ℕ) (told : Told) (s : ClientState) → decided_at_stage digest (recorded place told s) s.stage ≡ [] → decided_when digest b place told s ≡ []
+when_none digest true place told s none = if_none digest (is_complete (recorded place told s)) (recorded place told s) none
+when_none digest false place told s none = refl
 
 abbrev waiting : ℕ → Sent
 waiting place = record { place = place; told = None }
 
-module _ (A : ℕ → Request → Type 0) (m : Moment) (s : Client) (asked : Call) (calls : List Call) (left : s.left ≡ asked ∷ calls)
+module _ (digest : List ℕ → Id) (A : ℕ → Request → Type 0) (m : Moment) (s : ClientState) (asked : Call) (calls : List Call) (left : s.left ≡ asked ∷ calls)
     (place number serve_place : ℕ) (ask : Ask) (given : Reply) (owes : Owes m s.who.caller asked ask.request given) where
-  abbrev in_stage : Stage → List Sent → Client
+  abbrev in_stage : Stage → List Sent → ClientState
   in_stage stage sent = record s { stage = stage; sent = sent }
 
   abbrev told : Told
   told = told_reply serve_place (heard given)
 
-  quiet_comes : (t : Client) → decided_at_stage (recorded place told t) t.stage ≡ [] → IsQuiet ask.request → Comes m (decided_for place told t)
+  quiet_comes : (t : ClientState) → decided_at_stage digest (recorded place told t) t.stage ≡ [] → IsQuiet ask.request → Comes m (decided_for digest place told t)
   quiet_comes t none quiet =
-      subst (λ (ds : List Decided). Comes m ds) (sym (when_none (has_place place t.sent) place told t none))
+      subst (λ (ds : List Decided). Comes m ds) (sym (when_none digest (has_place place t.sent) place told t none))
       (comes_on m (quiet_goes m s.who.caller asked ask.request given quiet owes))
 
   -- the client once the only Ask of its group is so
-  abbrev with_only : Flow → Sent → Client
+  abbrev with_only : Flow → Sent → ClientState
   with_only flow x = record (recorded place told (in_stage (act flow) [])) { sent = x ∷ [] }
 
   abbrev decides_with : Flow → Sent → List Decided
-  decides_with flow x = decided_if (is_complete (with_only flow x)) (with_only flow x)
+  decides_with flow x = decided_if digest (is_complete (with_only flow x)) (with_only flow x)
 
   acting : (flow : Flow) → message_of s.who flow ≡ record { number = number; request = ask.request }
-      → Comes m (decided_for place told (in_stage (act flow) (waiting place ∷ [])))
+      → Comes m (decided_for digest place told (in_stage (act flow) (waiting place ∷ [])))
   acting flow is =
       let x : Sent = record { place = place; told = Some told } in
       let is_told : told_at place told (waiting place) ≡ x = ap (λ (b : Bool). if b then x else waiting place) (itself place) in
-      let decides : decided_for place told (in_stage (act flow) (waiting place ∷ [])) ≡ decides_with flow x =
-      ap (λ (b : Bool). decided_when (b || false) place told (in_stage (act flow) (waiting place ∷ []))) (itself place) ∙ ap (decides_with flow) is_told in
+      let decides : decided_for digest place told (in_stage (act flow) (waiting place ∷ [])) ≡ decides_with flow x =
+      ap (λ (b : Bool). decided_when digest (b || false) place told (in_stage (act flow) (waiting place ∷ []))) (itself place) ∙ ap (decides_with flow) is_told in
       subst (λ (ds : List Decided). Comes m ds) (sym decides)
-      (act_comes m (with_only flow x) asked calls left flow place serve_place given
+      (act_comes digest m (with_only flow x) asked calls left flow place serve_place given
       (subst (λ (message : Message). Owes m s.who.caller asked message.request given) (sym is) owes))
 
   by_stage : (stage : Stage) (sent : List Sent) (phase : Phase) → Waits (in_stage stage sent) place number ask → AreAskedFor A (group s.who stage) sent
-      → HasPhase s.who stage phase → Comes m (decided_for place told (in_stage stage sent))
+      → HasPhase digest s.who stage phase → Comes m (decided_for digest place told (in_stage stage sent))
   by_stage compose sent phase waits asks has = let none = waits.message in absurd cc
   by_stage (round keys) sent phase waits asks has =
       let found = look_in s.who keys waits.index number ask.request waits.message in
@@ -110,11 +111,11 @@ module _ (A : ℕ → Request → Type 0) (m : Moment) (s : Client) (asked : Cal
       (subst (λ (r : Request). IsQuiet r) (sym found.is) tt)
   by_stage (act flow) sent phase waits asks has =
       let lone = alone A (message_of s.who flow) sent waits.index place number ask.request waits.sent waits.message asks in
-      subst (λ (xs : List Sent). Comes m (decided_for place told (in_stage (act flow) xs))) (sym lone.sent_alone) (acting flow lone.message)
+      subst (λ (xs : List Sent). Comes m (decided_for digest place told (in_stage (act flow) xs))) (sym lone.sent_alone) (acting flow lone.message)
   by_stage (winds ending first ms) sent phase waits asks has =
       quiet_comes (in_stage (winds ending first ms) sent) refl
       (subst (λ (n : Message). IsQuiet n.request) (only_one first waits.index number ask.request waits.message) (lift_quiet s.who.servers phase first has.0))
 
   -- what is owed for the request is what comes of what the client's call decides
-  pub serve_comes : (phase : Phase) → Waits s place number ask → AsksItsGroup A s → HasPhase s.who s.stage phase → Comes m (decided_for place told s)
+  pub serve_comes : (phase : Phase) → Waits s place number ask → AsksItsGroup A s → HasPhase digest s.who s.stage phase → Comes m (decided_for digest place told s)
   serve_comes phase waits asks has = by_stage s.stage s.sent phase waits asks.asked has

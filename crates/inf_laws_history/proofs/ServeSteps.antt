@@ -10,7 +10,7 @@ use Rattle.inf_base.specs.declared.key.LookKey.TheVariants as look
 use Rattle.inf_base.specs.Same.{dir_of}
 use Rattle.inf_duty.specs.After.{client_after}
 use Rattle.inf_duty.specs.World.{World}
-use Rattle.inf_flow_dir.specs.Client.{call_ref, Client}
+use Rattle.inf_flow_dir.specs.Client.{call_ref, ClientState}
 use Rattle.inf_flow_dir.specs.Flow.{Who}
 use Rattle.inf_flow_dir.specs.Heard.{heard}
 use Rattle.inf_laws_client.specs.Asked.{AnswersAsked}
@@ -85,7 +85,7 @@ module _ (stands : ServedStands) (world : World) (h : List Event) (number place 
   abbrev told : Told
   told = told_reply (suc (length h)) (heard given)
 
-  abbrev asker : Client
+  abbrev asker : ClientState
   asker = client_after world ask.from.client h
 
   abbrev objects : Objects
@@ -113,7 +113,7 @@ module _ (stands : ServedStands) (world : World) (h : List Event) (number place 
       weaker_knows (IsTrue world h kept.objects kept.phases) (IsToldAs service kept.objects (root_in world) kept.phases) (λ k access is. is.told)
       asker (kept.clients ask.from.client).knows
 
-  hand : InHand kept.phases asker
+  hand : InHand world.digest kept.phases asker
   hand = in_hands world h kept ask.from.client
 
   abbrev moment : Moment
@@ -122,14 +122,14 @@ module _ (stands : ServedStands) (world : World) (h : List Event) (number place 
   owed : Owes moment ask.caller next.asked ask.request given
   owed =
       stands service kept.objects number place (root_in world) kept.tree kept.phases ask next.asked given may.after kept.standing
-      (fits (IsToldAs service kept.objects (root_in world) kept.phases) asker place number ask kept.phases hand knows_told waits)
+      (fits world.digest (IsToldAs service kept.objects (root_in world) kept.phases) asker place number ask kept.phases hand knows_told waits)
       (aims service kept.objects (root_in world) kept.phases asker next.asked next.more (kept.phases (call_ref asker)) place number ask next.is knows_told
       (kept.clients ask.from.client).path (has_course world ask.from.client h) hand.phase hand.may waits)
       (unborn world h kept.objects place may.waits counted kept.born (root_in world) kept.phases kept.standing.owned) replies
 
-  comes : Comes moment (decided_for place told asker)
+  comes : Comes moment (decided_for world.digest place told asker)
   comes =
-      serve_comes (WasAskedIn h) moment asker next.asked next.more next.is place number (suc (length h)) ask given
+      serve_comes world.digest (WasAskedIn h) moment asker next.asked next.more next.is place number (suc (length h)) ask given
       (subst (λ (c : Caller). Owes moment c next.asked ask.request given) waits.caller owed)
       (kept.phases (call_ref asker)) waits (kept.clients ask.from.client).asks hand.phase
 
@@ -182,46 +182,46 @@ module _ (stands : ServedStands) (world : World) (h : List Event) (number place 
 
   knows_now : (client : ℕ) → KnowsOnly TrueNow (client_after world client now)
   knows_now client =
-      served_knows TrueNow place told (client_after world client h)
+      served_knows world.digest TrueNow place told (client_after world client h)
       (weaker_knows (IsTrue world h kept.objects kept.phases) TrueNow stays_true (client_after world client h) (kept.clients client).knows)
       (tells_if_found TrueNow given found_true)
-      (answers_top place (heard given) (client_after world client h) (kept.clients client).path (looks client))
+      (answers_top world.digest place (heard given) (client_after world client h) (kept.clients client).path (looks client))
 
-  path_now : (client : ℕ) → KeepsToPath (client_after world client now)
-  path_now client = served_keeps place told (client_after world client h) (kept.clients client).path (looks client)
+  path_now : (client : ℕ) → KeepsToPath world.digest (client_after world client now)
+  path_now client = served_keeps world.digest place told (client_after world client h) (kept.clients client).path (looks client)
 
   -- ---- what calls have in hand
 
-  asker_hand : InHand phases (client_after world ask.from.client now)
+  asker_hand : InHand world.digest phases (client_after world ask.from.client now)
   asker_hand =
       let who = who_after world h ask.from.client in
       served_in_hand service (WasAskedIn h) (IsToldAs service kept.objects (root_in world) kept.phases) asker place number (suc (length h)) ask given kept.phases
-      (ap (λ (w : Who). w.servers) who) (ap (λ (w : Who). w.digest) who) hand (kept.clients ask.from.client).asks knows_told waits
+      (ap (λ (w : Who). w.servers) who) hand (kept.clients ask.from.client).asks knows_told waits
       (is_answering service asker place number ask given kept.phases (kept.objects number) may.after (ap (λ (w : Who). w.servers) who) hand waits replies)
 
-  other_hand : (client : ℕ) → (ask.from.client ≡ client → ⊥) → InHand phases (client_after world client now)
+  other_hand : (client : ℕ) → (ask.from.client ≡ client → ⊥) → InHand world.digest phases (client_after world client now)
   other_hand client apart =
-      subst (λ (s : Client). InHand phases s) (sym (others_stay world h client number place given may.posted may.made apart))
-      (apart_in_hand ask.from (next_phase service place (kept.phases ask.from) ask.request given) kept.phases (client_after world client h)
+      subst (λ (s : ClientState). InHand world.digest phases s) (sym (others_stay world h client number place given may.posted may.made apart))
+      (apart_in_hand world.digest ask.from (next_phase service place (kept.phases ask.from) ask.request given) kept.phases (client_after world client h)
       (λ same. apart (same ∙ client_is world h client)) (in_hands world h kept client))
 
-  hand_now : (client : ℕ) → InHand phases (client_after world client now)
+  hand_now : (client : ℕ) → InHand world.digest phases (client_after world client now)
   hand_now client = by (eqb ask.from.client client) refl
     where
-      by : (b : Bool) → eqb ask.from.client client ≡ b → InHand phases (client_after world client now)
-      by true same = subst (λ (c : ℕ). InHand phases (client_after world c now)) ((Decides-eqb ask.from.client client).0 same) asker_hand
+      by : (b : Bool) → eqb ask.from.client client ≡ b → InHand world.digest phases (client_after world client now)
+      by true same = subst (λ (c : ℕ). InHand world.digest phases (client_after world c now)) ((Decides-eqb ask.from.client client).0 same) asker_hand
       by false apart = other_hand client (λ same. let is = (Decides-eqb ask.from.client client).1 same in absurd cc)
 
   -- ---- the calls that are decided
 
-  all_decided : decided_in world now ≡ decided_in world h ++ decided_for place told asker
+  all_decided : decided_in world now ≡ decided_in world h ++ decided_for world.digest place told asker
   all_decided = ap (λ (found : Option Posted). decided_in world h ++ decided_at world h place told found) may.made
 
   pub kept_serve : Kept world (event.Serve number place given ∷ h)
   kept_serve =
       let came = comes in
       let before : List Decided = decided_in world h in
-      let later : List Decided = decided_for place told asker in
+      let later : List Decided = decided_for world.digest place told asker in
       record {
         objects = objects;
         states = states_served world h kept.objects kept.states number place given may.posted may.made may.after may.reply;

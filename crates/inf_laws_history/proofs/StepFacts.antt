@@ -120,7 +120,7 @@ OthersHaveNothing world h phases = (call : CallRef) → call.number ≢ (client_
 abbrev numbered : ℕ → ℕ → CallRef
 numbered client number = record { client = client; number = number }
 
-pub in_hands : (world : World) (h : List Event) (kept : Kept world h) (client : ℕ) → InHand kept.phases (client_after world client h)
+pub in_hands : (world : World) (h : List Event) (kept : Kept world h) (client : ℕ) → InHand world.digest kept.phases (client_after world client h)
 in_hands world h kept client =
     let own = kept.clients client in
     record {
@@ -130,14 +130,14 @@ in_hands world h kept client =
       may = own.may;
     }
 
-pub others_have : (world : World) (h : List Event) (phases : Phases) → ((client : ℕ) → InHand phases (client_after world client h))
+pub others_have : (world : World) (h : List Event) (phases : Phases) → ((client : ℕ) → InHand world.digest phases (client_after world client h))
     → OthersHaveNothing world h phases
 others_have world h phases hands call apart =
     subst (λ (c : ℕ). phases (numbered c call.number) ≡ idle) (client_is world h call.client) ((hands call.client).others call.number apart)
 
 pub is_kept : (world : World) (h : List Event) (objects : Objects) (phases : Phases) (client : ℕ)
-    → KnowsOnly (IsTrue world h objects phases) (client_after world client h) → KeepsToPath (client_after world client h)
-    → AsksItsGroup (WasAskedIn h) (client_after world client h) → InHand phases (client_after world client h)
+    → KnowsOnly (IsTrue world h objects phases) (client_after world client h) → KeepsToPath world.digest (client_after world client h)
+    → AsksItsGroup (WasAskedIn h) (client_after world client h) → InHand world.digest phases (client_after world client h)
     → IsKept world h objects phases client (client_after world client h)
 is_kept world h objects phases client knows path asks hand = record {
   who = who_after world h client;

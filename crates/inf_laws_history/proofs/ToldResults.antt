@@ -1,5 +1,6 @@
 -- What results that were given up rest on: the Serve that said so, and the Ask that it served.
 use Rattle.std.proofs.Common.{◌≡◌, ℕ, zero, suc, ◌+◌, ◌≤◌, ◌<◌, ◌==◌, Bool, true, false, cond, eqb, if◌then◌else◌, nat_lt, List, [], ◌∷◌, ◌++◌, length, map, slice_get, Option, None, Some, refl, sym, ap, subst, ◌∙◌, ⊎_elim, arith}
+use Rattle.inf_base.specs.declared.id.Id.{Id}
 use Rattle.std.specs.Prelude.{All}
 use Rattle.std.proofs.lemmas.Bool.Decides.{Decides-eqb, nat_tests}
 use Rattle.inf_base.specs.declared.answer.Answer.{Answer}
@@ -15,7 +16,7 @@ use Rattle.inf_duty.specs.Duty.{asked, begun, given_up_in}
 use Rattle.inf_duty.specs.Outcome.{Agrees, Outcome, OutcomeFrom, all_given_up, results_of, so_far, unanswered}
 use Rattle.inf_duty.specs.Start.{starting}
 use Rattle.inf_duty.specs.World.{World}
-use Rattle.inf_flow_dir.specs.Client.{Client, Ending, Sent, Stage, act, answers, call_ref, compose, ended, has_place, result_of, retries, round, told_at, winds, wound}
+use Rattle.inf_flow_dir.specs.Client.{ClientState, Ending, Sent, Stage, act, answers, call_ref, compose, ended, has_place, result_of, retries, round, told_at, winds, wound}
 use Rattle.inf_flow_dir.specs.Flow.{Flow, Who, birth_of, clean_up, finishes, links, makes, message_of, reserves, seals, unlinks}
 use Rattle.inf_flow_dir.specs.Group.{Course, composed_stage, group, keys_of, next_course}
 use Rattle.inf_flow_dir.specs.Heard.{heard}
@@ -130,7 +131,7 @@ AreServed h call [] = Unit {0}
 AreServed h call (x ∷ xs) = IsServedIf h call x.place x.told × AreServed h call xs
 
 -- a client's results, and the answer that its call comes to, rest on Serves; so does what its group was told
-pub record IsCaused (h : List Event) (s : Client) : Type 0 where
+pub record IsCaused (h : List Event) (s : ClientState) : Type 0 where
   pub results : AllCaused h s.results
   pub stage : StageCaused h (call_ref s) s.stage
   pub sent : AreServed h (call_ref s) s.sent
@@ -207,7 +208,7 @@ results_stay : (e : Event) (h : List Event) (results : List CallResult) → AllC
 results_stay e h [] all = tt
 results_stay e h (r ∷ rs) all = (cause_stays e h r.call r.answer r.place all.0, results_stay e h rs all.1)
 
-caused_stays : (e : Event) (h : List Event) (s : Client) → IsCaused h s → IsCaused (e ∷ h) s
+caused_stays : (e : Event) (h : List Event) (s : ClientState) → IsCaused h s → IsCaused (e ∷ h) s
 caused_stays e h s is = record {
   results = results_stay e h s.results is.results;
   stage = stage_stays e h (call_ref s) s.stage is.stage;
@@ -221,49 +222,27 @@ both_caused h [] second one two = two
 both_caused h (r ∷ first) second one two = (one.0, both_caused h first second one.1 two)
 
 module _ (h : List Event) where
-  ended_caused : (given : Answer) (at : Option ℕ) (s : Client) → AllCaused h s.results → IsCausedFor h (call_ref s) given at → IsCaused h (ended given at s)
+  ended_caused : (given : Answer) (at : Option ℕ) (s : ClientState) → AllCaused h s.results → IsCausedFor h (call_ref s) given at → IsCaused h (ended given at s)
   ended_caused given at s all new = record {
     results = both_caused h s.results (result_of given at s.counts.last s ∷ []) all (new, tt);
     stage = tt;
     sent = tt;
   }
 
-  wound_caused : (ending : Ending) (more : List Message) (s : Client) → AllCaused h s.results → EndsCaused h (call_ref s) ending → IsCaused h (wound ending more s)
+  wound_caused : (ending : Ending) (more : List Message) (s : ClientState) → AllCaused h s.results → EndsCaused h (call_ref s) ending → IsCaused h (wound ending more s)
   wound_caused (answers given at) [] s all new = ended_caused given at s all new
   wound_caused retries [] s all new = record { results = all; stage = tt; sent = tt }
   wound_caused ending (m ∷ ms) s all new = record { results = all; stage = new; sent = tt }
 
-  given_up_caused : (stage : Stage) (s : Client) → IsCaused h s → IsCaused h (given_up_in s stage)
+  given_up_caused : (stage : Stage) (s : ClientState) → IsCaused h s → IsCaused h (given_up_in s stage)
   given_up_caused (act flow) s is = wound_caused (answers answer.NoMemory None) (clean_up s.who flow) s is.results tt
   given_up_caused (winds ending m ms) s is = is
   given_up_caused compose s is = ended_caused answer.NoMemory None s is.results tt
   given_up_caused (round keys) s is = ended_caused answer.NoMemory None s is.results tt
 
-  keys_caused : (call : CallRef) (who : Who) (course : Option Course) → StageCaused h call (keys_of who course)
-  keys_caused call who None = tt
-  keys_caused call who (Some course) = tt
-
-  composed_caused : (stage : Stage) (s : Client) → StageCaused h (call_ref s) stage → StageCaused h (call_ref s) (composed_stage s stage)
-  composed_caused compose s is = keys_caused (call_ref s) s.who (next_course s.left)
-  composed_caused (round keys) s is = tt
-  composed_caused (act flow) s is = tt
-  composed_caused (winds ending m ms) s is = is
-
-  keeps_causes : IsKept (IsCaused h)
-  keeps_causes = record {
-    composing = λ s is. record { results = is.results; stage = composed_caused s.stage s is.stage; sent = is.sent };
-    giving_up = λ s is. given_up_caused s.stage s is;
-  }
-
   newly_sent : (call : CallRef) (place : ℕ) (sent : List Sent) → AreServed h call sent → AreServed h call (sent ++ record { place = place; told = None } ∷ [])
   newly_sent call place [] are = (tt, tt)
   newly_sent call place (x ∷ xs) are = (are.0, newly_sent call place xs are.1)
-
-  asked_caused : (place : ℕ) (ask : Ask) (s : Client) → IsCaused h s → IsCaused h (asked place ask s)
-  asked_caused place ask s is =
-      let now = kept_begun (IsCaused h) keeps_causes ask s.sent s is in
-      let t : Client = begun ask s.sent s in
-      record { results = now.results; stage = now.stage; sent = newly_sent (call_ref t) place t.sent now.sent }
 
   -- ---- what comes of a group
 
@@ -323,29 +302,6 @@ module _ (h : List Event) where
         → WasAskedIn h place (request.Make own) → told.reply ≡ given → TurnCaused (after_make who flow own told.serve_place given)
     make_caused who flow own place told (reply.Clash kept) is was reads = clash_for place told own kept is was reads
     make_caused who flow own place told any_reply is was reads = fails_caused who flow place told any_reply is reads
-
-    after_act_caused : (who : Who) (flow : Flow) (place : ℕ) (told : Told) (given : Reply) → IsServedFor h call place told
-        → WasAskedIn h place (message_of who flow).request → told.reply ≡ given → TurnCaused (after_act who flow place told.serve_place given)
-    after_act_caused who (finishes chain (op.Create name mode)) place told reply.Fine is was reads = tt
-    after_act_caused who (finishes chain (op.Stat name)) place told (reply.Stat kind meta) is was reads = tt
-    after_act_caused who (reserves chain name mode) place told (reply.Reserved version) is was reads = tt
-    after_act_caused who (makes chain name mode version) place told reply.Fine is was reads = tt
-    after_act_caused who (makes chain name mode version) place told given is was reads =
-        make_caused who (makes chain name mode version) (birth_of who chain name version) place told given is was reads
-    after_act_caused who (links chain name mode version born) place told reply.Fine is was reads = tt
-    after_act_caused who (seals chain) place told reply.Fine is was reads = tt
-    after_act_caused who (unlinks chain) place told reply.Fine is was reads = tt
-    after_act_caused who flow place told given is was reads = fails_caused who flow place told given is reads
-
-    told_act_caused : (who : Who) (flow : Flow) (place : ℕ) (told : Option Told) (xs : List Sent) → IsServedIf h call place told
-        → WasAskedIn h place (message_of who flow).request → TurnCaused (act_turn who flow (record { place = place; told = told } ∷ xs))
-    told_act_caused who flow place None xs is was = tt
-    told_act_caused who flow place (Some told) xs is was = after_act_caused who flow place told told.reply is was refl
-
-    act_caused : (who : Who) (flow : Flow) (sent : List Sent) → AreServed h call sent → AreAskedFor (WasAskedIn h) (message_of who flow ∷ []) sent
-        → TurnCaused (act_turn who flow sent)
-    act_caused who flow [] are asks = tt
-    act_caused who flow (x ∷ xs) are asks = told_act_caused who flow x.place x.told xs are.0 asks.0
 
     -- ---- a round
 
@@ -407,14 +363,61 @@ module _ (h : List Event) where
     round_caused (Some course) [] are = tt
     round_caused (Some course) (x ∷ xs) are = first_caused course x.place x.told xs are.0 are.1
 
-  turned_caused : (turn : Turn) (s : Client) → AllCaused h s.results → TurnCaused (call_ref s) turn → IsCaused h (turned turn s)
+  turned_caused : (turn : Turn) (s : ClientState) → AllCaused h s.results → TurnCaused (call_ref s) turn → IsCaused h (turned turn s)
   turned_caused (goes_on next) s all is = record { results = all; stage = is; sent = tt }
   turned_caused (winds_up ending more) s all is = wound_caused ending more s all is
 
-  stage_caused : (stage : Stage) (s : Client) → StageCaused h (call_ref s) stage → AreServed h (call_ref s) s.sent
-      → AreAskedFor (WasAskedIn h) (group s.who stage) s.sent → TurnCaused (call_ref s) (turn_at s stage)
+module _ (digest : List ℕ → Id) (h : List Event) where
+  keys_caused : (call : CallRef) (who : Who) (course : Option Course) → StageCaused h call (keys_of digest who course)
+  keys_caused call who None = tt
+  keys_caused call who (Some course) = tt
+
+  composed_caused : (stage : Stage) (s : ClientState) → StageCaused h (call_ref s) stage → StageCaused h (call_ref s) (composed_stage digest s stage)
+  composed_caused compose s is = keys_caused (call_ref s) s.who (next_course s.left)
+  composed_caused (round keys) s is = tt
+  composed_caused (act flow) s is = tt
+  composed_caused (winds ending m ms) s is = is
+
+  keeps_causes : IsKept digest (IsCaused h)
+  keeps_causes = record {
+    composing = λ s is. record { results = is.results; stage = composed_caused s.stage s is.stage; sent = is.sent };
+    giving_up = λ s is. given_up_caused h s.stage s is;
+  }
+
+  asked_caused : (place : ℕ) (ask : Ask) (s : ClientState) → IsCaused h s → IsCaused h (asked digest place ask s)
+  asked_caused place ask s is =
+      let now = kept_begun digest (IsCaused h) keeps_causes ask s.sent s is in
+      let t : ClientState = begun digest ask s.sent s in
+      record { results = now.results; stage = now.stage; sent = newly_sent h (call_ref t) place t.sent now.sent }
+
+  module _ (call : CallRef) where
+    after_act_caused : (who : Who) (flow : Flow) (place : ℕ) (told : Told) (given : Reply) → IsServedFor h call place told
+        → WasAskedIn h place (message_of who flow).request → told.reply ≡ given → TurnCaused h call (after_act digest who flow place told.serve_place given)
+    after_act_caused who (finishes chain (op.Create name mode)) place told reply.Fine is was reads = tt
+    after_act_caused who (finishes chain (op.Stat name)) place told (reply.Stat kind meta) is was reads = tt
+    after_act_caused who (reserves chain name mode) place told (reply.Reserved version) is was reads = tt
+    after_act_caused who (makes chain name mode version id) place told reply.Fine is was reads = tt
+    after_act_caused who (makes chain name mode version id) place told given is was reads =
+        make_caused h call who (makes chain name mode version id) (birth_of who chain name version) place told given is was reads
+    after_act_caused who (links chain name mode version dir) place told reply.Fine is was reads = tt
+    after_act_caused who (seals chain) place told reply.Fine is was reads = tt
+    after_act_caused who (unlinks chain) place told reply.Fine is was reads = tt
+    after_act_caused who flow place told given is was reads = fails_caused h call who flow place told given is reads
+
+    told_act_caused : (who : Who) (flow : Flow) (place : ℕ) (told : Option Told) (xs : List Sent) → IsServedIf h call place told
+        → WasAskedIn h place (message_of who flow).request → TurnCaused h call (act_turn digest who flow (record { place = place; told = told } ∷ xs))
+    told_act_caused who flow place None xs is was = tt
+    told_act_caused who flow place (Some told) xs is was = after_act_caused who flow place told told.reply is was refl
+
+    act_caused : (who : Who) (flow : Flow) (sent : List Sent) → AreServed h call sent → AreAskedFor (WasAskedIn h) (message_of who flow ∷ []) sent
+        → TurnCaused h call (act_turn digest who flow sent)
+    act_caused who flow [] are asks = tt
+    act_caused who flow (x ∷ xs) are asks = told_act_caused who flow x.place x.told xs are.0 asks.0
+
+  stage_caused : (stage : Stage) (s : ClientState) → StageCaused h (call_ref s) stage → AreServed h (call_ref s) s.sent
+      → AreAskedFor (WasAskedIn h) (group s.who stage) s.sent → TurnCaused h (call_ref s) (turn_at digest s stage)
   stage_caused compose s is are asks = tt
-  stage_caused (round keys) s is are asks = round_caused (call_ref s) (next_course s.left) s.sent are
+  stage_caused (round keys) s is are asks = round_caused h (call_ref s) (next_course s.left) s.sent are
   stage_caused (act flow) s is are asks = act_caused (call_ref s) s.who flow s.sent are asks
   stage_caused (winds ending m ms) s is are asks = is
 
@@ -441,15 +444,15 @@ module _ (h : List Event) (call : CallRef) (ask_place : ℕ) (told : Told) (now 
   all_recorded [] are = tt
   all_recorded (x ∷ xs) are = (one_recorded x.place x.told (eqb x.place ask_place) refl are.0, all_recorded xs are.1)
 
-served_caused : (h : List Event) (ask_place : ℕ) (told : Told) (s : Client) → IsCaused h s → AreAskedFor (WasAskedIn h) (group s.who s.stage) s.sent
-    → (has_place ask_place s.sent ≡ true → IsServedFor h (call_ref s) ask_place told) → IsCaused h (served ask_place told s)
-served_caused h ask_place told s is asks now =
-    by_answer (IsCaused h) ask_place told s
+served_caused : (digest : List ℕ → Id) (h : List Event) (ask_place : ℕ) (told : Told) (s : ClientState) → IsCaused h s → AreAskedFor (WasAskedIn h) (group s.who s.stage) s.sent
+    → (has_place ask_place s.sent ≡ true → IsServedFor h (call_ref s) ask_place told) → IsCaused h (served digest ask_place told s)
+served_caused digest h ask_place told s is asks now =
+    by_answer digest (IsCaused h) ask_place told s
     (λ apart. is)
     (λ here going. record { results = is.results; stage = is.stage; sent = all_recorded h (call_ref s) ask_place told (now here) s.sent is.sent })
     (λ here over.
-    turned_caused h (turn_at (recorded ask_place told s) s.stage) (recorded ask_place told s) is.results
-    (stage_caused h s.stage (recorded ask_place told s) is.stage (all_recorded h (call_ref s) ask_place told (now here) s.sent is.sent)
+    turned_caused h (turn_at digest (recorded ask_place told s) s.stage) (recorded ask_place told s) is.results
+    (stage_caused digest h s.stage (recorded ask_place told s) is.stage (all_recorded h (call_ref s) ask_place told (now here) s.sent is.sent)
     (asked_told (WasAskedIn h) ask_place told (group s.who s.stage) s.sent asks)))
 
 starting_caused : (world : World) (client : ℕ) (line : Option ClientLine) → IsCaused [] (starting world client line)
@@ -483,18 +486,18 @@ caused_after world [] legal client = starting_caused world client (slice_get wor
 caused_after world (event.Ask number ask ∷ h) legal client =
     let is = caused_stays (event.Ask number ask) h (client_after world client h) (caused_after world h legal.0 client) in
     if_both (IsCaused (event.Ask number ask ∷ h)) (eqb ask.from.client client) _ _
-    (asked_caused (event.Ask number ask ∷ h) (suc (length h)) ask (client_after world client h) is) is
+    (asked_caused world.digest (event.Ask number ask ∷ h) (suc (length h)) ask (client_after world client h) is) is
 caused_after world (event.Serve number ask_place given ∷ h) legal client =
     let e : Event = event.Serve number ask_place given in
-    let s : Client = client_after world client h in
-    served_caused (e ∷ h) ask_place (told_reply (suc (length h)) (heard given)) s
+    let s : ClientState = client_after world client h in
+    served_caused world.digest (e ∷ h) ask_place (told_reply (suc (length h)) (heard given)) s
     (caused_stays e h s (caused_after world h legal.0 client))
     (group_stays h e s (asks_group world h legal.0 client)).asked
     (newly_served world h legal.0 number ask_place given legal.1 client)
 
 -- ---- all results
 
-so_far_caused : (h : List Event) (stage : Stage) (s : Client) → StageCaused h (call_ref s) stage
+so_far_caused : (h : List Event) (stage : Stage) (s : ClientState) → StageCaused h (call_ref s) stage
     → IsCausedFor h (so_far stage s).call (so_far stage s).answer (so_far stage s).place
 so_far_caused h (winds (answers given at) m ms) s is = is
 so_far_caused h (winds retries m ms) s is = tt
@@ -502,20 +505,20 @@ so_far_caused h compose s is = tt
 so_far_caused h (round keys) s is = tt
 so_far_caused h (act flow) s is = tt
 
-unanswered_caused : (h : List Event) (calls : List Call) (s : Client) → StageCaused h (call_ref s) s.stage → AllCaused h (unanswered calls s)
+unanswered_caused : (h : List Event) (calls : List Call) (s : ClientState) → StageCaused h (call_ref s) s.stage → AllCaused h (unanswered calls s)
 unanswered_caused h [] s is = tt
 unanswered_caused h (call ∷ calls) s is =
     (so_far_caused h s.stage s is, unanswered_caused h calls (ended answer.Unanswered None s) tt)
 
-shown_caused : (h : List Event) (s : Client) → IsCaused h s → AllCaused h (results_of s)
+shown_caused : (h : List Event) (s : ClientState) → IsCaused h s → AllCaused h (results_of s)
 shown_caused h s is = both_caused h s.results (unanswered s.left s) is.results (unanswered_caused h s.left s is.stage)
 
-agrees_caused : (h : List Event) (s : Client) (mine : List CallResult) → IsCaused h s → Agrees s mine → AllCaused h mine
-agrees_caused h s mine is agrees =
+agrees_caused : (digest : List ℕ → Id) (h : List Event) (s : ClientState) (mine : List CallResult) → IsCaused h s → Agrees s mine → AllCaused h mine
+agrees_caused digest h s mine is agrees =
     ⊎_elim
     (λ same. subst (AllCaused h) (sym same) (shown_caused h s is))
     (λ (gave : (s.sent ≡ []) × (mine ≡ results_of (all_given_up s.left s))).
-    subst (AllCaused h) (sym gave.1) (shown_caused h (all_given_up s.left s) (kept_all_given_up (IsCaused h) (keeps_causes h) s.left s is)))
+    subst (AllCaused h) (sym gave.1) (shown_caused h (all_given_up s.left s) (kept_all_given_up digest (IsCaused h) (keeps_causes digest h) s.left s is)))
     agrees
 
 outcome_caused : (world : World) (h : List Event) → Legal world h → (client : ℕ) (lines : List ClientLine) (results : List CallResult)
@@ -524,7 +527,7 @@ outcome_caused world h legal client [] results out = subst (AllCaused h) (sym ou
 outcome_caused world h legal client (line ∷ lines) results out =
     subst (AllCaused h) (sym out.all)
     (both_caused h out.mine out.others
-    (agrees_caused h (client_after world client h) out.mine (caused_after world h legal client) out.agrees)
+    (agrees_caused world.digest h (client_after world client h) out.mine (caused_after world h legal client) out.agrees)
     (outcome_caused world h legal (client + 1) lines out.others out.later))
 
 each_caused : (h : List Event) (P : CallResult → Type 0) → ((r : CallResult) → IsCausedFor h r.call r.answer r.place → P r)

@@ -1,5 +1,6 @@
 -- The place of the answer that a group comes to, if it comes to one.
 use Rattle.std.proofs.Common.{◌≡◌, ℕ, ◌==◌, ◌||◌, Bool, true, false, if◌then◌else◌, eqb, List, [], ◌∷◌, ◌++◌, Option, None, Some, refl, sym, subst}
+use Rattle.inf_base.specs.declared.id.Id.{Id}
 use Rattle.std.specs.List.{list_any}
 use Rattle.inf_base.specs.declared.answer.Answer.{Answer}
 use Rattle.inf_base.specs.declared.answer.Answer.TheVariants as answer
@@ -45,17 +46,17 @@ make_at : (who : Who) (flow : Flow) (own : Triple) (place : ℕ) (given : Reply)
 make_at who flow own place (reply.Clash kept) = refl
 make_at who flow own place any_reply = fails_at who flow place any_reply
 
-after_act_at : (who : Who) (flow : Flow) (asked place : ℕ) (given : Reply) → TurnOf (IsAt place) (after_act who flow asked place given)
-after_act_at who (finishes chain (op.Create name mode)) asked place reply.Fine = refl
-after_act_at who (finishes chain (op.Stat name)) asked place (reply.Stat kind meta) = refl
-after_act_at who (reserves chain name mode) asked place (reply.Reserved version) = tt
-after_act_at who (makes chain name mode version) asked place reply.Fine = tt
-after_act_at who (makes chain name mode version) asked place given =
-    make_at who (makes chain name mode version) (birth_of who chain name version) place given
-after_act_at who (links chain name mode version born) asked place reply.Fine = refl
-after_act_at who (seals chain) asked place reply.Fine = tt
-after_act_at who (unlinks chain) asked place reply.Fine = refl
-after_act_at who flow asked place given = fails_at who flow place given
+after_act_at : (digest : List ℕ → Id) (who : Who) (flow : Flow) (asked place : ℕ) (given : Reply) → TurnOf (IsAt place) (after_act digest who flow asked place given)
+after_act_at digest who (finishes chain (op.Create name mode)) asked place reply.Fine = refl
+after_act_at digest who (finishes chain (op.Stat name)) asked place (reply.Stat kind meta) = refl
+after_act_at digest who (reserves chain name mode) asked place (reply.Reserved version) = tt
+after_act_at digest who (makes chain name mode version id) asked place reply.Fine = tt
+after_act_at digest who (makes chain name mode version id) asked place given =
+    make_at who (makes chain name mode version id) (birth_of who chain name version) place given
+after_act_at digest who (links chain name mode version dir) asked place reply.Fine = refl
+after_act_at digest who (seals chain) asked place reply.Fine = tt
+after_act_at digest who (unlinks chain) asked place reply.Fine = refl
+after_act_at digest who flow asked place given = fails_at who flow place given
 
 abbrev pub first_told : List Sent → Option Told
 first_told [] = None
@@ -65,18 +66,18 @@ abbrev IsAtTold : Option Told → Turn → Type 0
 IsAtTold None turn = turn ≡ winds_up retries []
 IsAtTold (Some told) turn = TurnOf (IsAt told.serve_place) turn
 
-told_turn : (who : Who) (flow : Flow) (place : ℕ) (told : Option Told) (xs : List Sent)
-    → IsAtTold told (act_turn who flow (record { place = place; told = told } ∷ xs))
-told_turn who flow place None xs = refl
-told_turn who flow place (Some told) xs = after_act_at who flow place told.serve_place told.reply
+told_turn : (digest : List ℕ → Id) (who : Who) (flow : Flow) (place : ℕ) (told : Option Told) (xs : List Sent)
+    → IsAtTold told (act_turn digest who flow (record { place = place; told = told } ∷ xs))
+told_turn digest who flow place None xs = refl
+told_turn digest who flow place (Some told) xs = after_act_at digest who flow place told.serve_place told.reply
 
-act_turn_is : (who : Who) (flow : Flow) (sent : List Sent) → IsAtTold (first_told sent) (act_turn who flow sent)
-act_turn_is who flow [] = refl
-act_turn_is who flow (x ∷ xs) = told_turn who flow x.place x.told xs
+act_turn_is : (digest : List ℕ → Id) (who : Who) (flow : Flow) (sent : List Sent) → IsAtTold (first_told sent) (act_turn digest who flow sent)
+act_turn_is digest who flow [] = refl
+act_turn_is digest who flow (x ∷ xs) = told_turn digest who flow x.place x.told xs
 
 -- what comes of a flow's message has the place of its Serve
-pub act_turn_at : (who : Who) (flow : Flow) (sent : List Sent) (told : Told) → first_told sent ≡ Some told → TurnOf (IsAt told.serve_place) (act_turn who flow sent)
-act_turn_at who flow sent told is = subst (λ known. IsAtTold known (act_turn who flow sent)) is (act_turn_is who flow sent)
+pub act_turn_at : (digest : List ℕ → Id) (who : Who) (flow : Flow) (sent : List Sent) (told : Told) → first_told sent ≡ Some told → TurnOf (IsAt told.serve_place) (act_turn digest who flow sent)
+act_turn_at digest who flow sent told is = subst (λ known. IsAtTold known (act_turn digest who flow sent)) is (act_turn_is digest who flow sent)
 
 -- ---- the places that a group was told
 
@@ -103,17 +104,17 @@ at_first : (place at : ℕ) (told : Told) (xs : List Sent) → at ≡ told.serve
 at_first place at told xs same =
     true_or (eqb at told.serve_place) (told_there at xs) (subst (λ p. eqb p told.serve_place ≡ true) (sym same) (itself told.serve_place))
 
-told_turn_there : (who : Who) (flow : Flow) (place : ℕ) (told : Option Told) (xs : List Sent)
-    → TurnOf (IsThere (record { place = place; told = told } ∷ xs)) (act_turn who flow (record { place = place; told = told } ∷ xs))
-told_turn_there who flow place None xs = tt
-told_turn_there who flow place (Some told) xs =
+told_turn_there : (digest : List ℕ → Id) (who : Who) (flow : Flow) (place : ℕ) (told : Option Told) (xs : List Sent)
+    → TurnOf (IsThere (record { place = place; told = told } ∷ xs)) (act_turn digest who flow (record { place = place; told = told } ∷ xs))
+told_turn_there digest who flow place None xs = tt
+told_turn_there digest who flow place (Some told) xs =
     weaker_turn (IsAt told.serve_place) (IsThere (record { place = place; told = Some told } ∷ xs)) (λ given at same. at_first place at told xs same)
-    (after_act who flow place told.serve_place told.reply)
-    (after_act_at who flow place told.serve_place told.reply)
+    (after_act digest who flow place told.serve_place told.reply)
+    (after_act_at digest who flow place told.serve_place told.reply)
 
-pub act_turn_there : (who : Who) (flow : Flow) (sent : List Sent) → TurnOf (IsThere sent) (act_turn who flow sent)
-act_turn_there who flow [] = tt
-act_turn_there who flow (x ∷ xs) = told_turn_there who flow x.place x.told xs
+pub act_turn_there : (digest : List ℕ → Id) (who : Who) (flow : Flow) (sent : List Sent) → TurnOf (IsThere sent) (act_turn digest who flow sent)
+act_turn_there digest who flow [] = tt
+act_turn_there digest who flow (x ∷ xs) = told_turn_there digest who flow x.place x.told xs
 
 -- ---- after a round
 

@@ -5,6 +5,7 @@ use Rattle.std.proofs.lemmas.Bool.{cases_eq}
 use Rattle.std.proofs.lemmas.Bool.Decides.{nat_tests}
 use Rattle.std.proofs.lemmas.List.Elements.{Contains-append_left, Contains-append_right, Contains-push}
 use Rattle.std.proofs.lemmas.Option.{slice_get_within}
+use Rattle.inf_base.specs.declared.id.Id.{Id}
 use Rattle.inf_base.specs.declared.answer.Answer.{Answer}
 use Rattle.inf_base.specs.declared.answer.Answer.TheVariants as answer
 use Rattle.inf_base.specs.declared.call.Call.{Call}
@@ -15,7 +16,7 @@ use Rattle.inf_duty.specs.Duty.{asked, begun, given_up_in}
 use Rattle.inf_duty.specs.Outcome.{Agrees, Outcome, OutcomeFrom, all_given_up, are_none, is_free, results_of, so_far, unanswered}
 use Rattle.inf_duty.specs.World.{World}
 use Rattle.inf_duty.proofs.BegunKept.{IsKept, if_both, kept_all_given_up, kept_begun}
-use Rattle.inf_flow_dir.specs.Client.{Client, Counts, Ending, Stage, act, answers, call_ref, compose, ended, first_place, placed, result_of, retries, round, winds, wound}
+use Rattle.inf_flow_dir.specs.Client.{ClientState, Counts, Ending, Stage, act, answers, call_ref, compose, ended, first_place, placed, result_of, retries, round, winds, wound}
 use Rattle.inf_flow_dir.specs.Flow.{Flow, Who, clean_up, finishes, links, makes, reserves, seals, unlinks}
 use Rattle.inf_flow_dir.specs.Group.{Course, composed_stage, keys_of, next_course}
 use Rattle.inf_flow_dir.specs.Heard.{heard}
@@ -45,7 +46,7 @@ use Rattle.inf_message.proofs.HistoryLaws.{event_within}
 -- ---- a client from the place on
 
 -- the call is over, and was so around the place
-record IsPast (call : CallRef) (place : ℕ) (s : Client) : Type 0 where
+record IsPast (call : CallRef) (place : ℕ) (s : ClientState) : Type 0 where
   result : CallResult
   inside : Contains s.results result
   own : result.call ≡ call
@@ -64,24 +65,24 @@ record ServedBehind (place : ℕ) (counts : Counts) : Type 0 where
   less : place < last
 
 -- the call is under way; it does not end without a Serve more, or had one
-record IsGoing (call : CallRef) (place : ℕ) (s : Client) : Type 0 where
+record IsGoing (call : CallRef) (place : ℕ) (s : ClientState) : Type 0 where
   is : call_ref s ≡ call
   left : 0 < length s.left
   began : BeganBefore place s.counts
   holds : (is_free s.who s.stage ≡ false) ⊎ ServedBehind place s.counts
 
-abbrev IsMet : CallRef → ℕ → Client → Type 0
+abbrev IsMet : CallRef → ℕ → ClientState → Type 0
 IsMet call place s = IsPast call place s ⊎ IsGoing call place s
 
-module _ (call : CallRef) (place : ℕ) where
-  abbrev Met : Client → Type 0
+module _ (digest : List ℕ → Id) (call : CallRef) (place : ℕ) where
+  abbrev Met : ClientState → Type 0
   Met s = IsMet call place s
 
   later_if : (last : Option ℕ) (at : ℕ) → last ≡ Some at → place < at → IfSome last (λ l. place < l)
   later_if None at is less = tt
   later_if (Some other) at is less = let same : other ≡ at = cc in omega (arith, same, less)
 
-  ends_around : (given : Answer) (at : Option ℕ) (s : Client) → call_ref s ≡ call → BeganBefore place s.counts → ServedBehind place s.counts → Met (ended given at s)
+  ends_around : (given : Answer) (at : Option ℕ) (s : ClientState) → call_ref s ≡ call → BeganBefore place s.counts → ServedBehind place s.counts → Met (ended given at s)
   ends_around given at s is began served_it = inl (record {
     result = result_of given at s.counts.last s;
     inside = Contains-push s.results (result_of given at s.counts.last s);
@@ -89,7 +90,7 @@ module _ (call : CallRef) (place : ℕ) where
     around = record { first = began.first; began = began.is; earlier = began.less; later = later_if s.counts.last served_it.last served_it.is served_it.less };
   })
 
-  past_lasts : Lasts (λ s. IsPast call place s)
+  past_lasts : Lasts digest (λ s. IsPast call place s)
   past_lasts = record {
     composing = λ s is. record { result = is.result; inside = is.inside; own = is.own; around = is.around };
     ending = λ given at s is. record {
@@ -104,17 +105,17 @@ module _ (call : CallRef) (place : ℕ) where
 
   -- ---- before a group
 
-  free_keys : (who : Who) (course : Option Course) → is_free who (keys_of who course) ≡ true
+  free_keys : (who : Who) (course : Option Course) → is_free who (keys_of digest who course) ≡ true
   free_keys who None = refl
   free_keys who (Some course) = refl
 
-  composed_free : (s : Client) (stage : Stage) → is_free s.who (composed_stage s stage) ≡ is_free s.who stage
+  composed_free : (s : ClientState) (stage : Stage) → is_free s.who (composed_stage digest s stage) ≡ is_free s.who stage
   composed_free s compose = free_keys s.who (next_course s.left)
   composed_free s (round keys) = refl
   composed_free s (act flow) = refl
   composed_free s (winds ending m ms) = refl
 
-  composed_met : (s : Client) → Met s → Met (record s { stage = composed_stage s s.stage })
+  composed_met : (s : ClientState) → Met s → Met (record s { stage = composed_stage digest s s.stage })
   composed_met s (inl past) = inl (past_lasts.composing s past)
   composed_met s (inr going) = inr (record {
     is = going.is;
@@ -124,33 +125,33 @@ module _ (call : CallRef) (place : ℕ) where
   })
 
   -- where nothing has to be cleaned up, a Serve came behind the place
-  behind_if : (s : Client) (free : Bool) → free ≡ true → (free ≡ false) ⊎ ServedBehind place s.counts → ServedBehind place s.counts
+  behind_if : (s : ClientState) (free : Bool) → free ≡ true → (free ≡ false) ⊎ ServedBehind place s.counts → ServedBehind place s.counts
   behind_if s free is (inl holds) = absurd cc
   behind_if s free is (inr behind) = behind
 
-  cleans_up : (s : Client) (more : List Message) → IsGoing call place s → (are_none more ≡ false) ⊎ ServedBehind place s.counts
+  cleans_up : (s : ClientState) (more : List Message) → IsGoing call place s → (are_none more ≡ false) ⊎ ServedBehind place s.counts
       → Met (wound (answers answer.NoMemory None) more s)
   cleans_up s [] going holds = ends_around answer.NoMemory None s going.is going.began (behind_if s true refl holds)
   cleans_up s (m ∷ ms) going holds = inr (record { is = going.is; left = going.left; began = going.began; holds = inl refl })
 
-  given_up_going : (s : Client) (stage : Stage) → IsGoing call place s → (is_free s.who stage ≡ false) ⊎ ServedBehind place s.counts → Met (given_up_in s stage)
+  given_up_going : (s : ClientState) (stage : Stage) → IsGoing call place s → (is_free s.who stage ≡ false) ⊎ ServedBehind place s.counts → Met (given_up_in s stage)
   given_up_going s (act flow) going holds = cleans_up s (clean_up s.who flow) going holds
   given_up_going s (winds ending m ms) going holds = inr going
   given_up_going s compose going holds = ends_around answer.NoMemory None s going.is going.began (behind_if s true refl holds)
   given_up_going s (round keys) going holds = ends_around answer.NoMemory None s going.is going.began (behind_if s true refl holds)
 
-  given_up_met : (s : Client) → Met s → Met (given_up_in s s.stage)
-  given_up_met s (inl past) = inl ((lasts_kept (λ (t : Client). IsPast call place t) past_lasts).giving_up s past)
+  given_up_met : (s : ClientState) → Met s → Met (given_up_in s s.stage)
+  given_up_met s (inl past) = inl ((lasts_kept digest (λ (t : ClientState). IsPast call place t) past_lasts).giving_up s past)
   given_up_met s (inr going) = given_up_going s s.stage going going.holds
 
-  kept : IsKept Met
+  kept : IsKept digest Met
   kept = record { composing = composed_met; giving_up = given_up_met }
 
   began_still : (first : Option ℕ) (at now : ℕ) → first ≡ Some at → first_place first now ≡ Some at
   began_still None at now is = absurd cc
   began_still (Some first) at now is = is
 
-  placed_met : (now : ℕ) (s : Client) → Met s → Met (placed now s)
+  placed_met : (now : ℕ) (s : ClientState) → Met s → Met (placed now s)
   placed_met now s (inl past) = inl (record { result = past.result; inside = past.inside; own = past.own; around = past.around })
   placed_met now s (inr going) = inr (record {
     is = going.is;
@@ -159,12 +160,12 @@ module _ (call : CallRef) (place : ℕ) where
     holds = ⊎_elim (λ holds. inl holds) (λ behind. inr (record { last = behind.last; is = behind.is; less = behind.less })) going.holds;
   })
 
-  asked_met : (now : ℕ) (ask : Ask) (s : Client) → Met s → Met (asked now ask s)
-  asked_met now ask s met = placed_met now (begun ask s.sent s) (kept_begun Met kept ask s.sent s met)
+  asked_met : (now : ℕ) (ask : Ask) (s : ClientState) → Met s → Met (asked digest now ask s)
+  asked_met now ask s met = placed_met now (begun digest ask s.sent s) (kept_begun digest Met kept ask s.sent s met)
 
   -- ---- after a group
 
-  wound_met : (ending : Ending) (more : List Message) (s : Client) → call_ref s ≡ call → 0 < length s.left → BeganBefore place s.counts
+  wound_met : (ending : Ending) (more : List Message) (s : ClientState) → call_ref s ≡ call → 0 < length s.left → BeganBefore place s.counts
       → ServedBehind place s.counts → Met (wound ending more s)
   wound_met (answers given at) [] s is left began behind = ends_around given at s is began behind
   wound_met retries [] s is left began behind = inr (record {
@@ -175,7 +176,7 @@ module _ (call : CallRef) (place : ℕ) where
   })
   wound_met ending (m ∷ ms) s is left began behind = inr (record { is = is; left = left; began = began; holds = inl refl })
 
-  turned_met : (turn : Turn) (s : Client) → call_ref s ≡ call → 0 < length s.left → BeganBefore place s.counts → ServedBehind place s.counts → Met (turned turn s)
+  turned_met : (turn : Turn) (s : ClientState) → call_ref s ≡ call → 0 < length s.left → BeganBefore place s.counts → ServedBehind place s.counts → Met (turned turn s)
   turned_met (goes_on next) s is left began behind = inr (record { is = is; left = left; began = began; holds = inr behind })
   turned_met (winds_up ending more) s is left began behind = wound_met ending more s is left began behind
 
@@ -187,23 +188,23 @@ module _ (call : CallRef) (place : ℕ) where
       by true is = (at, refl, less)
       by false is = (earlier, refl, grind (arith, nat_tests))
 
-  behind_now : (ask_place : ℕ) (told : Told) (s : Client) → place < told.serve_place → ServedBehind place (recorded ask_place told s).counts
+  behind_now : (ask_place : ℕ) (told : Told) (s : ClientState) → place < told.serve_place → ServedBehind place (recorded ask_place told s).counts
   behind_now ask_place told s less = let one = later_one s.counts.last told.serve_place less in record { last = one.0; is = one.1; less = one.2 }
 
-  served_met : (ask_place : ℕ) (told : Told) (s : Client) → place < told.serve_place → Met s → Met (served ask_place told s)
+  served_met : (ask_place : ℕ) (told : Told) (s : ClientState) → place < told.serve_place → Met s → Met (served digest ask_place told s)
   served_met ask_place told s less (inl past) =
-      by_answer Met ask_place told s
+      by_answer digest Met ask_place told s
       (λ apart. inl past)
       (λ here going. inl (record { result = past.result; inside = past.inside; own = past.own; around = past.around }))
       (λ here over.
-      inl (turned_lasts (λ (t : Client). IsPast call place t) past_lasts (turn_at (recorded ask_place told s) s.stage) (recorded ask_place told s)
+      inl (turned_lasts digest (λ (t : ClientState). IsPast call place t) past_lasts (turn_at digest (recorded ask_place told s) s.stage) (recorded ask_place told s)
       (record { result = past.result; inside = past.inside; own = past.own; around = past.around })))
   served_met ask_place told s less (inr going) =
       let began : BeganBefore place (recorded ask_place told s).counts = record { first = going.began.first; is = going.began.is; less = going.began.less } in
-      by_answer Met ask_place told s
+      by_answer digest Met ask_place told s
       (λ apart. inr going)
       (λ here on. inr (record { is = going.is; left = going.left; began = began; holds = inr (behind_now ask_place told s less) }))
-      (λ here over. turned_met (turn_at (recorded ask_place told s) s.stage) (recorded ask_place told s) going.is going.left began (behind_now ask_place told s less))
+      (λ here over. turned_met (turn_at digest (recorded ask_place told s) s.stage) (recorded ask_place told s) going.is going.left began (behind_now ask_place told s less))
 
   -- ---- its result
 
@@ -213,14 +214,14 @@ module _ (call : CallRef) (place : ℕ) where
     own : result.call ≡ call
     around : IsAround place result
 
-  so_far_around : (stage : Stage) (s : Client) → BeganBefore place s.counts → IsAround place (so_far stage s)
+  so_far_around : (stage : Stage) (s : ClientState) → BeganBefore place s.counts → IsAround place (so_far stage s)
   so_far_around (winds (answers given at) m ms) s began = record { first = began.first; began = began.is; earlier = began.less; later = tt }
   so_far_around (winds retries m ms) s began = record { first = began.first; began = began.is; earlier = began.less; later = tt }
   so_far_around compose s began = record { first = began.first; began = began.is; earlier = began.less; later = tt }
   so_far_around (round keys) s began = record { first = began.first; began = began.is; earlier = began.less; later = tt }
   so_far_around (act flow) s began = record { first = began.first; began = began.is; earlier = began.less; later = tt }
 
-  going_result : (left : List Call) (s : Client) → 0 < length left → call_ref s ≡ call → BeganBefore place s.counts → HasResult (unanswered left s)
+  going_result : (left : List Call) (s : ClientState) → 0 < length left → call_ref s ≡ call → BeganBefore place s.counts → HasResult (unanswered left s)
   going_result [] s some is began = absurd (omega (arith, some))
   going_result (next ∷ calls) s some is began = record {
     result = so_far s.stage s;
@@ -229,19 +230,19 @@ module _ (call : CallRef) (place : ℕ) where
     around = so_far_around s.stage s began;
   }
 
-  results_have : (s : Client) → Met s → HasResult (results_of s)
+  results_have : (s : ClientState) → Met s → HasResult (results_of s)
   results_have s (inl past) =
       record { result = past.result; inside = Contains-append_left s.results (unanswered s.left s) past.result past.inside; own = past.own; around = past.around }
   results_have s (inr going) =
       let one = going_result s.left s going.left going.is going.began in
       record { result = one.result; inside = Contains-append_right s.results (unanswered s.left s) one.result one.inside; own = one.own; around = one.around }
 
-  agreeing_have : (s : Client) (mine : List CallResult) → Met s → Agrees s mine → HasResult mine
+  agreeing_have : (s : ClientState) (mine : List CallResult) → Met s → Agrees s mine → HasResult mine
   agreeing_have s mine met agrees =
       ⊎_elim
       (λ (same : mine ≡ results_of s). subst HasResult (sym same) (results_have s met))
       (λ (gave : (s.sent ≡ []) × (mine ≡ results_of (all_given_up s.left s))).
-      subst HasResult (sym gave.1) (results_have (all_given_up s.left s) (kept_all_given_up Met kept s.left s met)))
+      subst HasResult (sym gave.1) (results_have (all_given_up s.left s) (kept_all_given_up digest Met kept s.left s met)))
       agrees
 
   in_first : (first later : List CallResult) → HasResult first → HasResult (first ++ later)
@@ -278,9 +279,9 @@ module _ (world : World) (call : CallRef) (place number ask_place : ℕ) (given 
   one_more : (e : Event) (h : List Event) → place ≤ length h → IsMet call place (client_after world call.client h)
       → IsMet call place (client_after world call.client (e ∷ h))
   one_more (event.Ask n ask) h within met =
-      if_both (IsMet call place) (eqb ask.from.client call.client) _ _ (asked_met call place (suc (length h)) ask (client_after world call.client h) met) met
+      if_both (IsMet call place) (eqb ask.from.client call.client) _ _ (asked_met world.digest call place (suc (length h)) ask (client_after world call.client h) met) met
   one_more (event.Serve n p r) h within met =
-      served_met call place p (told_reply (suc (length h)) (heard r)) (client_after world call.client h) (omega (arith, within)) met
+      served_met world.digest call place p (told_reply (suc (length h)) (heard r)) (client_after world call.client h) (omega (arith, within)) met
 
   newest : (e : Event) (h : List Event) → IsAt (e ∷ h) → place ≡ suc (length h) → e ≡ event.Serve number ask_place given
   newest e h at same = by (eqb place (suc (length h))) (grind (arith, nat_tests, same)) at
@@ -323,16 +324,16 @@ module _ (world : World) (call : CallRef) (place number ask_place : ℕ) (given 
 flow_holds : (who : Who) (flow : Flow) (phase : Phase) → FlowHas who flow phase → phase ≢ idle → are_none (clean_up who flow) ≡ false
 flow_holds who (finishes chain what) phase has acts = absurd (acts has)
 flow_holds who (reserves chain name mode) phase has acts = absurd (acts has)
-flow_holds who (makes chain name mode version) phase has acts = refl
-flow_holds who (links chain name mode version born) phase has acts = refl
+flow_holds who (makes chain name mode version id) phase has acts = refl
+flow_holds who (links chain name mode version dir) phase has acts = refl
 flow_holds who (seals chain) phase has acts = absurd (acts has)
 flow_holds who (unlinks chain) phase has acts = refl
 
-holds_at : (who : Who) (stage : Stage) (phase : Phase) → HasPhase who stage phase → phase ≢ idle → is_free who stage ≡ false
-holds_at who compose phase has acts = absurd (acts has)
-holds_at who (round keys) phase has acts = absurd (acts has)
-holds_at who (act flow) phase has acts = flow_holds who flow phase has acts
-holds_at who (winds ending m ms) phase has acts = refl
+holds_at : (digest : List ℕ → Id) (who : Who) (stage : Stage) (phase : Phase) → HasPhase digest who stage phase → phase ≢ idle → is_free who stage ≡ false
+holds_at digest who compose phase has acts = absurd (acts has)
+holds_at digest who (round keys) phase has acts = absurd (acts has)
+holds_at digest who (act flow) phase has acts = flow_holds who flow phase has.0 acts
+holds_at digest who (winds ending m ms) phase has acts = refl
 
 flows_at : (who : Who) (stage : Stage) → is_free who stage ≡ false → IsInFlow stage
 flows_at who compose holds = absurd cc
@@ -351,7 +352,7 @@ began_within None most place within some less = absurd cc
 began_within (Some first) most place within some less = (first, refl, omega (arith, within, less))
 
 module _ (world : World) (h : List Event) (kept : Kept world h) (by : CallRef) (acts : kept.phases by ≢ idle) (place : ℕ) (less : length h < place) where
-  abbrev s : Client
+  abbrev s : ClientState
   s = client_after world by.client h
 
   number_is : by.number ≡ s.number
@@ -364,7 +365,7 @@ module _ (world : World) (h : List Event) (kept : Kept world h) (by : CallRef) (
       (ap (λ c. record { client = c; number = by.number }) (client_is world h by.client))
 
   holds : is_free s.who s.stage ≡ false
-  holds = holds_at s.who s.stage (kept.phases (call_ref s)) (kept.clients by.client).phase (subst (λ (c : CallRef). kept.phases c ≢ idle) (sym ref_is) acts)
+  holds = holds_at world.digest s.who s.stage (kept.phases (call_ref s)) (kept.clients by.client).phase (subst (λ (c : CallRef). kept.phases c ≢ idle) (sym ref_is) acts)
 
   numbered : IsNumbered by.client (total_of world by.client) s
   numbered = numbered_after world by.client h
@@ -394,5 +395,5 @@ was_under_way world h results out place number ask_place given posted by at aske
     let script = acts_of_script world (before place h) kept by acts place less in
     let met = met_after world by place number ask_place given posted unlike h counted at asked_it (is_met world (before place h) kept by acts place less) in
     let within = slice_get_within world.setup.clients by.client script.line script.client in
-    let has = outcome_has by place world h by.client 0 world.setup.clients results out (omega arith) (omega (arith, within)) met in
+    let has = outcome_has world.digest by place world h by.client 0 world.setup.clients results out (omega arith) (omega (arith, within)) met in
     record { of_script = script; result = has.result; told = has.inside; own = has.own; around = has.around }

@@ -3,9 +3,10 @@ use Rattle.std.specs.Prelude.{ℕ, suc, Bool, true, false, List, [], ◌∷◌, 
 use Rattle.inf_base.specs.declared.answer.Answer.{Answer}
 use Rattle.inf_base.specs.declared.answer.Answer.TheVariants as answer
 use Rattle.inf_base.specs.declared.call.Call.{Call}
+use Rattle.inf_base.specs.declared.id.Id.{Id}
 use Rattle.inf_duty.specs.After.{client_after}
 use Rattle.inf_duty.specs.World.{World}
-use Rattle.inf_flow_dir.specs.Client.{Client, Ending, Stage, answers, has_place, retries, winds}
+use Rattle.inf_flow_dir.specs.Client.{ClientState, Ending, Stage, answers, has_place, retries, winds}
 use Rattle.inf_flow_dir.specs.Heard.{heard}
 use Rattle.inf_flow_dir.specs.Turn.{Turn, goes_on, is_complete, recorded, turn_at, winds_up}
 use Rattle.inf_message.specs.declared.event.Event.{Event}
@@ -24,39 +25,39 @@ is_of_tree given = true
 abbrev pub of_tree : List Decided → List Decided
 of_tree decided = filter (λ (d : Decided). is_of_tree d.answer) decided
 
-abbrev pub decided_call : Client → List Call → Answer → List Decided
+abbrev pub decided_call : ClientState → List Call → Answer → List Decided
 decided_call s [] given = []
 decided_call s (call ∷ calls) given = record { caller = s.who.caller; call = call; answer = given } ∷ []
 
 -- a call that has an answer with a place is decided, whatever is still to be sent for it
-abbrev pub decided_by_end : Client → Ending → List Decided
+abbrev pub decided_by_end : ClientState → Ending → List Decided
 decided_by_end s (answers given (Some place)) = of_tree (decided_call s s.left given)
 decided_by_end s (answers given None) = []
 decided_by_end s retries = []
 
 -- what winds up a call that was decided before decides nothing more
-abbrev pub decided_by_turn : Client → Turn → List Decided
+abbrev pub decided_by_turn : ClientState → Turn → List Decided
 decided_by_turn s (goes_on next) = []
 decided_by_turn s (winds_up ending more) = decided_by_end s ending
 
-abbrev pub decided_at_stage : Client → Stage → List Decided
-decided_at_stage s (winds ending m ms) = []
-decided_at_stage s other_stage = decided_by_turn s (turn_at s other_stage)
+abbrev pub decided_at_stage : (List ℕ → Id) → ClientState → Stage → List Decided
+decided_at_stage digest s (winds ending m ms) = []
+decided_at_stage digest s other_stage = decided_by_turn s (turn_at digest s other_stage)
 
-abbrev pub decided_if : Bool → Client → List Decided
-decided_if true s = decided_at_stage s s.stage
-decided_if false s = []
+abbrev pub decided_if : (List ℕ → Id) → Bool → ClientState → List Decided
+decided_if digest true s = decided_at_stage digest s s.stage
+decided_if digest false s = []
 
-abbrev pub decided_when : Bool → ℕ → Told → Client → List Decided
-decided_when true ask_place told s = decided_if (is_complete (recorded ask_place told s)) (recorded ask_place told s)
-decided_when false ask_place told s = []
+abbrev pub decided_when : (List ℕ → Id) → Bool → ℕ → Told → ClientState → List Decided
+decided_when digest true ask_place told s = decided_if digest (is_complete (recorded ask_place told s)) (recorded ask_place told s)
+decided_when digest false ask_place told s = []
 
 -- what a client's call comes to by this answer, if it decides it
-abbrev pub decided_for : ℕ → Told → Client → List Decided
-decided_for ask_place told s = decided_when (has_place ask_place s.sent) ask_place told s
+abbrev pub decided_for : (List ℕ → Id) → ℕ → Told → ClientState → List Decided
+decided_for digest ask_place told s = decided_when digest (has_place ask_place s.sent) ask_place told s
 
 abbrev pub decided_at : World → List Event → ℕ → Told → Option Posted → List Decided
-decided_at world h ask_place told (Some posted) = decided_for ask_place told (client_after world posted.ask.from.client h)
+decided_at world h ask_place told (Some posted) = decided_for world.digest ask_place told (client_after world posted.ask.from.client h)
 decided_at world h ask_place told None = []
 
 -- the calls that the Serves of a history decide, in the order of these Serves

@@ -6,7 +6,7 @@ use Rattle.inf_base.specs.declared.key.Key.{Key}
 use Rattle.inf_duty.specs.After.{client_after}
 use Rattle.inf_duty.specs.Start.{who_in}
 use Rattle.inf_duty.specs.World.{World}
-use Rattle.inf_flow_dir.specs.Client.{Client, call_ref}
+use Rattle.inf_flow_dir.specs.Client.{ClientState, call_ref}
 use Rattle.inf_laws_client.specs.Asked.{AsksItsGroup}
 use Rattle.inf_laws_client.specs.Paths.{KeepsToPath}
 use Rattle.inf_laws_client.specs.Told.{KnowsOnly}
@@ -29,12 +29,12 @@ pub record IsTrue (world : World) (h : List Event) (objects : Objects) (phases :
   pub born : IsBorn h access.born
 
 -- a client knows only what is true, keeps to its call's path, asks its group, and its call has in hand what its stage says
-pub record IsKept (world : World) (h : List Event) (objects : Objects) (phases : Phases) (client : ℕ) (s : Client) : Type 0 where
+pub record IsKept (world : World) (h : List Event) (objects : Objects) (phases : Phases) (client : ℕ) (s : ClientState) : Type 0 where
   pub who : s.who ≡ who_in world client s.who.caller
   pub knows : KnowsOnly (IsTrue world h objects phases) s
-  pub path : KeepsToPath s
+  pub path : KeepsToPath world.digest s
   pub asks : AsksItsGroup (WasAskedIn h) s
-  pub phase : HasPhase s.who s.stage (phases (call_ref s))
+  pub phase : HasPhase world.digest s.who s.stage (phases (call_ref s))
   pub may : StageMay s.who.caller s.stage
 
 pub record Kept (world : World) (h : List Event) : Type 0 where

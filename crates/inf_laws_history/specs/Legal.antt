@@ -19,7 +19,7 @@ server_after world number h = state_after (site_of world number) (serves_of numb
 -- the client is there, and does its duty
 pub record MayAsk (world : World) (h : List Event) (number : ℕ) (ask : Ask) : Type 0 where
   pub client : ask.from.client < length world.setup.clients
-  pub duty : Duty (client_after world ask.from.client h) number ask
+  pub duty : Duty world.digest (client_after world ask.from.client h) number ask
 
 -- the Ask was made to this server and not served yet, and the reply is the machine's
 pub record MayServe (world : World) (h : List Event) (number ask_place : ℕ) (given : Reply) : Type 0 where

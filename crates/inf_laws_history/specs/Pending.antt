@@ -2,14 +2,14 @@
 use Rattle.std.specs.Prelude.{◌≡◌, ◌<◌, ℕ, false, List, length, slice_get, Some, None}
 use Rattle.inf_duty.specs.After.{client_after}
 use Rattle.inf_duty.specs.World.{World}
-use Rattle.inf_flow_dir.specs.Client.{Client, call_ref}
+use Rattle.inf_flow_dir.specs.Client.{ClientState, call_ref}
 use Rattle.inf_flow_dir.specs.Group.{group}
 use Rattle.inf_message.specs.declared.ask.Ask.{Ask}
 use Rattle.inf_message.specs.declared.event.Event.{Event}
 use Rattle.inf_message.specs.History.{Posted, asked_at, is_served}
 
 -- the client waits for this Ask
-pub record Waits (s : Client) (place number : ℕ) (ask : Ask) : Type 0 where
+pub record Waits (s : ClientState) (place number : ℕ) (ask : Ask) : Type 0 where
   pub index : ℕ
   pub sent : slice_get s.sent index ≡ Some (record { place = place; told = None })
   pub message : slice_get (group s.who s.stage) index ≡ Some (record { number = number; request = ask.request })

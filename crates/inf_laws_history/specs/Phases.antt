@@ -6,7 +6,7 @@ use Rattle.inf_base.specs.declared.entry.Entry.{Entry}
 use Rattle.inf_base.specs.declared.id.Id.{Id}
 use Rattle.inf_base.specs.Identity.{server_of}
 use Rattle.inf_flow_dir.specs.Client.{Stage, act, compose, round, winds}
-use Rattle.inf_flow_dir.specs.Flow.{Flow, Who, birth_of, finishes, last_dir, links, made_dir, makes, reserves, seals, unlinks, way_to}
+use Rattle.inf_flow_dir.specs.Flow.{Flow, HasBirthId, Who, birth_of, finishes, last_dir, links, makes, reserves, seals, unlinks, way_to}
 use Rattle.inf_laws_directory.specs.Owes.{MayWriteAt}
 use Rattle.inf_laws_directory.specs.Phases.{Phase, has_made, has_reserved, has_sealed, has_unlinked, idle}
 use Rattle.inf_message.specs.declared.request.Request.{Request}
@@ -51,22 +51,23 @@ pub record SealsIn (chain : List Entry) (phase : Phase) : Type 0 where
 abbrev pub FlowHas : Who → Flow → Phase → Type 0
 FlowHas who (finishes chain what) phase = phase ≡ idle
 FlowHas who (reserves chain name mode) phase = phase ≡ idle
-FlowHas who (makes chain name mode version) phase = phase ≡ has_reserved (last_dir chain) name (birth_of who chain name version)
-FlowHas who (links chain name mode version born) phase =
-    phase ≡ has_made (last_dir chain) name (birth_of who chain name version) (made_dir who chain name version born)
+FlowHas who (makes chain name mode version id) phase = phase ≡ has_reserved (last_dir chain) name (birth_of who chain name version)
+FlowHas who (links chain name mode version dir) phase =
+    phase ≡ has_made (last_dir chain) name (birth_of who chain name version) dir
 FlowHas who (seals chain) phase = phase ≡ idle
 FlowHas who (unlinks chain) phase = SealsIn chain phase
 
-abbrev pub HasPhase : Who → Stage → Phase → Type 0
-HasPhase who compose phase = phase ≡ idle
-HasPhase who (round keys) phase = phase ≡ idle
-HasPhase who (act flow) phase = FlowHas who flow phase
-HasPhase who (winds ending m ms) phase = Lifts who.servers phase (m ∷ ms)
+-- a flow carries the identifier that its birth is given
+abbrev pub HasPhase : (List ℕ → Id) → Who → Stage → Phase → Type 0
+HasPhase digest who compose phase = phase ≡ idle
+HasPhase digest who (round keys) phase = phase ≡ idle
+HasPhase digest who (act flow) phase = FlowHas who flow phase × HasBirthId digest who flow
+HasPhase digest who (winds ending m ms) phase = Lifts who.servers phase (m ∷ ms)
 
 -- what a flow that goes on rests on: an earlier message asked whether the caller may write
 abbrev pub FlowMay : Caller → Flow → Type 0
-FlowMay caller (makes chain name mode version) = MayWriteAt caller chain
-FlowMay caller (links chain name mode version born) = MayWriteAt caller chain
+FlowMay caller (makes chain name mode version id) = MayWriteAt caller chain
+FlowMay caller (links chain name mode version dir) = MayWriteAt caller chain
 FlowMay caller (unlinks chain) = MayWriteAt caller (before_last chain)
 FlowMay caller other_flow = Unit {0}
 

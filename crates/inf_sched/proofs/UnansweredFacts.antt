@@ -1,6 +1,7 @@
 -- A call is unanswered exactly where the order's moves left it undecided.
 use Rattle.std.proofs.Common.{◌≡◌, ◌≢◌, ℕ, ◌+◌, ◌<◌, ◌≤◌, Bool, true, false, List, [], ◌∷◌, length, Option, None, All, refl, sym, ap, subst, ◌∙◌, arith}
 use Rattle.std.proofs.lemmas.List.Elements.{All-append, All-cons, All-nil}
+use Rattle.inf_base.specs.declared.id.Id.{Id}
 use Rattle.inf_base.specs.declared.answer.Answer.{Answer}
 use Rattle.inf_base.specs.declared.answer.Answer.TheVariants as answer
 use Rattle.inf_base.specs.declared.call.Call.{Call}
@@ -8,7 +9,7 @@ use Rattle.inf_base.specs.declared.caller.CallRef.{CallRef}
 use Rattle.inf_base.specs.declared.setup.ClientLine.{ClientLine}
 use Rattle.inf_duty.specs.Outcome.{results_of, so_far, unanswered}
 use Rattle.inf_duty.specs.World.{World}
-use Rattle.inf_flow_dir.specs.Client.{Client, Stage, act, answers, compose, ended, retries, round, winds}
+use Rattle.inf_flow_dir.specs.Client.{ClientState, Stage, act, answers, compose, ended, retries, round, winds}
 use Rattle.inf_laws_history.proofs.Numbered.{IsNumbered, all_given_up_is, numbered_after, so_far_call, total_of}
 use Rattle.inf_laws_history.proofs.PlacedAnswers.{AllAre, IsOfServes, StageIs, all_given_up_are, answers_after}
 use Rattle.inf_message.specs.declared.call_result.CallResult.{CallResult}
@@ -36,21 +37,21 @@ of_serves = record {
 -- ---- one client's results
 
 -- the client has the result's call left, and nothing has decided it
-record IsLeft (s : Client) (result : CallResult) : Type 0 where
+record IsLeft (s : ClientState) (result : CallResult) : Type 0 where
   before : ℕ
   numbered : result.call.number ≡ s.number + before
   left : before < length s.left
   undecided : before ≡ 0 → is_open s.stage ≡ true
 
 -- the result of a call of the client, unanswered exactly where it is left so
-record IsExact (client : ℕ) (s : Client) (result : CallResult) : Type 0 where
+record IsExact (client : ℕ) (s : ClientState) (result : CallResult) : Type 0 where
   own : result.call.client ≡ client
   open_only : result.answer ≡ answer.Unanswered → IsLeft s result
   open_all : IsLeft s result → result.answer ≡ answer.Unanswered
 
-module _ (client : ℕ) (s : Client) where
+module _ (client : ℕ) (s : ClientState) where
   -- those behind the call under way
-  behind : (calls : List Call) (t : Client) (before : ℕ) → t.who.client ≡ client → 0 < before → t.number + 1 ≡ s.number + before → before + length calls ≤ length s.left
+  behind : (calls : List Call) (t : ClientState) (before : ℕ) → t.who.client ≡ client → 0 < before → t.number + 1 ≡ s.number + before → before + length calls ≤ length s.left
       → All (IsExact client s) (unanswered calls (ended answer.Unanswered None t))
   behind [] t before own some number within = All-nil (IsExact client s)
   behind (call ∷ calls) t before own some number within =
@@ -116,17 +117,17 @@ module _ (client : ℕ) (s : Client) where
 
 -- ---- all clients
 
-came_to_is : (gone : Bool) (s : Client) → came_to gone s ≡ results_of (left_by gone s)
+came_to_is : (gone : Bool) (s : ClientState) → came_to gone s ≡ results_of (left_by gone s)
 came_to_is true s = refl
 came_to_is false s = refl
 
-left_numbered : (gone : Bool) (client total : ℕ) (s : Client) → IsNumbered client total s → IsNumbered client total (left_by gone s)
-left_numbered true client total s is = all_given_up_is client total s is
-left_numbered false client total s is = is
+left_numbered : (digest : List ℕ → Id) (gone : Bool) (client total : ℕ) (s : ClientState) → IsNumbered client total s → IsNumbered client total (left_by gone s)
+left_numbered digest true client total s is = all_given_up_is digest client total s is
+left_numbered digest false client total s is = is
 
-left_are : (gone : Bool) (s : Client) → AllAre IsAnswer of_serves s → AllAre IsAnswer of_serves (left_by gone s)
-left_are true s are = all_given_up_are IsAnswer of_serves s are
-left_are false s are = are
+left_are : (digest : List ℕ → Id) (gone : Bool) (s : ClientState) → AllAre IsAnswer of_serves s → AllAre IsAnswer of_serves (left_by gone s)
+left_are digest true s are = all_given_up_are IsAnswer of_serves digest s are
+left_are digest false s are = are
 
 -- the result is unanswered exactly where its client has it left undecided
 record IsEither (world : World) (scene : Scene) (result : CallResult) : Type 0 where
@@ -145,14 +146,14 @@ from_client : (world : World) (scene : Scene) (client : ℕ) (lines : List Clien
 from_client world scene client [] = All-nil (IsEither world scene)
 from_client world scene client (line ∷ lines) =
     let gone : Bool = is_gone scene client in
-    let s : Client = client_in world scene client in
+    let s : ClientState = client_in world scene client in
     All-append (IsEither world scene) (came_to gone s) (results_from world scene (client + 1) lines)
     (subst (All (IsEither world scene)) (sym (came_to_is gone s))
     (λ k d inside.
     either world scene client _
     (results_exact client (left_by gone s) (total_of world client)
-    (left_numbered gone client (total_of world client) s (numbered_after world client scene.history))
-    (left_are gone s (answers_after IsAnswer of_serves world client scene.history))
+    (left_numbered world.digest gone client (total_of world client) s (numbered_after world client scene.history))
+    (left_are world.digest gone s (answers_after IsAnswer of_serves world client scene.history))
     k d inside)))
     (from_client world scene (client + 1) lines)
 

@@ -2,17 +2,17 @@
 use Rattle.std.specs.Prelude.{◌≡◌, ℕ, ◌+◌, ◌<◌, Bool, true, false, length}
 use Rattle.inf_duty.specs.Outcome.{all_given_up}
 use Rattle.inf_duty.specs.World.{World}
-use Rattle.inf_flow_dir.specs.Client.{Client, Stage, answers, winds}
+use Rattle.inf_flow_dir.specs.Client.{ClientState, Stage, answers, winds}
 use Rattle.inf_message.specs.declared.call_result.CallResult.{CallResult}
 use Rattle.inf_sched.specs.Scene.{Scene, client_in, is_gone}
 
 -- a client once it gave up what it had left, where it did
-abbrev pub left_by : Bool → Client → Client
+abbrev pub left_by : Bool → ClientState → ClientState
 left_by true s = all_given_up s.left s
 left_by false s = s
 
 -- where a client stands after the moves: a call that it gave up has ended
-abbrev pub standing_in : World → Scene → ℕ → Client
+abbrev pub standing_in : World → Scene → ℕ → ClientState
 standing_in world scene client = left_by (is_gone scene client) (client_in world scene client)
 
 -- no answer has come to the call under way, nor want of memory

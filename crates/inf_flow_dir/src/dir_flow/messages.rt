@@ -1,55 +1,39 @@
 //! The messages of a flow.
 
 ghost use Rattle.std.specs.Prelude.{◌≡◌, IfOk};
-ghost use Rattle.inf_base.specs.Identity.{identity};
-ghost use Rattle.inf_flow_dir.specs.DirFlow.{IsMadeFor, IsReady};
-ghost use Rattle.inf_flow_dir.specs.Flow.{birth_of, finishes, links, makes, message_of, reserves, seals, unlinks};
-ghost use Rattle.inf_flow_dir.specs.Party.{who_of};
+ghost use Rattle.inf_message.specs.declared.request.Request.TheVariants as request;
+ghost use Rattle.inf_flow_dir.specs.Flow.{birth_of, finishes, last_id, makes, message_of, reserves, seals, to, unlinks};
 
 use super::DirFlow;
 use crate::chain::way_to;
 use crate::new_dir::NewDir;
-use crate::party::Party;
 use crate::phase::Phase;
+use crate::who::Who;
 use inf_base::{Chain, DirRef, Id, NoMemory, Triple, TryClone};
-use inf_birth::IdRule;
 use inf_message::{Message, Op, Request};
 use std::alloc::Global;
 
 impl DirFlow {
     /// The message that is next, or waited for.
-    pub fn message<R: IdRule>(&self, alloc: Global, party: &Party<R>) -> Result<Message, NoMemory>
-        requires made { IsMadeFor (who_of R.digest_of party.now) self.now }
-        requires ready { IsReady self.now }
-        ensures { IfOk result (λ made. made ≡ message_of (who_of R.digest_of party.now) self.now.flow) }
+    pub fn message(&self, alloc: Global, who: &Who) -> Result<Message, NoMemory>
+        ensures { IfOk result (λ made. made ≡ message_of who.now self.now) }
     {
         match &self.phase {
-            Phase::Finishes(chain, op) => finish(alloc, party, chain, op),
-            Phase::Reserves(new) => reserve(alloc, party, new),
-            Phase::Makes(new, version) => match self.made {
-                Some(id) => make(alloc, party, new, *version, id),
-                None => unreachable!(),
-            },
-            Phase::Links(new, version, born) => match self.made {
-                Some(id) => link(alloc, party, new, *version, DirRef { id, born: *born }),
-                None => unreachable!(),
-            },
-            Phase::Seals(chain) => seal(alloc, party, chain),
-            Phase::Unlinks(chain) => unlink(alloc, party, chain),
+            Phase::Finishes(chain, op) => finish(alloc, who, chain, op),
+            Phase::Reserves(new) => reserve(alloc, who, new),
+            Phase::Makes(new, version, id) => make(alloc, who, new, *version, id),
+            Phase::Links(new, _, dir) => link(alloc, who, new, dir),
+            Phase::Seals(chain) => seal(alloc, who, chain),
+            Phase::Unlinks(chain) => unlink(alloc, who, chain),
         }
     }
 }
 
-fn finish<R: IdRule>(
-    alloc: Global,
-    party: &Party<R>,
-    chain: &Chain,
-    op: &Op,
-) -> Result<Message, NoMemory>
-    ensures { IfOk result (λ made. made ≡ message_of (who_of R.digest_of party.now) (finishes chain.now op.now)) }
+fn finish(alloc: Global, who: &Who, chain: &Chain, op: &Op) -> Result<Message, NoMemory>
+    ensures { IfOk result (λ made. made ≡ message_of who.now (finishes chain.now op.now)) }
 {
     Ok(Message {
-        number: party.server(&party.last_id(chain.as_slice())),
+        number: who.server(&who.last_id(chain.as_slice())),
         request: Request::Finish {
             chain: chain.try_clone(alloc)?,
             op: op.try_clone(alloc)?,
@@ -57,12 +41,12 @@ fn finish<R: IdRule>(
     })
 }
 
-fn reserve<R: IdRule>(alloc: Global, party: &Party<R>, new: &NewDir) -> Result<Message, NoMemory>
+fn reserve(alloc: Global, who: &Who, new: &NewDir) -> Result<Message, NoMemory>
     ensures { IfOk result (λ made.
-        made ≡ message_of (who_of R.digest_of party.now) (reserves new.now.chain new.now.name new.now.mode)) }
+        made ≡ message_of who.now (reserves new.now.chain new.now.name new.now.mode)) }
 {
     Ok(Message {
-        number: party.server(&party.last_id(new.chain.as_slice())),
+        number: who.server(&who.last_id(new.chain.as_slice())),
         request: Request::Reserve {
             chain: new.chain.try_clone(alloc)?,
             name: new.name.try_clone(alloc)?,
@@ -71,80 +55,61 @@ fn reserve<R: IdRule>(alloc: Global, party: &Party<R>, new: &NewDir) -> Result<M
 }
 
 /// The triple that a new directory's identifier is the digest of.
-fn birth<R: IdRule>(
-    alloc: Global,
-    party: &Party<R>,
-    new: &NewDir,
-    version: u64,
-) -> Result<Triple, NoMemory>
+fn birth(alloc: Global, who: &Who, new: &NewDir, version: u64) -> Result<Triple, NoMemory>
     ensures { IfOk result (λ birth.
-        birth ≡ birth_of (who_of R.digest_of party.now) new.now.chain new.now.name version) }
+        birth ≡ birth_of who.now new.now.chain new.now.name version) }
 {
     Ok(Triple::Of {
-        parent: party.last_id(new.chain.as_slice()),
+        parent: who.last_id(new.chain.as_slice()),
         name: new.name.try_clone(alloc)?,
         version,
     })
 }
 
-fn make<R: IdRule>(
-    alloc: Global,
-    party: &Party<R>,
-    new: &NewDir,
-    version: u64,
-    id: Id,
-) -> Result<Message, NoMemory>
-    requires { id ≡ identity (R.digest_of party.now.rule) (birth_of (who_of R.digest_of party.now) new.now.chain new.now.name version) }
+fn make(alloc: Global, who: &Who, new: &NewDir, version: u64, id: &Id) -> Result<Message, NoMemory>
     ensures { IfOk result (λ made.
-        made ≡ message_of (who_of R.digest_of party.now) (makes new.now.chain new.now.name new.now.mode version)) }
+        made ≡ message_of who.now (makes new.now.chain new.now.name new.now.mode version id.now)) }
 {
     Ok(Message {
-        number: party.server(&id),
+        number: who.server(id),
         request: Request::Make {
-            triple: birth(alloc, party, new, version)?,
+            triple: birth(alloc, who, new, version)?,
         },
     })
 }
 
-fn link<R: IdRule>(
-    alloc: Global,
-    party: &Party<R>,
-    new: &NewDir,
-    version: u64,
-    dir: DirRef,
-) -> Result<Message, NoMemory>
-    requires { dir.id ≡ identity (R.digest_of party.now.rule) (birth_of (who_of R.digest_of party.now) new.now.chain new.now.name version) }
-    ensures { IfOk result (λ made. made
-        ≡ message_of (who_of R.digest_of party.now) (links new.now.chain new.now.name new.now.mode version dir.born)) }
+fn link(alloc: Global, who: &Who, new: &NewDir, dir: &DirRef) -> Result<Message, NoMemory>
+    ensures { IfOk result (λ made.
+        made ≡ to who.now (last_id who.now new.now.chain) (request.Link new.now.chain new.now.name dir.now new.now.mode)) }
 {
     Ok(Message {
-        number: party.server(&party.last_id(new.chain.as_slice())),
+        number: who.server(&who.last_id(new.chain.as_slice())),
         request: Request::Link {
             chain: new.chain.try_clone(alloc)?,
             name: new.name.try_clone(alloc)?,
-            dir,
+            dir: *dir,
             mode: new.mode,
         },
     })
 }
 
-fn seal<R: IdRule>(alloc: Global, party: &Party<R>, chain: &Chain) -> Result<Message, NoMemory>
-    ensures { IfOk result (λ made. made ≡ message_of (who_of R.digest_of party.now) (seals chain.now)) }
+fn seal(alloc: Global, who: &Who, chain: &Chain) -> Result<Message, NoMemory>
+    ensures { IfOk result (λ made. made ≡ message_of who.now (seals chain.now)) }
 {
     Ok(Message {
-        number: party.server(&party.last_id(chain.as_slice())),
+        number: who.server(&who.last_id(chain.as_slice())),
         request: Request::Seal {
             chain: chain.try_clone(alloc)?,
         },
     })
 }
 
-fn unlink<R: IdRule>(alloc: Global, party: &Party<R>, chain: &Chain) -> Result<Message, NoMemory>
-    ensures { IfOk result (λ made. made ≡ message_of (who_of R.digest_of party.now) (unlinks chain.now)) }
+fn unlink(alloc: Global, who: &Who, chain: &Chain) -> Result<Message, NoMemory>
+    ensures { IfOk result (λ made. made ≡ message_of who.now (unlinks chain.now)) }
 {
-    let parent = party.last_id(way_to(chain.as_slice()));
+    let parent = who.last_id(way_to(chain.as_slice()));
     Ok(Message {
-        number: party.server(&parent),
+        number: who.server(&parent),
         request: Request::Unlink {
             chain: chain.try_clone(alloc)?,
         },

@@ -3,21 +3,19 @@
 ghost use Rattle.std.specs.Prelude.{◌≡◌, ◌<◌, ℕ, List, length};
 ghost use Rattle.inf_base.specs.declared.entry.Entry.{Entry};
 ghost use Rattle.inf_message.specs.declared.reply.Reply.TheVariants as reply;
-ghost use Rattle.inf_base.specs.Identity.{identity};
-ghost use Rattle.inf_flow_dir.specs.DirFlow.{IsMadeFor, IsReady};
-ghost use Rattle.inf_flow_dir.specs.Flow.{Who, birth_of, finishes, links, makes, reserves, seals, unlinks};
-ghost use Rattle.inf_flow_dir.specs.Party.{who_of};
+ghost use Rattle.inf_flow_dir.specs.Flow.{Who as Whom, finishes, links, makes, reserves, seals, unlinks};
 ghost use Rattle.inf_flow_dir.specs.Turn.{after_act};
-ghost use Rattle.inf_flow_dir.specs.TurnOf.{TurnIsMadeFor, turn_of};
+ghost use Rattle.inf_flow_dir.specs.TurnOf.{turn_of};
 
 use super::DirFlow;
 use super::cleaning::{after_unlink, cancel, drops, unseal};
 use crate::clean_up::CleanUps;
 use crate::ending::Ending;
+use crate::identity::identity_of;
 use crate::new_dir::NewDir;
-use crate::party::Party;
 use crate::phase::Phase;
 use crate::turn::{Turn, done, ends, failed};
+use crate::who::Who;
 use inf_base::{Answer, Chain, DirRef, Id, Place, Triple};
 use inf_birth::IdRule;
 use inf_message::{Op, Reply};
@@ -26,37 +24,31 @@ impl DirFlow {
     /// What comes of the reply to the message that was sent.
     pub fn next<R: IdRule>(
         self,
-        party: &Party<R>,
+        rule: &R,
+        who: &Who,
         ask_place: Place,
         serve_place: Place,
         reply: &Reply,
     ) -> Turn
-        requires made { IsMadeFor (who_of R.digest_of party.now) self }
-        requires ready { IsReady self }
-        ensures turn { turn_of result ≡ after_act (who_of R.digest_of party.now) self.flow ask_place serve_place reply.now }
-        ensures made { TurnIsMadeFor (who_of R.digest_of party.now) result }
+        ensures { turn_of result ≡ after_act (R.digest_of rule.now) who.now self ask_place serve_place reply.now }
     {
-        let DirFlow { phase, made } = self;
+        let DirFlow { phase } = self;
         match phase {
             Phase::Finishes(_, op) => after_finish(&op, serve_place, reply),
-            Phase::Reserves(new) => after_reserve(new, serve_place, reply),
-            Phase::Makes(new, version) => match made {
-                Some(id) => after_make(party, new, version, id, ask_place, serve_place, reply),
-                None => unreachable!(),
-            },
-            Phase::Links(new, _, born) => match made {
-                Some(id) => after_link(party, new, DirRef { id, born }, serve_place, reply),
-                None => unreachable!(),
-            },
+            Phase::Reserves(new) => after_reserve(rule, who, new, serve_place, reply),
+            Phase::Makes(new, version, id) => {
+                after_make(who, new, version, id, ask_place, serve_place, reply)
+            }
+            Phase::Links(new, _, dir) => after_link(who, new, dir, serve_place, reply),
             Phase::Seals(chain) => after_seal(chain, serve_place, reply),
-            Phase::Unlinks(chain) => after_unlinking(party, chain, serve_place, reply),
+            Phase::Unlinks(chain) => after_unlinking(who, chain, serve_place, reply),
         }
     }
 }
 
 fn after_finish(op: &Op, place: Place, reply: &Reply) -> Turn
-    ensures turn { (who : Who) (chain : List Entry) (asked : ℕ) → turn_of result ≡ after_act who (finishes chain op.now) asked place reply.now }
-    ensures made { (who : Who) → TurnIsMadeFor who result }
+    ensures { (digest : List ℕ → Id) (who : Whom) (chain : List Entry) (asked : ℕ)
+        → turn_of result ≡ after_act digest who (finishes chain op.now) asked place reply.now }
 {
     match op {
         Op::Create(_, _) => match reply {
@@ -77,19 +69,22 @@ fn after_finish(op: &Op, place: Place, reply: &Reply) -> Turn
     }
 }
 
-fn after_reserve(new: NewDir, place: Place, reply: &Reply) -> Turn
+fn after_reserve<R: IdRule>(rule: &R, who: &Who, new: NewDir, place: Place, reply: &Reply) -> Turn
     requires { 0 < length new.chain }
-    ensures turn { (who : Who) (asked : ℕ) → turn_of result ≡ after_act who (reserves new.chain new.name new.mode) asked place reply.now }
-    ensures made { (who : Who) → TurnIsMadeFor who result }
+    ensures { (asked : ℕ) → turn_of result ≡ after_act (R.digest_of rule.now) who.now (reserves new.chain new.name new.mode) asked place reply.now }
 {
     match reply {
-        Reply::Reserved(version) => Turn::GoesOn(DirFlow::new(Phase::Makes(new, *version))),
+        Reply::Reserved(version) => {
+            let parent = who.last_id(new.chain.as_slice());
+            let id = identity_of(rule, &parent, &new.name, *version);
+            Turn::GoesOn(DirFlow::new(Phase::Makes(new, *version, id)))
+        }
         _ => failed(CleanUps::none(), place, reply),
     }
 }
 
-fn after_make<R: IdRule>(
-    party: &Party<R>,
+fn after_make(
+    who: &Who,
     new: NewDir,
     version: u64,
     id: Id,
@@ -97,35 +92,31 @@ fn after_make<R: IdRule>(
     serve_place: Place,
     reply: &Reply,
 ) -> Turn
-    requires chain { 0 < length new.chain }
-    requires id { id ≡ identity (R.digest_of party.now.rule) (birth_of (who_of R.digest_of party.now) new.chain new.name version) }
-    ensures turn { turn_of result ≡ after_act (who_of R.digest_of party.now) (makes new.chain new.name new.mode version) ask_place serve_place reply.now }
-    ensures made { TurnIsMadeFor (who_of R.digest_of party.now) result }
+    requires { 0 < length new.chain }
+    ensures { (digest : List ℕ → Id) → turn_of result
+        ≡ after_act digest who.now (makes new.chain new.name new.mode version id) ask_place serve_place reply.now }
 {
     match reply {
-        Reply::Fine => Turn::GoesOn(DirFlow {
-            phase: Phase::Links(new, version, ask_place),
-            made: Some(id),
-        }),
-        Reply::Clash(kept) => clash(party, new, version, kept, serve_place),
+        Reply::Fine => {
+            let dir = DirRef {
+                id,
+                born: ask_place,
+            };
+            Turn::GoesOn(DirFlow::new(Phase::Links(new, version, dir)))
+        }
+        Reply::Clash(kept) => clash(who, new, version, kept, serve_place),
         _ => {
-            let clean_ups = CleanUps::one(cancel(party, new.chain.as_slice()));
+            let clean_ups = CleanUps::one(cancel(who, new.chain.as_slice()));
             failed(clean_ups, serve_place, reply)
         }
     }
 }
 
 /// Another triple has the same digest: the answer names both, and the name that was kept is given back.
-fn clash<R: IdRule>(
-    party: &Party<R>,
-    new: NewDir,
-    version: u64,
-    kept: &Triple,
-    place: Place,
-) -> Turn
+fn clash(who: &Who, new: NewDir, version: u64, kept: &Triple, place: Place) -> Turn
     requires { 0 < length new.chain }
-    ensures turn { (asked : ℕ) → turn_of result ≡ after_act (who_of R.digest_of party.now) (makes new.chain new.name new.mode version) asked place (reply.Clash kept.now) }
-    ensures made { TurnIsMadeFor (who_of R.digest_of party.now) result }
+    ensures { (digest : List ℕ → Id) (id : Id) (asked : ℕ) → turn_of result
+        ≡ after_act digest who.now (makes new.chain new.name new.mode version id) asked place (reply.Clash kept.now) }
 {
     let NewDir {
         chain,
@@ -133,9 +124,9 @@ fn clash<R: IdRule>(
         room,
         ..
     } = new;
-    let clean_ups = CleanUps::one(cancel(party, chain.as_slice()));
+    let clean_ups = CleanUps::one(cancel(who, chain.as_slice()));
     let own = Triple::Of {
-        parent: party.last_id(chain.as_slice()),
+        parent: who.last_id(chain.as_slice()),
         name,
         version,
     };
@@ -143,22 +134,15 @@ fn clash<R: IdRule>(
     Turn::WindsUp(Ending::Answers(answer, Some(place)), clean_ups)
 }
 
-fn after_link<R: IdRule>(
-    party: &Party<R>,
-    new: NewDir,
-    dir: DirRef,
-    place: Place,
-    reply: &Reply,
-) -> Turn
+fn after_link(who: &Who, new: NewDir, dir: DirRef, place: Place, reply: &Reply) -> Turn
     requires { 0 < length new.chain }
-    ensures turn { (version asked : ℕ) → dir.id ≡ identity (R.digest_of party.now.rule) (birth_of (who_of R.digest_of party.now) new.chain new.name version)
-        → turn_of result ≡ after_act (who_of R.digest_of party.now) (links new.chain new.name new.mode version dir.born) asked place reply.now }
-    ensures made { TurnIsMadeFor (who_of R.digest_of party.now) result }
+    ensures { (digest : List ℕ → Id) (version asked : ℕ)
+        → turn_of result ≡ after_act digest who.now (links new.chain new.name new.mode version dir) asked place reply.now }
 {
     match reply {
         Reply::Fine => done(place, CleanUps::none()),
         _ => {
-            let clean_ups = CleanUps::two(drops(party, dir), cancel(party, new.chain.as_slice()));
+            let clean_ups = CleanUps::two(drops(who, dir), cancel(who, new.chain.as_slice()));
             failed(clean_ups, place, reply)
         }
     }
@@ -166,8 +150,7 @@ fn after_link<R: IdRule>(
 
 fn after_seal(chain: Chain, place: Place, reply: &Reply) -> Turn
     requires { 0 < length chain }
-    ensures turn { (who : Who) (asked : ℕ) → turn_of result ≡ after_act who (seals chain) asked place reply.now }
-    ensures made { (who : Who) → TurnIsMadeFor who result }
+    ensures { (digest : List ℕ → Id) (who : Whom) (asked : ℕ) → turn_of result ≡ after_act digest who (seals chain) asked place reply.now }
 {
     match reply {
         Reply::Fine => Turn::GoesOn(DirFlow::new(Phase::Unlinks(chain))),
@@ -175,15 +158,14 @@ fn after_seal(chain: Chain, place: Place, reply: &Reply) -> Turn
     }
 }
 
-fn after_unlinking<R: IdRule>(party: &Party<R>, chain: Chain, place: Place, reply: &Reply) -> Turn
+fn after_unlinking(who: &Who, chain: Chain, place: Place, reply: &Reply) -> Turn
     requires { 0 < length chain }
-    ensures turn { (asked : ℕ) → turn_of result ≡ after_act (who_of R.digest_of party.now) (unlinks chain) asked place reply.now }
-    ensures made { TurnIsMadeFor (who_of R.digest_of party.now) result }
+    ensures { (digest : List ℕ → Id) (asked : ℕ) → turn_of result ≡ after_act digest who.now (unlinks chain) asked place reply.now }
 {
     match reply {
-        Reply::Fine => done(place, after_unlink(party, chain.as_slice())),
+        Reply::Fine => done(place, after_unlink(who, chain.as_slice())),
         _ => {
-            let clean_ups = CleanUps::one(unseal(party, chain.as_slice()));
+            let clean_ups = CleanUps::one(unseal(who, chain.as_slice()));
             failed(clean_ups, place, reply)
         }
     }

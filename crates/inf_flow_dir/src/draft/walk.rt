@@ -4,10 +4,9 @@ ghost use Rattle.std.specs.Prelude.{◌≡◌, ◌<◌, ◌==◌, ◌∷◌, ℕ
 ghost use Rattle.inf_base.specs.declared.entry.Entry.{Entry as Told};
 ghost use Rattle.inf_base.specs.Same.{dir_of as the_dir};
 ghost use Rattle.inf_flow_dir.specs.Draft.{course_by, course_with, deed_of};
-ghost use Rattle.inf_flow_dir.specs.Flow.{Who};
 ghost use Rattle.inf_flow_dir.specs.Round.{next_of};
 ghost use Rattle.inf_flow_dir.specs.Turn.{arrive, follow, links_to, next_entry, stop_at};
-ghost use Rattle.inf_flow_dir.specs.TurnOf.{TurnIsMadeFor, turn_of};
+ghost use Rattle.inf_flow_dir.specs.TurnOf.{turn_of};
 
 use super::Draft;
 use crate::aim::Aim;
@@ -26,7 +25,6 @@ impl Draft {
     /// Follows the names from the root's entry on, by what was told of each.
     pub(crate) fn follow(self, root: Entry, sent: &mut Vec<Sending>) -> Turn
         ensures turn { turn_of result ≡ follow (course_with self) (root ∷ []) root self.looked sent.old.items }
-        ensures made { (who : Who) → TurnIsMadeFor who result }
         ensures capacity { vec_capacity sent.new ≡ vec_capacity sent.old }
     {
         let Draft {
@@ -52,8 +50,7 @@ impl Draft {
 
 fn arrive(aim: Aim, chain: Vec<Entry>) -> Turn
     requires { 0 < length chain.items }
-    ensures turn { (looked : List (List ℕ)) → turn_of result ≡ arrive (course_by looked (deed_of aim)) chain.items }
-    ensures made { (who : Who) → TurnIsMadeFor who result }
+    ensures { (looked : List (List ℕ)) → turn_of result ≡ arrive (course_by looked (deed_of aim)) chain.items }
 {
     let chain = Chain::new(chain);
     let phase = match aim {
@@ -72,8 +69,7 @@ fn arrive(aim: Aim, chain: Vec<Entry>) -> Turn
 
 /// The path stops at this name, which may be the last that is looked up.
 fn stop_at(aim: Aim, chain: Vec<Entry>, name: Name, is_last: bool) -> Turn
-    ensures turn { (looked names : List (List ℕ)) → (length names == 0) ≡ is_last → turn_of result ≡ stop_at (course_by looked (deed_of aim)) chain.items name names }
-    ensures made { (who : Who) → TurnIsMadeFor who result }
+    ensures { (looked names : List (List ℕ)) → (length names == 0) ≡ is_last → turn_of result ≡ stop_at (course_by looked (deed_of aim)) chain.items name names }
 {
     let op = match aim {
         Aim::Rmdir if is_last => Op::RmdirName(name),

@@ -1,21 +1,21 @@
 use Rattle.std.proofs.Common.{◌≡◌, true, false, sym, ap, subst, ◌∙◌, rules}
 use Rattle.inf_client.specs.Group.{IsFound}
 use Rattle.inf_client.proofs.GroupFacts.{given_up_found}
-use Rattle.inf_duty.specs.ClientBy.{client_by}
 use Rattle.inf_duty.specs.Duty.{given_up, next_step}
 use Rattle.inf_duty.specs.Messages.{is_winding}
-use Rattle.inf_flow_dir.specs.Client.{Client}
+use Rattle.inf_flow_dir.specs.Client.{ClientState}
 use Rattle.inf_client.proofs.group.attempt.Goals as goal
 
 pub returns-then-is_winding-2-clause-found : goal.returns-then-is_winding-2-clause-found
 returns-then-is_winding-2-clause-found g c =
-    let old = client_by g.R.IdRule.digest_of c.args.machine.now in
-    let now = client_by g.R.IdRule.digest_of c.give_up_call.new.self in
+    let digest = g.R.IdRule.digest_of c.args.rule.now in
+    let old = c.args.state.now in
+    let now = c.give_up_call.new.self in
     let group = c.winding_group-then-is_winding-2.result in
     let is : now ≡ given_up old = c.give_up_call.ensures ∙ c.in_default.ensures.err_call in
     let going : is_winding old.stage ≡ false = search rules in
     let winding : is_winding now.stage ≡ true = search rules in
-    subst (IsFound group.ask old) (sym is)
-    (given_up_found old group.number group.ask going
-    (ap (λ (t : Client). is_winding t.stage) (sym is) ∙ winding)
+    subst (IsFound digest group.ask old) (sym is)
+    (given_up_found digest old group.number group.ask going
+    (ap (λ (t : ClientState). is_winding t.stage) (sym is) ∙ winding)
     (ap next_step (sym is) ∙ c.winding_group-then-is_winding-2.ensures.next))

@@ -4,8 +4,6 @@ use Rattle.inf_flow_dir.proofs.ReplyFacts.{unless_sealed}
 use Rattle.inf_flow_dir.proofs.dir_flow.replies.after_seal.Goals as goal
 
 pub returns-in_default : goal.returns-in_default
-returns-in_default c = record {
-  turn = λ who asked. c.failed.ensures.turn who (seals c.args.chain) (sym c.none.ensures)
-      ∙ unless_sealed who c.args.chain asked c.args.place c.args.reply.now c.in_default.not-Fine;
-  made = c.failed.ensures.made;
-}
+returns-in_default c digest who asked =
+    c.failed.ensures who (seals c.args.chain) (sym c.none.ensures)
+    ∙ unless_sealed digest who c.args.chain asked c.args.place c.args.reply.now c.in_default.not-Fine

@@ -1,16 +1,12 @@
 use Rattle.std.proofs.Common.{◌∷◌, [], sym, ap, ◌∙◌}
 use Rattle.inf_message.specs.declared.request.Request.TheVariants as request
 use Rattle.inf_flow_dir.specs.Flow.{last_dir, lift, unlinks}
-use Rattle.inf_flow_dir.specs.Party.{who_of}
 use Rattle.inf_flow_dir.proofs.ReplyFacts.{unless_unlinked}
 use Rattle.inf_flow_dir.proofs.dir_flow.replies.after_unlinking.Goals as goal
 
 pub returns : goal.returns
-returns g c =
-    let who = who_of g.R.IdRule.digest_of c.args.party.now in
+returns c digest asked =
+    let who = c.args.who.now in
     let one = c.one-clean_ups.ensures ∙ ap (λ a. a ∷ []) (c.unseal.ensures ∙ ap (λ chain. lift who (last_dir chain) request.Unseal) c.as_slice-in_default.ensures) in
-    record {
-      turn = λ asked. c.failed.ensures.turn who (unlinks c.args.chain) (sym one)
-          ∙ unless_unlinked who c.args.chain asked c.args.place c.args.reply.now c.in_default.not-Fine;
-      made = c.failed.ensures.made who;
-    }
+    c.failed.ensures who (unlinks c.args.chain) (sym one)
+    ∙ unless_unlinked digest who c.args.chain asked c.args.place c.args.reply.now c.in_default.not-Fine

@@ -14,7 +14,7 @@ returns-in_default-take_first-clause-turn c =
     let names = into_iter_items c.next.new.self in
     let is_last = ap (λ k. nat_eq k 0) (sym c.next.new.self.rest.ok.0 ∙ sym c.len.ensures) in
     subst (λ (d : Deed). turn_of c.stop_at.result ≡ stop_at (course_by c.args.self.looked d) c.loop-name.chain.items c.in-Some.name names) c.loop-name.invariant.deed
-    (c.stop_at.ensures.turn c.args.self.looked names is_last)
+    (c.stop_at.ensures c.args.self.looked names is_last)
     ∙ stops_at _ _ _ _ _ r
 
 pub returns-in-Stops-clause-turn : goal.returns-in-Stops-clause-turn
@@ -25,7 +25,7 @@ returns-in-Stops-clause-turn c =
     let dir_is = dir_at c.loop-name.chain.items r.before c.last_dir.result r.at (c.last_dir.ensures ∙ ap last_dir c.as_slice.ensures.value) in
     let next_is = c.in-Stops.ensures r.before dir_is ∙ ap (next_entry r.before) c.into_told.ensures in
     subst (λ (d : Deed). turn_of c.stop_at-in-Stops.result ≡ stop_at (course_by c.args.self.looked d) c.loop-name.chain.items c.in-Some.name names) c.loop-name.invariant.deed
-    (c.stop_at-in-Stops.ensures.turn c.args.self.looked names is_last)
+    (c.stop_at-in-Stops.ensures c.args.self.looked names is_last)
     ∙ stops_here _ _ _ _ c.in-Some-take_first.sending c.take_first.new.sent.items _ r next_is
 
 pub loop-name-preserved : goal.loop-name-preserved
@@ -45,5 +45,5 @@ loop-name-preserved c =
 pub returns-clause-turn : goal.returns-clause-turn
 returns-clause-turn c =
     let none = empty (into_iter_items c.loop-name.names) (sym c.loop-name.names.rest.ok.0 ∙ c.in_default.ensures.cases.0) in
-    subst (λ (d : Deed). turn_of c.arrive.result ≡ arrive (course_by c.args.self.looked d) c.loop-name.chain.items) c.loop-name.invariant.deed (c.arrive.ensures.turn c.args.self.looked)
+    subst (λ (d : Deed). turn_of c.arrive.result ≡ arrive (course_by c.args.self.looked d) c.loop-name.chain.items) c.loop-name.invariant.deed (c.arrive.ensures c.args.self.looked)
     ∙ arrives _ _ _ _ (moved none refl c.loop-name.invariant.reaches)

@@ -1,0 +1,280 @@
+-- What a step of a client does, case by case, and what is kept true of it.
+use Rattle.std.proofs.Common.{◌≡◌, ◌≢◌, ℕ, zero, suc, ◌+◌, ◌-◌, ◌<◌, ◌≤◌, Bool, true, false, List, [], ◌∷◌, ◌++◌, length, map, drop, slice_get, Some, is_some, refl, sym, ap, subst, ◌∙◌, inl, inr, arith, length-append}
+use Rattle.std.proofs.lemmas.List.{drop-drop, length-drop, length-map}
+use Rattle.std.proofs.lemmas.Option.{slice_get_within}
+use Rattle.inf_base.specs.declared.id.Id.{Id}
+use Rattle.inf_base.specs.declared.call.Call.{Call}
+use Rattle.inf_client.specs.Client.{Client, AsksNext, IsAtRest, Rests, Steps, client_with, asks_left, group_asks, ready_in}
+use Rattle.inf_client.specs.Group.{IsKept, IsReadied, posted_of}
+use Rattle.inf_client.specs.Planned.{planned, planned_from}
+use Rattle.inf_client.specs.Room.{room_between, room_in, room_within}
+use Rattle.inf_duty.specs.ClientStep.{IsQuiet, is_ask, next_as}
+use Rattle.inf_duty.specs.Duty.{asks, begun, next_in, next_of, next_step}
+use Rattle.inf_duty.specs.Outcome.{all_given_up, may_give_up}
+use Rattle.inf_duty.specs.declared.client_step.ClientStep.{ClientStep}
+use Rattle.inf_duty.specs.declared.client_step.ClientStep.TheVariants as step
+use Rattle.inf_flow_dir.specs.Client.{ClientState, Sent, call_ref, placed}
+use Rattle.inf_flow_dir.specs.Group.{composed, group, next_course}
+use Rattle.inf_message.specs.declared.ask.Ask.{Ask}
+use Rattle.inf_message.specs.declared.step.Message.{Message}
+use Rattle.inf_message.specs.History.{Posted, posted_ask}
+use Rattle.inf_trips.specs.AskLog.{AskLog, asked_first, asked_log}
+
+planned_between : (digest : List ℕ → Id) (sent : List Sent) (s : ClientState) → sent ≡ [] → planned_from digest sent s ≡ composed digest s
+planned_between digest [] s between = refl
+planned_between digest (x ∷ sent) s between = absurd (cc)
+
+planned_inside : (digest : List ℕ → Id) (sent : List Sent) (s : ClientState) → sent ≢ [] → planned_from digest sent s ≡ s
+planned_inside digest [] s inside = absurd (inside refl)
+planned_inside digest (x ∷ sent) s inside = refl
+
+rests : (digest : List ℕ → Id) (old new : Client) (told : ClientStep) → Rests digest old new → IsQuiet told → next_step (planned digest new.state) ≡ next_as told → Steps digest old told new
+rests digest old new (step.Ask number ask) how quiet next = absurd quiet
+rests digest old new step.Waiting how quiet next = (how, next)
+rests digest old new step.Finished how quiet next = (how, next)
+
+no_ask : (told : ClientStep) → IsQuiet told → is_ask (next_as told) ≡ false
+no_ask (step.Ask number ask) quiet = absurd quiet
+no_ask step.Waiting quiet = refl
+no_ask step.Finished quiet = refl
+
+pub rests_gone : (digest : List ℕ → Id) (state : ClientState) (log : AskLog) (told : ClientStep) → state.sent ≡ [] → IsQuiet told → next_step (composed digest state) ≡ next_as told
+    → Steps digest (client_with state true log false) told (client_with state true log false)
+rests_gone digest state log told between quiet next =
+    rests digest (client_with state true log false) (client_with state true log false) told (inl (record { idle = refl; same = refl })) quiet
+    (ap next_step (planned_between digest state.sent state between) ∙ next)
+
+idle : (digest : List ℕ → Id) (state : ClientState) (log : AskLog) (told : ClientStep) → IsQuiet told → next_step (planned digest state) ≡ next_as told
+    → Steps digest (client_with state false log false) told (client_with state false log false)
+idle digest state log told quiet next =
+    rests digest (client_with state false log false) (client_with state false log false) told
+    (inl (record { idle = ap is_ask next ∙ no_ask told quiet; same = refl })) quiet next
+
+pub rests_inside : (digest : List ℕ → Id) (state : ClientState) (log : AskLog) (told : ClientStep) → state.sent ≢ [] → IsQuiet told → next_step state ≡ next_as told
+    → Steps digest (client_with state false log false) told (client_with state false log false)
+rests_inside digest state log told inside quiet next =
+    idle digest state log told quiet (ap next_step (planned_inside digest state.sent state inside) ∙ next)
+
+pub rests_unbuilt : (digest : List ℕ → Id) (state : ClientState) (log : AskLog) (told : ClientStep) → state.sent ≡ [] → IsQuiet told → next_step (composed digest state) ≡ next_as told
+    → Steps digest (client_with state false log false) told (client_with state false log false)
+rests_unbuilt digest state log told between quiet next =
+    idle digest state log told quiet (ap next_step (planned_between digest state.sent state between) ∙ next)
+
+pub rests_given_up : (digest : List ℕ → Id) (state now : ClientState) (log new : AskLog) (told : ClientStep) → state.sent ≡ [] → is_ask (next_step (composed digest state)) ≡ true
+    → may_give_up state ≡ true → now ≡ all_given_up state.left state → now.sent ≡ [] → new ≡ log → IsQuiet told → next_step (composed digest now) ≡ next_as told
+    → Steps digest (client_with state false log false) told (client_with now true new false)
+rests_given_up digest state now log new told between asking free all stays same quiet next =
+    rests digest (client_with state false log false) (client_with now true new false) told
+    (inr (record {
+      asking = ap (λ s. is_ask (next_step s)) (planned_between digest state.sent state between) ∙ asking;
+      between = between;
+      free = free;
+      state = all;
+      gone = refl;
+      asks = ap (λ (l : AskLog). l.asks) same;
+      handed = refl;
+    })) quiet
+    (ap next_step (planned_between digest now.sent now stays) ∙ next)
+
+-- ---- the asks that are left
+
+pub asks_length : (s : ClientState) → length (group_asks s) ≡ length (group s.who s.stage)
+asks_length s = length-map (group s.who s.stage) (λ (m : Message). posted_ask m.number (record { from = call_ref s; caller = s.who.caller; request = m.request }))
+
+-- an ask that is left, by its message
+record LeftAt {A B : Type 0} (f : A → B) (xs : List A) (n : ℕ) (first : B) : Type 0 where
+  pub x : A
+  pub at : slice_get xs n ≡ Some x
+  pub is : f x ≡ first
+
+left_at : {A B : Type 0} (f : A → B) (xs : List A) (n : ℕ) (first : B) (others : List B) → drop n (map f xs) ≡ first ∷ others → LeftAt f xs n first
+left_at f [] zero first others is = absurd (cc)
+left_at f [] (suc n) first others is = absurd (cc)
+left_at f (x ∷ xs) zero first others is = record { x = x; at = refl; is = cc }
+left_at f (x ∷ xs) (suc n) first others is =
+    let later = left_at f xs n first others is in
+    record { x = later.x; at = later.at; is = later.is }
+
+inside_ready : (sent : List Sent) (s : ClientState) (first : Posted) (others : List Posted) → ready_in false sent s ≡ first ∷ others
+    → (sent ≢ []) × (ready_in false sent s ≡ asks_left s)
+inside_ready [] s first others is = absurd (cc)
+inside_ready (x ∷ sent) s first others is = ((λ none. absurd (cc)), refl)
+
+pub inside_room : (sent : List Sent) (s : ClientState) → sent ≢ [] → room_in false sent s ≡ room_within s.stage
+inside_room [] s inside = absurd (inside refl)
+inside_room (x ∷ sent) s inside = refl
+
+pub ready_inside : (sent : List Sent) (s : ClientState) → sent ≢ [] → ready_in false sent s ≡ asks_left s
+ready_inside [] s inside = absurd (inside refl)
+ready_inside (x ∷ sent) s inside = refl
+
+begun_inside : (digest : List ℕ → Id) (ask : Ask) (sent : List Sent) (s : ClientState) → sent ≢ [] → begun digest ask sent s ≡ s
+begun_inside digest ask [] s inside = absurd (inside refl)
+begun_inside digest ask (x ∷ sent) s inside = refl
+
+next_at : (s : ClientState) (left : List Call) (message : Message) → 0 < length left → slice_get (group s.who s.stage) (length s.sent) ≡ Some message
+    → next_in s left ≡ next_of s (Some message)
+next_at s [] message some at = absurd (omega arith)
+next_at s (call ∷ left) message some at = ap (next_of s) at
+
+left_some : (s : ClientState) (left : List Call) (number : ℕ) (ask : Ask) → next_in s left ≡ asks number ask → 0 < length left
+left_some s [] number ask is = absurd (cc)
+left_some s (call ∷ left) number ask is = omega arith
+
+module _ (s : ClientState) (log : AskLog) (outbox others : List (ℕ × Ask)) (number : ℕ) (ask : Ask) (kept : IsKept s false log false outbox)
+    (first : outbox ≡ (number, ask) ∷ others) where
+  all_ready : log.ready ≡ posted_ask number ask ∷ map posted_of others
+  all_ready = sym kept.posts ∙ ap (map posted_of) first
+
+  inside : (s.sent ≢ []) × (ready_in false s.sent s ≡ asks_left s)
+  inside = inside_ready s.sent s (posted_ask number ask) (map posted_of others) (sym kept.in_step.ready ∙ all_ready)
+
+  left_ready : log.ready ≡ asks_left s
+  left_ready = kept.in_step.ready ∙ inside.1
+
+  message_left : LeftAt (λ (m : Message). posted_ask m.number (record { from = call_ref s; caller = s.who.caller; request = m.request }))
+      (group s.who s.stage) (length s.sent) (posted_ask number ask)
+  message_left = left_at _ (group s.who s.stage) (length s.sent) (posted_ask number ask) (map posted_of others) (sym left_ready ∙ all_ready)
+
+  next_inside : next_step s ≡ asks number ask
+  next_inside =
+      next_at s s.left message_left.x (kept.calls (subst (λ (ready : List Posted). 0 < length ready) (sym all_ready) (omega arith))) message_left.at
+      ∙ ap (λ (p : Posted). asks p.number p.ask) message_left.is
+
+  pub asks_inside : (digest : List ℕ → Id) → AsksNext digest number ask (client_with s false log false) (client_with s false log true)
+  asks_inside digest = record {
+    here = refl;
+    duty = ap next_step (begun_inside digest ask s.sent s inside.0) ∙ next_inside;
+    own = sym (ap (λ (p : Posted). p.ask.from.client) message_left.is);
+    state = sym (begun_inside digest ask s.sent s inside.0);
+    still_here = refl;
+    asks = refl;
+    ready = left_ready;
+    first = ap (λ (ready : List Posted). slice_get ready 0) all_ready;
+    handed = refl;
+  }
+
+  pub kept_inside : IsKept s false log true others
+  kept_inside = record {
+    at_rest = tt;
+    in_step = record { ready = left_ready; first = λ handed. slice_get_within (group s.who s.stage) (length s.sent) message_left.x message_left.at };
+    here = λ handed. refl;
+    calls = kept.calls;
+    posts = sym (ap (drop 1) all_ready);
+    room = subst (λ (room : ℕ). room ≤ log.room) (inside_room s.sent s inside.0) kept.room;
+  }
+
+pub full : (s : ClientState) (gone : Bool) (log : AskLog) (outbox : List (ℕ × Ask)) → IsKept s gone log false outbox → outbox ≡ [] → s.sent ≢ []
+    → length (group s.who s.stage) ≤ length s.sent
+full s gone log outbox kept none inside =
+    let all : asks_left s ≡ [] = sym (ready_inside s.sent s inside) ∙ sym kept.in_step.ready ∙ sym kept.posts ∙ ap (map posted_of) none in
+    let left : length (group_asks s) - length s.sent ≡ 0 = sym (length-drop (length s.sent) (group_asks s)) ∙ ap length all in
+    let many = asks_length s in
+    omega arith
+
+pub between_in : (sent : List Sent) (s : ClientState) → sent ≡ [] → ready_in false sent s ≡ []
+between_in [] s between = refl
+between_in (x ∷ sent) s between = absurd (cc)
+
+pub none_ready : (s : ClientState) (gone : Bool) (log : AskLog) (outbox : List (ℕ × Ask)) → IsKept s gone log false outbox → s.sent ≡ [] → log.ready ≡ []
+none_ready s gone log outbox kept between = kept.in_step.ready ∙ between_in s.sent s between
+
+pub room_ready : (s : ClientState) (gone : Bool) (log : AskLog) (outbox : List (ℕ × Ask)) → IsKept s gone log false outbox → s.sent ≡ []
+    → room_between s.who s.stage ≤ log.room
+room_ready s gone log outbox kept between = subst (λ (room : ℕ). room ≤ log.room) (ap (λ sent. room_in false sent s) between) kept.room
+
+-- ---- a new group
+
+module _ (s now : ClientState) (number : ℕ) (ask : Ask) (others : List (ℕ × Ask)) (log new : AskLog) (readied : IsReadied number ask others now log new) where
+  ready_first : new.ready ≡ posted_ask number ask ∷ map posted_of others
+  ready_first = readied.ready ∙ sym readied.posts
+
+  pub asks_first : (digest : List ℕ → Id) → now ≡ begun digest ask s.sent s → ask.from.client ≡ s.who.client → AsksNext digest number ask (client_with s false log false) (client_with now false new true)
+  asks_first digest is own = record {
+    here = refl;
+    duty = ap next_step (sym is) ∙ readied.next;
+    own = own;
+    state = is;
+    still_here = refl;
+    asks = readied.asks_same;
+    ready = readied.ready ∙ sym (ap (λ (sent : List Sent). drop (length sent) (group_asks now)) readied.between);
+    first = ap (λ (ready : List Posted). slice_get ready 0) ready_first;
+    handed = refl;
+  }
+
+  pub kept_first : IsKept now false new true others
+  kept_first = record {
+    at_rest = tt;
+    in_step = record {
+      ready = readied.ready ∙ sym (ap (λ (sent : List Sent). drop (length sent) (group_asks now)) readied.between);
+      first = λ handed.
+          let many = sym (ap length readied.posts) in
+          let same = asks_length now in
+          let none : length now.sent ≡ 0 = ap length readied.between in
+          omega arith;
+    };
+    here = λ handed. refl;
+    calls = λ some. left_some now now.left number ask readied.next;
+    posts = sym (ap (drop 1) ready_first);
+    room = readied.room;
+  }
+
+pub kept_gone : (s now : ClientState) (log new : AskLog) (outbox : List (ℕ × Ask)) → IsKept s false log false outbox → outbox ≡ [] → s.sent ≡ []
+    → now.sent ≡ [] → is_some (next_course now.left) ≡ false → new ≡ log → room_between now.who now.stage ≤ new.room → IsKept now true new false outbox
+kept_gone s now log new outbox kept none before between unbuilt same room =
+    let empty : new.ready ≡ [] = ap (λ (l : AskLog). l.ready) same ∙ none_ready s false log outbox kept before in
+    record {
+      at_rest = (between, unbuilt);
+      in_step = record { ready = empty ∙ sym (between_in now.sent now between); first = λ handed. absurd (cc) };
+      here = λ handed. absurd (cc);
+      calls = λ some. (let count : length new.ready ≡ 0 = ap length empty in absurd (omega arith));
+      posts = ap (map posted_of) none ∙ sym empty;
+      room = subst (λ (needed : ℕ). needed ≤ new.room) (sym (ap (λ (sent : List Sent). room_in false sent now) between)) room;
+    }
+
+-- ---- an Ask
+
+record Begins (ready : List Posted) : Type 0 where
+  pub first : Posted
+  pub others : List Posted
+  pub is : ready ≡ first ∷ others
+
+begins : (ready : List Posted) → 0 < length ready → Begins ready
+begins [] some = absurd (omega arith)
+begins (first ∷ others) some = record { first = first; others = others; is = refl }
+
+handed_ready : (s : ClientState) (gone : Bool) (log : AskLog) (outbox : List (ℕ × Ask)) → IsKept s gone log true outbox → log.ready ≡ asks_left s
+handed_ready s gone log outbox kept = kept.in_step.ready
+
+pub ready_some : (s : ClientState) (gone : Bool) (log : AskLog) (outbox : List (ℕ × Ask)) → IsKept s gone log true outbox → 0 < length log.ready
+ready_some s gone log outbox kept =
+    let there : length s.sent < length (group s.who s.stage) = kept.in_step.first refl in
+    let many = asks_length s in
+    let left : length log.ready ≡ length (group_asks s) - length s.sent =
+    ap length (handed_ready s gone log outbox kept) ∙ length-drop (length s.sent) (group_asks s) in
+    omega arith
+
+pushed_inside : (sent : List Sent) (x : Sent) → (sent ++ x ∷ []) ≢ []
+pushed_inside [] x = λ none. absurd (cc)
+pushed_inside (y ∷ sent) x = λ none. absurd (cc)
+
+pub kept_asked : (place : ℕ) (s : ClientState) (gone : Bool) (log : AskLog) (outbox : List (ℕ × Ask)) → IsKept s gone log true outbox
+    → IsKept (placed place s) gone (asked_log place log) false outbox
+kept_asked place s gone log outbox kept =
+    let some = begins log.ready (ready_some s gone log outbox kept) in
+    let left : drop (length s.sent) (group_asks s) ≡ some.first ∷ some.others = sym (handed_ready s gone log outbox kept) ∙ some.is in
+    let after : (asked_log place log).ready ≡ some.others = ap (λ (ready : List Posted). (asked_first place log ready).ready) some.is in
+    let room_same : (asked_log place log).room ≡ log.room = ap (λ (ready : List Posted). (asked_first place log ready).room) some.is in
+    let inside : (placed place s).sent ≢ [] = pushed_inside s.sent _ in
+    let count : length (placed place s).sent ≡ length s.sent + 1 = length-append s.sent _ in
+    let left_after : asks_left (placed place s) ≡ some.others =
+    ap (λ (n : ℕ). drop n (group_asks s)) count ∙ sym (drop-drop 1 (length s.sent) (group_asks s)) ∙ ap (drop 1) left in
+    record {
+      at_rest = subst (IsAtRest (placed place s)) (sym (kept.here refl)) tt;
+      in_step = record { ready = after ∙ sym left_after ∙ sym (ready_inside (placed place s).sent (placed place s) inside); first = λ handed. absurd (cc) };
+      here = λ handed. absurd (cc);
+      calls = λ more. kept.calls (ready_some s gone log outbox kept);
+      posts = kept.posts ∙ ap (drop 1) some.is ∙ sym after;
+      room = subst (λ (needed : ℕ). needed ≤ (asked_log place log).room) (sym (inside_room (placed place s).sent (placed place s) inside))
+          (subst (λ (room : ℕ). room_within s.stage ≤ room) (sym room_same) kept.room);
+    }

@@ -1,0 +1,179 @@
+//! A client: the call under way, what it asked for it and was told, and the results so far.
+
+ghost use Rattle.std.specs.Prelude.{◌≡◌, ◌+◌, ◌<◌, ◌≤◌, ◌↔◌, [], length, slice_get, IfOk, IsTrue};
+ghost use Rattle.std.specs.Option.{option_copied};
+ghost use Rattle.inf_base.specs.declared.limits.TheConstants.{MOST_CALLS};
+ghost use Rattle.inf_base.specs.Setup.{call_count};
+ghost use Rattle.inf_duty.specs.Kept.{ended_result};
+ghost use Rattle.inf_duty.specs.Start.{start};
+ghost use Rattle.inf_duty.specs.World.{world_by};
+ghost use Rattle.inf_flow_dir.specs.Client.{ended, idle};
+
+mod allowing;
+mod asking;
+mod step;
+mod turning;
+
+use crate::standing::Standing;
+use crate::tally::Tally;
+use inf_base::{Answer, Call, CallRef, Caller, ClientLine, NoMemory, Place, Setup, TryClone};
+use inf_birth::IdRule;
+use inf_flow_dir::{ReplyRoom, Sending, Who};
+use inf_message::CallResult;
+use std::alloc::Global;
+use std::collections::VecDeque;
+use std::marker::Model;
+
+/// A client of a script, which asks for one call after another. Its answers take no memory: what they need was made
+/// ready before the Asks.
+#[derive(Drop)]
+pub struct ClientState {
+    who: Who,
+    number: u32,
+    left: VecDeque<Call>,
+    stands: Standing,
+    sent: Vec<Sending>,
+    /// For the answers that are still to come.
+    rooms: Vec<ReplyRoom>,
+    counts: Tally,
+    results: Vec<CallResult>,
+}
+
+impl Model for ClientState {
+    ghost use Rattle.std.specs.Prelude.{vec_len, vec_capacity};
+    ghost use Rattle.inf_duty.specs.Kept.{IsKept};
+    ghost use Rattle.inf_duty.specs.Standing.{stage_of};
+    ghost use Rattle.inf_flow_dir.specs.Client.{ClientState};
+
+    ghost Value = { ClientState };
+
+    ghost view = { λ c. record {
+      who = c.who;
+      number = c.number;
+      left = c.left.items;
+      stage = stage_of c.stands;
+      sent = c.sent.items;
+      counts = c.counts;
+      results = c.results.items;
+    } };
+
+    ghost invariant = { λ c. IsKept c.number c.left.items c.stands c.sent.items
+        (vec_capacity c.sent) (vec_len c.rooms) (vec_len c.results) (vec_capacity c.results) };
+}
+
+impl ClientState {
+    /// The client of this number before its first Ask. A client that the setup does not have calls nothing.
+    pub fn start<R: IdRule>(
+        alloc: Global,
+        rule: &R,
+        setup: &Setup,
+        client: u32,
+    ) -> Result<Self, NoMemory>
+        requires some_servers { 1 ≤ setup.now.servers }
+        requires few_calls { call_count setup.now.clients ≤ MOST_CALLS }
+        ensures { IfOk result (λ made.
+            made ≡ start (world_by (R.digest_of rule.now) setup.now) client) }
+    {
+        match line_of(setup, client) {
+            Some(line) => ClientState::idle(
+                alloc,
+                Who::new(rule, client, line.caller, setup.servers),
+                line.calls.as_slice(),
+            ),
+            None => ClientState::idle(alloc, Who::new(rule, client, NOBODY, setup.servers), &[]),
+        }
+    }
+
+    fn idle(alloc: Global, who: Who, calls: &[Call]) -> Result<Self, NoMemory>
+        requires { length calls.now ≤ MOST_CALLS }
+        ensures { IfOk result (λ made. made ≡ idle who calls.now) }
+    {
+        let left = copied(alloc, calls)?;
+        let sent = Vec::with_capacity(alloc, 1)?;
+        let results = Vec::with_capacity(alloc, calls.len())?;
+        Ok(ClientState {
+            who,
+            number: 1,
+            left,
+            stands: Standing::Compose,
+            sent,
+            rooms: Vec::new(alloc),
+            counts: Tally::new(),
+            results,
+        })
+    }
+
+    /// The result of the call under way, were it to end so.
+    fn result_of(&self, answer: Answer, place: Option<Place>) -> CallResult
+        ensures { result ≡ ended_result answer place self.now }
+    {
+        CallResult {
+            call: CallRef {
+                client: self.who.client(),
+                number: self.number,
+            },
+            answer,
+            place,
+            first: self.counts.first(),
+            last: self.counts.last(),
+            attempts: self.counts.attempts(),
+            rounds: self.counts.rounds(),
+            messages: self.counts.messages(),
+        }
+    }
+
+    /// The call under way ends with this answer, and the next one is under way.
+    fn end(&mut self, answer: Answer, place: Option<Place>)
+        requires { 0 < length self.old.left }
+        ensures { self.new ≡ ended answer place self.old }
+    {
+        let result = self.result_of(answer, place);
+        self.results.push_reserved(result);
+        let _ = self.left.pop_front();
+        self.number += 1;
+        self.stands = Standing::Compose;
+        self.sent.clear();
+        self.counts = Tally::new();
+    }
+
+    /// The number of the call under way, from 1.
+    pub fn number(&self) -> u32
+        ensures number { result ≡ self.now.number }
+        ensures numbered { self.now.number + length self.now.left ≤ MOST_CALLS + 1 }
+    {
+        let _ = &self.sent;
+        self.number
+    }
+
+    fn first_call(&self) -> Option<&Call>
+        ensures { option_copied result ≡ slice_get self.now.left 0 }
+    {
+        self.left.get(0)
+    }
+
+    /// Whether it has asked for nothing of its group.
+    pub fn is_between(&self) -> bool
+        ensures { IsTrue result ↔ (self.now.sent ≡ []) }
+    {
+        self.sent.is_empty()
+    }
+}
+
+/// Whom a client calls for that the setup does not have.
+const NOBODY: Caller = Caller { uid: 0, gid: 0 };
+
+fn line_of(setup: &Setup, client: u32) -> Option<&ClientLine>
+    ensures { option_copied result ≡ slice_get setup.now.clients client }
+{
+    setup.clients.as_slice().get(client as usize)
+}
+
+fn copied(alloc: Global, calls: &[Call]) -> Result<VecDeque<Call>, NoMemory>
+    ensures { IfOk result (λ left. left.items ≡ calls.now) }
+{
+    let mut left = VecDeque::new(alloc);
+    for call in calls {
+        left.push_back(call.try_clone(alloc)?)?;
+    }
+    Ok(left)
+}

@@ -1,0 +1,154 @@
+//! How an ask finds a client: within a group, or between two, where calls may be given up before it.
+
+ghost use Rattle.std.specs.Prelude.{ℕ, List, ◌≡◌, ◌≢◌, ◌+◌, ◌<◌, ◌^◌, [], is_some, true, false, Some, OnOk, OnErr};
+ghost use Rattle.inf_base.specs.declared.id.Id.{Id};
+ghost use Rattle.inf_duty.specs.Duty.{asked, at_call, begun, found_at, lifts};
+ghost use Rattle.inf_duty.specs.Messages.{is_compose, is_winding};
+ghost use Rattle.inf_flow_dir.specs.Client.{placed};
+ghost use Rattle.inf_flow_dir.specs.Draft.{course_with};
+ghost use Rattle.inf_flow_dir.specs.Group.{composed, next_course};
+
+use super::ClientState;
+use crate::group::{is_acting, is_compose, is_round, is_winding};
+use crate::recording::make_rooms;
+use crate::standing::Standing;
+use inf_base::{NoMemory, Place};
+use inf_birth::IdRule;
+use inf_flow_dir::{Draft, Sending};
+use inf_message::{Ask, Request};
+use std::alloc::Global;
+
+/// Whether a request is one of a clean-up.
+fn lifts(request: &Request) -> bool
+    ensures { result ≡ lifts request.now }
+{
+    match request {
+        Request::Cancel { .. } => true,
+        Request::Drop { .. } => true,
+        Request::Unseal { .. } => true,
+        _ => false,
+    }
+}
+
+impl ClientState {
+    /// An attempt begins with the round of a draft, whose Asks and answers take no memory then.
+    fn open<R: IdRule>(&mut self, alloc: Global, rule: &R, draft: Draft) -> Result<(), NoMemory>
+        requires between { self.old.sent ≡ [] }
+        requires stage { is_compose self.old.stage ≡ true }
+        requires course { next_course self.old.left ≡ Some (course_with draft) }
+        ensures ok { OnOk result (self.new ≡ composed (R.digest_of rule.now) self.old) }
+        ensures err { OnErr result (self.new ≡ self.old) }
+    {
+        let keys = draft.keys(alloc, rule, &self.who)?;
+        make_rooms(alloc, &mut self.rooms, keys.len())?;
+        self.sent = Vec::with_capacity(alloc, keys.len())?;
+        self.stands = Standing::Round(keys, draft);
+        Ok(())
+    }
+
+    /// What is asked for next is settled, where nothing is yet.
+    #[tactic(auto, using(crate::proofs::BegunFacts::stays_composed, crate::proofs::StepFacts::composed_settled))]
+    pub fn take_up<R: IdRule>(&mut self, alloc: Global, rule: &R) -> Result<(), NoMemory>
+        requires between { self.old.sent ≡ [] }
+        ensures ok { OnOk result (self.new ≡ composed (R.digest_of rule.now) self.old) }
+        ensures settled { OnOk result (is_some (next_course self.old.left) ≡ true → is_compose self.new.stage ≡ false) }
+        ensures err { OnErr result (self.new ≡ self.old) }
+    {
+        if !is_compose(&self.stands) {
+            return Ok(());
+        }
+        let Some(call) = self.first_call() else {
+            return Ok(());
+        };
+        match Draft::of(alloc, call)? {
+            None => Ok(()),
+            Some(draft) => self.open(alloc, rule, draft),
+        }
+    }
+
+    /// Gives up the calls before the one of this number, up to one behind which something is to be cleaned up.
+    #[tactic(auto, using(crate::proofs::BegunFacts::gives_up, crate::proofs::BegunFacts::gives_up_less, crate::proofs::BegunFacts::given_sent, crate::proofs::BegunFacts::built_left))]
+    fn pass_to(&mut self, number: u32, request: &Request)
+        requires { self.old.sent ≡ [] }
+        ensures way { (digest : List ℕ → Id) → at_call digest number request.now self.new.left self.new
+            ≡ at_call digest number request.now self.old.left self.old }
+        ensures between { self.new.sent ≡ [] }
+        ensures stopped { self.new.number ≢ number → is_some (next_course self.new.left) ≡ true
+            → is_winding self.new.stage ≡ true }
+    {
+        let _ = request;
+        while self.number != number && self.is_built() && !is_winding(&self.stands) {
+            self.give_up_call();
+        }
+    }
+
+    /// The ask finds the client at its call.
+    #[tactic(auto, using(crate::proofs::BegunFacts::found_lifts, crate::proofs::BegunFacts::found_idle, crate::proofs::BegunFacts::found_other, crate::proofs::BegunFacts::acting_goes))]
+    fn find<R: IdRule>(
+        &mut self,
+        alloc: Global,
+        rule: &R,
+        request: &Request,
+    ) -> Result<(), NoMemory>
+        requires between { self.old.sent ≡ [] }
+        ensures ok { OnOk result (self.new ≡ found_at (R.digest_of rule.now) request.now self.old) }
+        ensures between { OnOk result (self.new.sent ≡ []) }
+    {
+        if !lifts(request) {
+            return self.take_up(alloc, rule);
+        }
+        if is_acting(&self.stands) {
+            self.give_up_call();
+        }
+        Ok(())
+    }
+
+    /// The ask finds the client as it is within a group; between two it may show that calls were given up.
+    #[tactic(auto, using(crate::proofs::BegunFacts::begun_between, crate::proofs::BegunFacts::begun_inside, crate::proofs::BegunFacts::stays_at, crate::proofs::BegunFacts::at_nothing, crate::proofs::BegunFacts::at_found))]
+    pub(super) fn begin<R: IdRule>(
+        &mut self,
+        alloc: Global,
+        rule: &R,
+        ask: &Ask,
+    ) -> Result<(), NoMemory>
+        ensures ok { OnOk result (self.new
+            ≡ begun (R.digest_of rule.now) ask.now self.old.sent self.old) }
+    {
+        if !self.is_between() {
+            return Ok(());
+        }
+        self.pass_to(ask.from.number, &ask.request);
+        if self.left.is_empty() || self.number != ask.from.number {
+            return Ok(());
+        }
+        self.find(alloc, rule, &ask.request)
+    }
+
+    /// An Ask more, which may take memory.
+    fn place(&mut self, alloc: Global, place: Place) -> Result<(), NoMemory>
+        requires { self.old.counts.messages + 1 < 2 ^ 64 }
+        ensures { OnOk result (self.new ≡ placed place self.old) }
+    {
+        let begins_round = is_round(&self.stands) && self.sent.is_empty();
+        make_rooms(alloc, &mut self.rooms, self.sent.len() + 1)?;
+        self.sent.push(Sending::new(place))?;
+        self.counts.count_ask(place, begins_round);
+        Ok(())
+    }
+
+    /// The client has made an Ask at this place. Where memory is wanting it may have given up calls before that one.
+    #[tactic(auto, using(crate::proofs::OwnFacts::begun_took))]
+    pub(crate) fn asked<R: IdRule>(
+        &mut self,
+        alloc: Global,
+        rule: &R,
+        place: Place,
+        ask: &Ask,
+    ) -> Result<(), NoMemory>
+        requires { self.old.counts.messages + 1 < 2 ^ 64 }
+        ensures { OnOk result (self.new ≡ asked (R.digest_of rule.now) place ask.now self.old) }
+    {
+        self.begin(alloc, rule, ask)?;
+        self.place(alloc, place)
+    }
+}

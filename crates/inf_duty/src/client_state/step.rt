@@ -1,0 +1,234 @@
+//! A client that is driven: what it is to do next, and the steps that it takes.
+
+ghost use Rattle.std.specs.Prelude.{ℕ, List, ◌≡◌, ◌↔◌, ◌+◌, ◌<◌, ◌≤◌, ◌∷◌, ◌^◌, [], length, map, is_some, true, false, None, IfOk, IsTrue};
+ghost use Rattle.inf_base.specs.declared.id.Id.{Id};
+ghost use Rattle.inf_duty.specs.ClientStep.{IsQuiet, is_ask, next_as};
+ghost use Rattle.inf_duty.specs.Duty.{asks, given_up, next_step};
+ghost use Rattle.inf_duty.specs.Kept.{unserved};
+ghost use Rattle.inf_duty.specs.Messages.{is_compose, is_winding, post_of};
+ghost use Rattle.inf_duty.specs.Outcome.{results_of, so_far};
+ghost use Rattle.inf_flow_dir.specs.Client.{compose, placed, result_of};
+ghost use Rattle.inf_flow_dir.specs.Group.{composed, group, lookup_of, next_course};
+
+use super::ClientState;
+use crate::client_step::ClientStep;
+use crate::group::{is_round, is_winding};
+use crate::standing::Standing;
+use inf_base::{Answer, CallRef, LookKey, NoMemory, Place};
+use inf_flow_dir::{Ending, Sending, has_course};
+use inf_message::{Ask, CallResult, Message};
+use std::alloc::Global;
+use std::mem;
+
+impl ClientState {
+    pub fn client(&self) -> u32
+        ensures { result ≡ self.now.who.client }
+    {
+        self.who.client()
+    }
+
+    /// Whether each call has ended.
+    pub fn is_over(&self) -> bool
+        ensures { IsTrue result ↔ (self.now.left ≡ []) }
+    {
+        self.left.is_empty()
+    }
+
+    /// The results of the calls that have ended.
+    pub fn results(&self) -> &[CallResult]
+        ensures { result.now ≡ self.now.results }
+    {
+        self.results.as_slice()
+    }
+
+    /// How many calls are left, the one under way among them.
+    pub fn calls_left(&self) -> usize
+        ensures { result ≡ length self.now.left }
+    {
+        self.left.len()
+    }
+
+    /// Whether the call under way is of a kind that is built. Between two groups there is an ask to make for it.
+    #[tactic(auto, using(crate::proofs::StepFacts::built_asks))]
+    pub fn is_built(&self) -> bool
+        ensures value { result ≡ is_some (next_course self.now.left) }
+        ensures asking { (digest : List ℕ → Id) → self.now.sent ≡ [] → result ≡ true
+            → is_ask (next_step (composed digest self.now)) ≡ true }
+    {
+        let _ = &self.stands;
+        match self.first_call() {
+            Some(call) => has_course(call),
+            None => false,
+        }
+    }
+
+    /// Whether nothing is left of the call under way but the messages that wind it up.
+    pub fn is_winding(&self) -> bool
+        ensures { result ≡ is_winding self.now.stage }
+    {
+        is_winding(&self.stands)
+    }
+
+    /// The ask that sends this message, and the server that it is for.
+    pub(super) fn posted(&self, message: Message) -> (u32, Ask)
+        ensures { result ≡ post_of self.now message }
+    {
+        let Message { number, request } = message;
+        let ask = Ask {
+            from: CallRef {
+                client: self.who.client(),
+                number: self.number,
+            },
+            caller: self.who.caller(),
+            request,
+        };
+        (number, ask)
+    }
+
+    fn lookups(&self, alloc: Global, keys: &[LookKey]) -> Result<Vec<(u32, Ask)>, NoMemory>
+        ensures { IfOk result (λ posts. posts.items
+            ≡ map (post_of self.now) (map (lookup_of self.now.who) keys.now)) }
+    {
+        let mut posts = Vec::with_capacity(alloc, keys.len())?;
+        for key in keys {
+            let message = self.who.lookup(alloc, key)?;
+            posts.push(self.posted(message))?;
+        }
+        Ok(posts)
+    }
+
+    fn alone(&self, alloc: Global, message: Message) -> Result<Vec<(u32, Ask)>, NoMemory>
+        ensures { IfOk result (λ posts. posts.items ≡ post_of self.now message ∷ []) }
+    {
+        let mut posts = Vec::with_capacity(alloc, 1)?;
+        posts.push(self.posted(message))?;
+        Ok(posts)
+    }
+
+    /// The asks of the group that is settled, in their order, each with the server that it is for.
+    pub fn asks(&self, alloc: Global) -> Result<Vec<(u32, Ask)>, NoMemory>
+        ensures { IfOk result (λ posts. posts.items
+            ≡ map (post_of self.now) (group self.now.who self.now.stage)) }
+    {
+        match &self.stands {
+            Standing::Compose => Ok(Vec::new(alloc)),
+            Standing::Round(keys, _) => self.lookups(alloc, keys.as_slice()),
+            Standing::Act(flow) => self.alone(alloc, flow.message(alloc, &self.who)?),
+            Standing::Winds(_, first, _) => self.alone(alloc, first.message()),
+        }
+    }
+
+    /// The ask of the message that winds the call up, and the server that it is for. Takes no memory.
+    pub fn winding_ask(&self) -> (u32, Ask)
+        requires winding { is_winding self.now.stage ≡ true }
+        requires between { self.now.sent ≡ [] }
+        ensures { next_step self.now ≡ asks result.0 result.1 }
+    {
+        match &self.stands {
+            Standing::Winds(_, first, _) => self.posted(first.message()),
+            _ => unreachable!(),
+        }
+    }
+
+    /// What a client does next that has no ask to make.
+    #[tactic(auto, using(crate::proofs::StepFacts::over_next, crate::proofs::StepFacts::waits_inside, crate::proofs::StepFacts::waits_unbuilt))]
+    pub fn rest(&self) -> ClientStep
+        ensures quiet { IsQuiet result }
+        ensures inside { length (group self.now.who self.now.stage) ≤ length self.now.sent
+            → next_step self.now ≡ next_as result }
+        ensures unbuilt { (digest : List ℕ → Id) → is_some (next_course self.now.left) ≡ false
+            → next_step (composed digest self.now) ≡ next_as result }
+    {
+        if self.left.is_empty() {
+            ClientStep::Finished
+        } else {
+            ClientStep::Waiting
+        }
+    }
+
+    /// An Ask more, which takes no memory.
+    pub fn place_ask(&mut self, place: Place)
+        requires next { length self.old.sent < length (group self.old.who self.old.stage) }
+        requires room { self.old.counts.messages + 1 < 2 ^ 64 }
+        ensures { self.new ≡ placed place self.old }
+    {
+        let begins_round = is_round(&self.stands) && self.sent.is_empty();
+        self.sent.push_reserved(Sending::new(place));
+        self.counts.count_ask(place, begins_round);
+    }
+
+    /// The call under way ends for want of memory, once what its next step would have changed is cleaned up.
+    #[tactic(auto, using(crate::proofs::TurnFacts::turned_afresh))]
+    pub fn give_up_call(&mut self)
+        requires call { 0 < length self.old.left }
+        requires going { is_winding self.old.stage ≡ false }
+        ensures { self.new ≡ given_up self.old }
+    {
+        let ending = Ending::Answers(Answer::NoMemory, None);
+        self.sent.clear();
+        match mem::replace(&mut self.stands, Standing::Compose) {
+            Standing::Act(flow) => {
+                let clean_ups = flow.clean_up(&self.who);
+                self.wind(ending, clean_ups);
+            }
+            Standing::Compose => self.end(Answer::NoMemory, None),
+            Standing::Round(_, _) => self.end(Answer::NoMemory, None),
+            Standing::Winds(_, _, _) => unreachable!(),
+        }
+    }
+
+    /// Only a call that has ended has a last Serve.
+    fn forget_serves(&mut self)
+        ensures { self.new ≡ unserved self.old }
+    {
+        self.counts.forget_serves();
+    }
+
+    /// What the call under way has come to.
+    fn take_so_far(&mut self) -> (Answer, Option<Place>)
+        ensures so_far { so_far self.old.stage self.old
+            ≡ result_of result.0 result.1 None self.old }
+        ensures after { self.new ≡ record self.old { stage = compose; sent = [] } }
+    {
+        self.sent.clear();
+        match mem::replace(&mut self.stands, Standing::Compose) {
+            Standing::Compose => (Answer::Unanswered, None),
+            Standing::Round(_, _) => (Answer::Unanswered, None),
+            Standing::Act(_) => (Answer::Unanswered, None),
+            Standing::Winds(ending, _, _) => match ending {
+                Ending::Answers(answer, place) => (answer, place),
+                Ending::Retries => (Answer::Unanswered, None),
+            },
+        }
+    }
+
+    /// The call under way ends with what it has come to.
+    #[tactic(auto, using(crate::proofs::ResultFacts::ended_one))]
+    fn end_so_far(&mut self)
+        requires { self.old.counts.last ≡ None }
+        ensures results { results_of self.new ≡ results_of self.old }
+        ensures stage { 0 < length self.new.left → self.new.stage ≡ compose }
+        ensures last { self.new.counts.last ≡ None }
+    {
+        if self.is_over() {
+            return;
+        }
+        let (answer, place) = self.take_so_far();
+        self.end(answer, place);
+    }
+
+    /// One result for each call; those that have no answer yet are unanswered.
+    #[tactic(auto, using(crate::proofs::ResultFacts::unserved_results, crate::proofs::ResultFacts::ended_next, crate::proofs::ResultFacts::all_results))]
+    pub fn into_results(self) -> Vec<CallResult>
+        ensures { result.items ≡ results_of self }
+    {
+        let mut state = self;
+        state.forget_serves();
+        state.end_so_far();
+        while !state.is_over() {
+            state.end(Answer::Unanswered, None);
+        }
+        let ClientState { results, .. } = state;
+        results
+    }
+}

@@ -1,0 +1,192 @@
+//! What a client makes of what it is told.
+
+ghost use Rattle.std.specs.Prelude.{ℕ, List, ◌≡◌, ◌==◌, ◌&&◌, ◌<◌, [], true, false, length, is_some};
+ghost use Rattle.inf_base.specs.declared.id.Id.{Id};
+ghost use Rattle.inf_duty.specs.Messages.{has_one_message};
+ghost use Rattle.inf_flow_dir.specs.Client.{act, begins_again, compose, finished, has_place, is_round, wound};
+ghost use Rattle.inf_flow_dir.specs.Ending.{ending_of};
+ghost use Rattle.inf_flow_dir.specs.Group.{next_course};
+ghost use Rattle.inf_flow_dir.specs.Heard.{heard};
+ghost use Rattle.inf_flow_dir.specs.Turn.{goes_on, is_complete, recorded, served, settled, turn_at, turned};
+ghost use Rattle.inf_flow_dir.specs.TurnOf.{turn_of};
+ghost use Rattle.inf_message.specs.History.{told_reply};
+
+use super::ClientState;
+use crate::group::{group_size, has_one_message};
+use crate::recording::record_answer;
+use crate::standing::Standing;
+use inf_base::Place;
+use inf_birth::IdRule;
+use inf_flow_dir::{CleanUps, DirFlow, Ending, Turn, after_round, are_told, has_place};
+use inf_message::Reply;
+use std::mem;
+
+impl ClientState {
+    /// The next attempt at the call.
+    fn begin_again(&mut self)
+        ensures { self.new ≡ begins_again self.old }
+    {
+        self.stands = Standing::Compose;
+        self.sent.clear();
+        self.counts.begin_again();
+    }
+
+    /// The call has come to its end, or the attempt.
+    fn finish(&mut self, ending: Ending)
+        requires { 0 < length self.old.left }
+        ensures { self.new ≡ finished (ending_of ending) self.old }
+    {
+        match ending {
+            Ending::Answers(answer, place) => self.end(answer, place),
+            Ending::Retries => self.begin_again(),
+        }
+    }
+
+    /// The messages that are left, and then the end.
+    pub(super) fn wind(&mut self, ending: Ending, more: CleanUps)
+        requires { is_some (next_course self.old.left) ≡ true }
+        ensures { self.new ≡ wound (ending_of ending) more self.old }
+    {
+        match more.take_first() {
+            None => self.finish(ending),
+            Some((first, rest)) => {
+                self.stands = Standing::Winds(ending, first, rest);
+                self.sent.clear();
+            }
+        }
+    }
+
+    /// The next message of the attempt.
+    fn go_on(&mut self, flow: DirFlow)
+        requires { is_some (next_course self.old.left) ≡ true }
+        ensures { self.new ≡ turned (goes_on (act flow)) self.old }
+    {
+        self.stands = Standing::Act(flow);
+        self.sent.clear();
+    }
+
+    fn follow(&mut self, turn: Turn)
+        requires { is_some (next_course self.old.left) ≡ true }
+        ensures { self.new ≡ turned (turn_of turn) self.old }
+    {
+        match turn {
+            Turn::GoesOn(flow) => self.go_on(flow),
+            Turn::WindsUp(ending, more) => self.wind(ending, more),
+        }
+    }
+
+    /// What comes of the answers to a round, which is over.
+    fn take_round(&mut self) -> Turn
+        requires round { is_round self.old.stage ≡ true }
+        ensures turn { (digest : List ℕ → Id) → turn_of result ≡ turn_at digest self.old self.old.stage }
+        ensures after { self.new ≡ record self.old { stage = compose; sent = [] } }
+        ensures call { is_some (next_course self.old.left) ≡ true }
+    {
+        match mem::replace(&mut self.stands, Standing::Compose) {
+            Standing::Round(_, draft) => after_round(draft, &mut self.sent),
+            _ => unreachable!(),
+        }
+    }
+
+    /// What comes of the answer to the one message of a group that is no round.
+    #[tactic(auto, using(crate::proofs::TurnFacts::alone_turn, crate::proofs::TurnFacts::heard_act))]
+    fn take_answer<R: IdRule>(
+        &mut self,
+        rule: &R,
+        ask_place: Place,
+        serve_place: Place,
+        reply: &Reply,
+    ) -> Turn
+        requires alone { length self.old.sent ≡ 1 }
+        requires here { has_place ask_place self.old.sent ≡ true }
+        requires stage { has_one_message self.old.stage ≡ true }
+        ensures turn { turn_of result
+            ≡ turn_at (R.digest_of rule.now) (recorded ask_place (told_reply serve_place (heard reply.now)) self.old) self.old.stage }
+        ensures after { self.new ≡ record self.old { stage = compose; sent = [] } }
+        ensures call { is_some (next_course self.old.left) ≡ true }
+    {
+        self.sent.clear();
+        match mem::replace(&mut self.stands, Standing::Compose) {
+            Standing::Act(flow) => flow.next(rule, &self.who, ask_place, serve_place, reply),
+            Standing::Winds(ending, _, rest) => Turn::WindsUp(ending, rest),
+            _ => unreachable!(),
+        }
+    }
+
+    /// Whether a group of one message, and no round, waits for its answer.
+    fn is_alone(&self) -> bool
+        ensures { result ≡ (has_one_message self.now.stage && length self.now.sent == 1) }
+    {
+        has_one_message(&self.stands) && self.sent.len() == 1
+    }
+
+    fn is_complete(&self) -> bool
+        ensures { result ≡ is_complete self.now }
+    {
+        self.sent.len() == group_size(&self.stands) && are_told(self.sent.as_slice())
+    }
+
+    /// Keeps the answer of the Ask at this place.
+    fn record(&mut self, ask_place: Place, serve_place: Place, reply: &Reply)
+        requires { (has_one_message self.old.stage && length self.old.sent == 1) ≡ false }
+        ensures { self.new
+            ≡ recorded ask_place (told_reply serve_place (heard reply.now)) self.old }
+    {
+        self.counts.count_serve(serve_place);
+        record_answer(
+            &mut self.sent,
+            &mut self.rooms,
+            ask_place,
+            serve_place,
+            reply,
+        );
+    }
+
+    /// The answer to the one message of a group that is no round ends the group.
+    #[tactic(auto, using(crate::proofs::TurnFacts::alone_ends))]
+    fn end_alone<R: IdRule>(
+        &mut self,
+        rule: &R,
+        ask_place: Place,
+        serve_place: Place,
+        reply: &Reply,
+    )
+        requires alone { length self.old.sent ≡ 1 }
+        requires here { has_place ask_place self.old.sent ≡ true }
+        requires stage { has_one_message self.old.stage ≡ true }
+        ensures { self.new
+            ≡ served (R.digest_of rule.now) ask_place (told_reply serve_place (heard reply.now)) self.old }
+    {
+        let turn = self.take_answer(rule, ask_place, serve_place, reply);
+        self.counts.count_serve(serve_place);
+        self.follow(turn);
+    }
+
+    #[tactic(auto, using(crate::proofs::TurnFacts::turned_afresh))]
+    fn end_round(&mut self)
+        requires { is_round self.old.stage ≡ true }
+        ensures { (digest : List ℕ → Id) → self.new ≡ settled digest true self.old }
+    {
+        let turn = self.take_round();
+        self.follow(turn);
+    }
+
+    /// The Ask at a place was served. Only an Ask of the present group is waited for.
+    #[tactic(auto, using(crate::proofs::TurnFacts::complete_round, crate::proofs::TurnFacts::some_sent))]
+    pub fn told<R: IdRule>(&mut self, rule: &R, ask_place: Place, serve_place: Place, reply: &Reply)
+        ensures { self.new
+            ≡ served (R.digest_of rule.now) ask_place (told_reply serve_place (heard reply.now)) self.old }
+    {
+        if !has_place(self.sent.as_slice(), ask_place) {
+            return;
+        }
+        if self.is_alone() {
+            self.end_alone(rule, ask_place, serve_place, reply);
+            return;
+        }
+        self.record(ask_place, serve_place, reply);
+        if self.is_complete() {
+            self.end_round();
+        }
+    }
+}
