@@ -37,6 +37,7 @@ pub mod PhaseTurns
 pub mod PlacedAnswers
 pub mod PlacedResults
 pub mod ReplayedAnswers
+pub mod ReplayedCounts
 pub mod ResultFacts
 pub mod ServeFacts
 pub mod ServeSteps

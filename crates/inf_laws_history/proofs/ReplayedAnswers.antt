@@ -81,7 +81,7 @@ in_order_has result results place (suc most) is counted within at =
 
 -- ---- so it is replayed
 
-decided_is : (world : World) (result : CallResult) (is : IsOfScript world result.call) → decided_of world result ≡ Some (answered result.call is result.answer)
+pub decided_is : (world : World) (result : CallResult) (is : IsOfScript world result.call) → decided_of world result ≡ Some (answered result.call is result.answer)
 decided_is world result is =
     ap (decided_by result (result.call.number - 1)) is.client
     ∙ ap (decided_call is.line result) is.called

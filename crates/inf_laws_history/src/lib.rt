@@ -13,4 +13,4 @@ pub use laws::{
     own_asks_show_the_client, results_have_own_places,
 };
 pub use replies::links_are_never_replied_other;
-pub use results::answers_are_replayed;
+pub use results::{answers_are_replayed, as_many_replay_as_were_decided};
