@@ -1,5 +1,6 @@
 -- A client's stage is of a call that is built, and one that gives up what is left gives up a call.
 use Rattle.std.proofs.Common.{◌≡◌, ℕ, suc, Bool, true, false, cond, eqb, ◌||◌, ◌&&◌, List, [], ◌∷◌, ◌++◌, length, slice_get, Option, Some, None, is_some, refl, sym, ap, subst, ◌∙◌}
+use Rattle.inf_base.specs.declared.id.Id.{Id}
 use Rattle.std.specs.List.{list_any}
 use Rattle.std.proofs.lemmas.List.Folds.{list_any-append}
 use Rattle.inf_base.specs.declared.answer.Answer.TheVariants as answer
@@ -10,12 +11,11 @@ use Rattle.inf_duty.specs.Duty.{asked, given_up, given_up_in}
 use Rattle.inf_duty.specs.Outcome.{all_given_up, are_none, is_free, may_give_up, results_of}
 use Rattle.inf_duty.specs.Start.{starting}
 use Rattle.inf_duty.specs.World.{World}
-use Rattle.inf_flow_dir.specs.Client.{Client, Ending, Stage, act, answers, compose, ended, retries, round, winds, wound}
+use Rattle.inf_flow_dir.specs.Client.{ClientState, Ending, Stage, act, answers, compose, ended, retries, round, winds, wound}
 use Rattle.inf_flow_dir.specs.Flow.{Who, clean_up}
 use Rattle.inf_flow_dir.specs.Group.{Course, composed_stage, keys_of, next_course}
 use Rattle.inf_flow_dir.specs.Heard.{heard}
 use Rattle.inf_flow_dir.specs.Turn.{Turn, goes_on, recorded, turn_at, turned, winds_up}
-use Rattle.inf_message.specs.declared.ask.Ask.{Ask}
 use Rattle.inf_message.specs.declared.call_result.CallResult.{CallResult}
 use Rattle.inf_message.specs.declared.event.Event.{Event}
 use Rattle.inf_message.specs.declared.event.Event.TheVariants as event
@@ -32,7 +32,7 @@ abbrev pub IsBuilt : List Call → Stage → Type 0
 IsBuilt left compose = Unit {0}
 IsBuilt left other_stage = is_some (next_course left) ≡ true
 
-abbrev pub IsBuiltFor : Client → Type 0
+abbrev pub IsBuiltFor : ClientState → Type 0
 IsBuiltFor s = IsBuilt s.left s.stage
 
 any_built : (left : List Call) (next : Stage) → is_some (next_course left) ≡ true → IsBuilt left next
@@ -41,40 +41,40 @@ any_built left (round keys) some = some
 any_built left (act flow) some = some
 any_built left (winds ending m ms) some = some
 
-keys_built : (left : List Call) (who : Who) (course : Option Course) → next_course left ≡ course → IsBuilt left (keys_of who course)
-keys_built left who None is = tt
-keys_built left who (Some course) is = ap is_some is
+keys_built : (digest : List ℕ → Id) (left : List Call) (who : Who) (course : Option Course) → next_course left ≡ course → IsBuilt left (keys_of digest who course)
+keys_built digest left who None is = tt
+keys_built digest left who (Some course) is = ap is_some is
 
-composed_built : (s : Client) (stage : Stage) → IsBuilt s.left stage → IsBuilt s.left (composed_stage s stage)
-composed_built s compose built = keys_built s.left s.who (next_course s.left) refl
-composed_built s (round keys) built = built
-composed_built s (act flow) built = built
-composed_built s (winds ending m ms) built = built
+composed_built : (digest : List ℕ → Id) (s : ClientState) (stage : Stage) → IsBuilt s.left stage → IsBuilt s.left (composed_stage digest s stage)
+composed_built digest s compose built = keys_built digest s.left s.who (next_course s.left) refl
+composed_built digest s (round keys) built = built
+composed_built digest s (act flow) built = built
+composed_built digest s (winds ending m ms) built = built
 
-wound_built : (ending : Ending) (more : List Message) (s : Client) → is_some (next_course s.left) ≡ true → IsBuiltFor (wound ending more s)
+wound_built : (ending : Ending) (more : List Message) (s : ClientState) → is_some (next_course s.left) ≡ true → IsBuiltFor (wound ending more s)
 wound_built (answers given place) [] s some = tt
 wound_built retries [] s some = tt
 wound_built ending (m ∷ ms) s some = some
 
-turned_built : (turn : Turn) (s : Client) → is_some (next_course s.left) ≡ true → IsBuiltFor (turned turn s)
+turned_built : (turn : Turn) (s : ClientState) → is_some (next_course s.left) ≡ true → IsBuiltFor (turned turn s)
 turned_built (goes_on next) s some = any_built s.left next some
 turned_built (winds_up ending more) s some = wound_built ending more s some
 
-over_built : (s t : Client) (stage : Stage) → IsBuilt t.left stage → IsBuiltFor (turned (turn_at s stage) t)
-over_built s t compose built = tt
-over_built s t (round keys) built = turned_built (turn_at s (round keys)) t built
-over_built s t (act flow) built = turned_built (turn_at s (act flow)) t built
-over_built s t (winds ending m ms) built = turned_built (turn_at s (winds ending m ms)) t built
+over_built : (digest : List ℕ → Id) (s t : ClientState) (stage : Stage) → IsBuilt t.left stage → IsBuiltFor (turned (turn_at digest s stage) t)
+over_built digest s t compose built = tt
+over_built digest s t (round keys) built = turned_built (turn_at digest s (round keys)) t built
+over_built digest s t (act flow) built = turned_built (turn_at digest s (act flow)) t built
+over_built digest s t (winds ending m ms) built = turned_built (turn_at digest s (winds ending m ms)) t built
 
-given_up_built : (s : Client) (stage : Stage) → IsBuilt s.left stage → IsBuiltFor s → IsBuiltFor (given_up_in s stage)
+given_up_built : (s : ClientState) (stage : Stage) → IsBuilt s.left stage → IsBuiltFor s → IsBuiltFor (given_up_in s stage)
 given_up_built s (act flow) built now = wound_built (answers answer.NoMemory None) (clean_up s.who flow) s built
 given_up_built s (winds ending m ms) built now = now
 given_up_built s compose built now = tt
 given_up_built s (round keys) built now = tt
 
-built_kept : IsKept IsBuiltFor
-built_kept = record {
-  composing = λ s now. composed_built s s.stage now;
+built_kept : (digest : List ℕ → Id) → IsKept digest IsBuiltFor
+built_kept digest = record {
+  composing = λ s now. composed_built digest s s.stage now;
   giving_up = λ s now. given_up_built s s.stage now now;
 }
 
@@ -85,17 +85,17 @@ starting_built world client (Some line) = tt
 pub built : (world : World) (client : ℕ) (h : List Event) → IsBuiltFor (client_after world client h)
 built world client [] = starting_built world client (slice_get world.setup.clients client)
 built world client (event.Ask number ask ∷ h) =
-    let s : Client = client_after world client h in
-    if_both IsBuiltFor (eqb ask.from.client client) (asked (suc (length h)) ask s) s
-    (kept_begun IsBuiltFor built_kept ask s.sent s (built world client h))
+    let s : ClientState = client_after world client h in
+    if_both IsBuiltFor (eqb ask.from.client client) (asked world.digest (suc (length h)) ask s) s
+    (kept_begun world.digest IsBuiltFor (built_kept world.digest) ask s.sent s (built world client h))
     (built world client h)
 built world client (event.Serve number ask_place given ∷ h) =
-    let s : Client = client_after world client h in
+    let s : ClientState = client_after world client h in
     let told : Told = told_reply (suc (length h)) (heard given) in
-    by_answer IsBuiltFor ask_place told s
+    by_answer world.digest IsBuiltFor ask_place told s
     (λ apart. built world client h)
     (λ here going. built world client h)
-    (λ here over. over_built (recorded ask_place told s) (recorded ask_place told s) s.stage (built world client h))
+    (λ here over. over_built world.digest (recorded ask_place told s) (recorded ask_place told s) s.stage (built world client h))
 
 -- ---- lists of results
 
@@ -142,11 +142,11 @@ none_joined xs ys none none_more = list_any-append gave_up xs ys ∙ neither _ _
 
 -- ---- a client that is gone has given up a call
 
-none_wound : (more : List Message) (s : Client) → are_none more ≡ true → wound (answers answer.NoMemory None) more s ≡ ended answer.NoMemory None s
+none_wound : (more : List Message) (s : ClientState) → are_none more ≡ true → wound (answers answer.NoMemory None) more s ≡ ended answer.NoMemory None s
 none_wound [] s none = refl
 none_wound (m ∷ ms) s none = absurd (cc)
 
-free_ends : (s : Client) (stage : Stage) → is_free s.who stage ≡ true → given_up_in s stage ≡ ended answer.NoMemory None s
+free_ends : (s : ClientState) (stage : Stage) → is_free s.who stage ≡ true → given_up_in s stage ≡ ended answer.NoMemory None s
 free_ends s (act flow) free = none_wound (clean_up s.who flow) s free
 free_ends s (winds ending m ms) free = absurd (cc)
 free_ends s compose free = refl
@@ -157,28 +157,28 @@ both true b e = (refl, e)
 both false b e = absurd (cc)
 
 -- where nothing has to be cleaned up, giving up ends the call
-pub may_end : (s : Client) → may_give_up s ≡ true → given_up s ≡ ended answer.NoMemory None s
+pub may_end : (s : ClientState) → may_give_up s ≡ true → given_up s ≡ ended answer.NoMemory None s
 may_end s may = free_ends s s.stage (both (is_some (next_course s.left)) _ may).1
 
-gave_up_lasts : Lasts (λ s. HasGivenUp s.results)
-gave_up_lasts = record {
+gave_up_lasts : (digest : List ℕ → Id) → Lasts digest (λ s. HasGivenUp s.results)
+gave_up_lasts digest = record {
   composing = λ s gave. gave;
   ending = λ given place s gave. gave_up_before s.results _ gave;
   again = λ s gave. gave;
   going_on = λ next s gave. gave;
 }
 
-all_gave_up : (calls : List Call) (s : Client) → HasGivenUp s.results → HasGivenUp (all_given_up calls s).results
-all_gave_up calls s gave = kept_all_given_up (λ t. HasGivenUp t.results) (lasts_kept (λ t. HasGivenUp t.results) gave_up_lasts) calls s gave
+all_gave_up : (digest : List ℕ → Id) (calls : List Call) (s : ClientState) → HasGivenUp s.results → HasGivenUp (all_given_up calls s).results
+all_gave_up digest calls s gave = kept_all_given_up digest (λ t. HasGivenUp t.results) (lasts_kept digest (λ t. HasGivenUp t.results) (gave_up_lasts digest)) calls s gave
 
-gave_up_left : (s : Client) (left : List Call) → s.left ≡ left → may_give_up s ≡ true → HasGivenUp (all_given_up left s).results
-gave_up_left s [] is may =
+gave_up_left : (digest : List ℕ → Id) (s : ClientState) (left : List Call) → s.left ≡ left → may_give_up s ≡ true → HasGivenUp (all_given_up left s).results
+gave_up_left digest s [] is may =
     let none : is_some (next_course s.left) ≡ false = ap (λ calls. is_some (next_course calls)) is in
     absurd (let some = (both (is_some (next_course s.left)) _ may).0 in cc)
-gave_up_left s (call ∷ calls) is may =
+gave_up_left digest s (call ∷ calls) is may =
     let gave : HasGivenUp (given_up s).results =
-    subst (λ (t : Client). HasGivenUp t.results) (sym (may_end s may)) (gave_up_behind s.results _ refl) in
-    subst (λ b. HasGivenUp (cond b (all_given_up calls (given_up s)) s).results) (sym may) (all_gave_up calls (given_up s) gave)
+    subst (λ (t : ClientState). HasGivenUp t.results) (sym (may_end s may)) (gave_up_behind s.results _ refl) in
+    subst (λ b. HasGivenUp (cond b (all_given_up calls (given_up s)) s).results) (sym may) (all_gave_up digest calls (given_up s) gave)
 
-pub gone_gave_up : (s : Client) → IsLeft s → HasGivenUp (results_of (all_given_up s.left s))
-gone_gave_up s left = gave_up_before (all_given_up s.left s).results _ (gave_up_left s s.left refl left.free)
+pub gone_gave_up : (digest : List ℕ → Id) (s : ClientState) → IsLeft digest s → HasGivenUp (results_of (all_given_up s.left s))
+gone_gave_up digest s left = gave_up_before (all_given_up s.left s).results _ (gave_up_left digest s s.left refl left.free)

@@ -1,5 +1,6 @@
 -- A client that shows no want of memory: what it did before shows none either, and what comes next shows none.
 use Rattle.std.proofs.Common.{◌≡◌, ℕ, zero, suc, ◌<◌, ◌==◌, Bool, true, false, if◌then◌else◌, eqb, List, [], ◌∷◌, length, map, slice_get, Option, Some, None, is_some, refl, sym, ap, subst, ◌∙◌, inl, inr, ◌⊎◌, arith}
+use Rattle.inf_base.specs.declared.id.Id.{Id}
 use Rattle.std.specs.List.{list_any}
 use Rattle.std.proofs.lemmas.Bool.Decides.{Decides-eqb}
 use Rattle.std.proofs.lemmas.List.Folds.{list_any-append}
@@ -15,7 +16,7 @@ use Rattle.inf_duty.specs.Duty.{asked, asks, at_call, begun, found_at, given_up,
 use Rattle.inf_duty.specs.Outcome.{results_of, so_far, unanswered}
 use Rattle.inf_duty.specs.Start.{starting}
 use Rattle.inf_duty.specs.World.{World}
-use Rattle.inf_flow_dir.specs.Client.{Client, Ending, Sent, Stage, act, answers, compose, ended, result_of, retries, round, told_at, winds, wound}
+use Rattle.inf_flow_dir.specs.Client.{ClientState, Ending, Sent, Stage, act, answers, compose, ended, result_of, retries, round, told_at, winds, wound}
 use Rattle.inf_flow_dir.specs.Flow.{Flow, Who, clean_up, finishes, links, makes, message_of, reserves, seals, unlinks}
 use Rattle.inf_flow_dir.specs.Group.{Course, composed, composed_stage, course_of, group, keys_of, lookup_of, next_course}
 use Rattle.inf_flow_dir.specs.Heard.{heard}
@@ -40,13 +41,13 @@ abbrev pub IsNoWant : Answer → Type 0
 IsNoWant given = is_no_memory given ≡ false
 
 -- no call has ended for want of memory, nor winds up for it
-pub record ShowsNoWant (s : Client) : Type 0 where
+pub record ShowsNoWant (s : ClientState) : Type 0 where
   pub results : HasNotGivenUp s.results
   pub stage : StageHas IsNoWant s.stage
 
 -- ---- by the results
 
-no_want_stage : (s : Client) (stage : Stage) → is_no_memory (so_far stage s).answer ≡ false → StageHas IsNoWant stage
+no_want_stage : (s : ClientState) (stage : Stage) → is_no_memory (so_far stage s).answer ≡ false → StageHas IsNoWant stage
 no_want_stage s (winds (answers given place) m ms) none = none
 no_want_stage s (winds retries m ms) none = tt
 no_want_stage s compose none = tt
@@ -59,157 +60,157 @@ no_call_left (round keys) built = tt
 no_call_left (act flow) built = tt
 no_call_left (winds ending m ms) built = absurd (cc)
 
-none_left : (s : Client) (left : List Call) → IsBuilt left s.stage → HasNotGivenUp (unanswered left s) → StageHas IsNoWant s.stage
+none_left : (s : ClientState) (left : List Call) → IsBuilt left s.stage → HasNotGivenUp (unanswered left s) → StageHas IsNoWant s.stage
 none_left s [] built none = no_call_left s.stage built
 none_left s (call ∷ calls) built none = no_want_stage s s.stage (false_before (is_no_memory (so_far s.stage s).answer) _ none)
 
-pub from_results : (s : Client) → IsBuiltFor s → HasNotGivenUp (results_of s) → ShowsNoWant s
+pub from_results : (s : ClientState) → IsBuiltFor s → HasNotGivenUp (results_of s) → ShowsNoWant s
 from_results s built none = record {
   results = none_before s.results (unanswered s.left s) none;
   stage = none_left s s.left built (none_behind s.results (unanswered s.left s) none);
 }
 
-so_far_none : (s : Client) (stage : Stage) → StageHas IsNoWant stage → is_no_memory (so_far stage s).answer ≡ false
+so_far_none : (s : ClientState) (stage : Stage) → StageHas IsNoWant stage → is_no_memory (so_far stage s).answer ≡ false
 so_far_none s (winds (answers given place) m ms) none = none
 so_far_none s (winds retries m ms) none = refl
 so_far_none s compose none = refl
 so_far_none s (round keys) none = refl
 so_far_none s (act flow) none = refl
 
-unanswered_none : (left : List Call) (s : Client) → StageHas IsNoWant s.stage → HasNotGivenUp (unanswered left s)
+unanswered_none : (left : List Call) (s : ClientState) → StageHas IsNoWant s.stage → HasNotGivenUp (unanswered left s)
 unanswered_none [] s none = refl
 unanswered_none (call ∷ left) s none =
     neither (is_no_memory (so_far s.stage s).answer) _ (so_far_none s s.stage none) (unanswered_none left (ended answer.Unanswered None s) tt)
 
-pub to_results : (s : Client) → ShowsNoWant s → HasNotGivenUp (results_of s)
+pub to_results : (s : ClientState) → ShowsNoWant s → HasNotGivenUp (results_of s)
 to_results s none = none_joined s.results (unanswered s.left s) none.results (unanswered_none s.left s none.stage)
 
 -- ---- before a step
 
-last_none : (s : Client) (given : Answer) (place : Option ℕ) → HasNotGivenUp (ended given place s).results → IsNoWant given
+last_none : (s : ClientState) (given : Answer) (place : Option ℕ) → HasNotGivenUp (ended given place s).results → IsNoWant given
 last_none s given place none =
     false_before (is_no_memory given) false (none_behind s.results (result_of given place s.counts.last s ∷ []) none)
 
 -- a client that winds up so showed no want of memory
-record Wound (ending : Ending) (s : Client) : Type 0 where
+record Wound (ending : Ending) (s : ClientState) : Type 0 where
   results : HasNotGivenUp s.results
   has : EndingHas IsNoWant ending
 
-before_wound : (ending : Ending) (more : List Message) (s : Client) → ShowsNoWant (wound ending more s) → Wound ending s
+before_wound : (ending : Ending) (more : List Message) (s : ClientState) → ShowsNoWant (wound ending more s) → Wound ending s
 before_wound (answers given place) [] s none = record { results = none_before s.results _ none.results; has = last_none s given place none.results }
 before_wound retries [] s none = record { results = none.results; has = tt }
 before_wound ending (m ∷ ms) s none = record { results = none.results; has = none.stage }
 
-before_turn : (turn : Turn) (s : Client) → ShowsNoWant (turned turn s) → HasNotGivenUp s.results
+before_turn : (turn : Turn) (s : ClientState) → ShowsNoWant (turned turn s) → HasNotGivenUp s.results
 before_turn (goes_on next) s none = none.results
 before_turn (winds_up ending more) s none = (before_wound ending more s none).results
 
-before_over : (s t : Client) (stage : Stage) → ShowsNoWant (turned (turn_at s stage) t) → HasNotGivenUp t.results × StageHas IsNoWant stage
-before_over s t compose none = (before_turn (turn_at s compose) t none, tt)
-before_over s t (round keys) none = (before_turn (turn_at s (round keys)) t none, tt)
-before_over s t (act flow) none = (before_turn (turn_at s (act flow)) t none, tt)
-before_over s t (winds ending m ms) none =
+before_over : (digest : List ℕ → Id) (s t : ClientState) (stage : Stage) → ShowsNoWant (turned (turn_at digest s stage) t) → HasNotGivenUp t.results × StageHas IsNoWant stage
+before_over digest s t compose none = (before_turn (turn_at digest s compose) t none, tt)
+before_over digest s t (round keys) none = (before_turn (turn_at digest s (round keys)) t none, tt)
+before_over digest s t (act flow) none = (before_turn (turn_at digest s (act flow)) t none, tt)
+before_over digest s t (winds ending m ms) none =
     let before = before_wound ending ms t none in
     (before.results, before.has)
 
-pub before_served : (place : ℕ) (told : Told) (s : Client) → ShowsNoWant (served place told s) → ShowsNoWant s
-before_served place told s =
-    by_answer (λ t. ShowsNoWant t → ShowsNoWant s) place told s
+pub before_served : (digest : List ℕ → Id) (place : ℕ) (told : Told) (s : ClientState) → ShowsNoWant (served digest place told s) → ShowsNoWant s
+before_served digest place told s =
+    by_answer digest (λ t. ShowsNoWant t → ShowsNoWant s) place told s
     (λ apart none. none)
     (λ here going none. record { results = none.results; stage = none.stage })
     (λ here over none.
-    let before = before_over (recorded place told s) (recorded place told s) s.stage none in
+    let before = before_over digest (recorded place told s) (recorded place told s) s.stage none in
     record { results = before.0; stage = before.1 })
 
-before_giving_up : (s : Client) (stage : Stage) → ShowsNoWant (given_up_in s stage) → given_up_in s stage ≡ s
+before_giving_up : (s : ClientState) (stage : Stage) → ShowsNoWant (given_up_in s stage) → given_up_in s stage ≡ s
 before_giving_up s (act flow) none =
     absurd (let want = (before_wound (answers answer.NoMemory None) (clean_up s.who flow) s none).has in cc)
 before_giving_up s (winds ending m ms) none = refl
 before_giving_up s compose none = absurd (let want = last_none s answer.NoMemory None none.results in cc)
 before_giving_up s (round keys) none = absurd (let want = last_none s answer.NoMemory None none.results in cc)
 
-before_composed_stage : (s : Client) (stage : Stage) → StageHas IsNoWant (composed_stage s stage) → StageHas IsNoWant stage
-before_composed_stage s compose none = tt
-before_composed_stage s (round keys) none = none
-before_composed_stage s (act flow) none = none
-before_composed_stage s (winds ending m ms) none = none
+before_composed_stage : (digest : List ℕ → Id) (s : ClientState) (stage : Stage) → StageHas IsNoWant (composed_stage digest s stage) → StageHas IsNoWant stage
+before_composed_stage digest s compose none = tt
+before_composed_stage digest s (round keys) none = none
+before_composed_stage digest s (act flow) none = none
+before_composed_stage digest s (winds ending m ms) none = none
 
-before_composed : (s : Client) → ShowsNoWant (composed s) → ShowsNoWant s
-before_composed s none = record { results = none.results; stage = before_composed_stage s s.stage none.stage }
+before_composed : (digest : List ℕ → Id) (s : ClientState) → ShowsNoWant (composed digest s) → ShowsNoWant s
+before_composed digest s none = record { results = none.results; stage = before_composed_stage digest s s.stage none.stage }
 
 -- it gave nothing up
-abbrev KeptOn : Client → Client → Type 0
-KeptOn s t = (t ≡ s) ⊎ (t ≡ composed s)
+abbrev KeptOn : (List ℕ → Id) → ClientState → ClientState → Type 0
+KeptOn digest s t = (t ≡ s) ⊎ (t ≡ composed digest s)
 
-before_kept : (s t : Client) → KeptOn s t → ShowsNoWant t → ShowsNoWant s
-before_kept s t (inl same) none = subst ShowsNoWant same none
-before_kept s t (inr same) none = before_composed s (subst ShowsNoWant same none)
+before_kept : (digest : List ℕ → Id) (s t : ClientState) → KeptOn digest s t → ShowsNoWant t → ShowsNoWant s
+before_kept digest s t (inl same) none = subst ShowsNoWant same none
+before_kept digest s t (inr same) none = before_composed digest s (subst ShowsNoWant same none)
 
-found_kept : (s : Client) (b c : Bool) → ShowsNoWant (if b then (if c then given_up s else s) else composed s)
-    → KeptOn s (if b then (if c then given_up s else s) else composed s)
-found_kept s true true none = inl (before_giving_up s s.stage none)
-found_kept s true false none = inl refl
-found_kept s false c none = inr refl
+found_kept : (digest : List ℕ → Id) (s : ClientState) (b c : Bool) → ShowsNoWant (if b then (if c then given_up s else s) else composed digest s)
+    → KeptOn digest s (if b then (if c then given_up s else s) else composed digest s)
+found_kept digest s true true none = inl (before_giving_up s s.stage none)
+found_kept digest s true false none = inl refl
+found_kept digest s false c none = inr refl
 
-at_call_kept : (number : ℕ) (asked : Request) (calls : List Call) (s : Client) → ShowsNoWant (at_call number asked calls s)
-    → KeptOn s (at_call number asked calls s)
-at_call_kept number asked [] s none = inl refl
-at_call_kept number asked (call ∷ calls) s none =
-    by (at_call_kept number asked calls (given_up s)) (eqb number s.number) (is_some (course_of call)) none
+at_call_kept : (digest : List ℕ → Id) (number : ℕ) (asked : Request) (calls : List Call) (s : ClientState) → ShowsNoWant (at_call digest number asked calls s)
+    → KeptOn digest s (at_call digest number asked calls s)
+at_call_kept digest number asked [] s none = inl refl
+at_call_kept digest number asked (call ∷ calls) s none =
+    by (at_call_kept digest number asked calls (given_up s)) (eqb number s.number) (is_some (course_of call)) none
   where
-    later : Client
-    later = at_call number asked calls (given_up s)
+    later : ClientState
+    later = at_call digest number asked calls (given_up s)
 
-    by : (ShowsNoWant later → KeptOn (given_up s) later) → (b c : Bool) → ShowsNoWant (if b then found_at asked s else (if c then later else s))
-        → KeptOn s (if b then found_at asked s else (if c then later else s))
-    by rest true c none = found_kept s (lifts asked) (is_acting s.stage) none
+    by : (ShowsNoWant later → KeptOn digest (given_up s) later) → (b c : Bool) → ShowsNoWant (if b then found_at digest asked s else (if c then later else s))
+        → KeptOn digest s (if b then found_at digest asked s else (if c then later else s))
+    by rest true c none = found_kept digest s (lifts asked) (is_acting s.stage) none
     by rest false true none =
-        let kept : KeptOn (given_up s) later = rest none in
-        subst (λ t. KeptOn t later) (before_giving_up s s.stage (before_kept (given_up s) later kept none)) kept
+        let kept : KeptOn digest (given_up s) later = rest none in
+        subst (λ t. KeptOn digest t later) (before_giving_up s s.stage (before_kept digest (given_up s) later kept none)) kept
     by rest false false none = inl refl
 
-begun_kept : (ask : Ask) (sent : List Sent) (s : Client) → ShowsNoWant (begun ask sent s) → KeptOn s (begun ask sent s)
-begun_kept ask [] s none = at_call_kept ask.from.number ask.request s.left s none
-begun_kept ask (x ∷ sent) s none = inl refl
+begun_kept : (digest : List ℕ → Id) (ask : Ask) (sent : List Sent) (s : ClientState) → ShowsNoWant (begun digest ask sent s) → KeptOn digest s (begun digest ask sent s)
+begun_kept digest ask [] s none = at_call_kept digest ask.from.number ask.request s.left s none
+begun_kept digest ask (x ∷ sent) s none = inl refl
 
-pub before_asked : (place : ℕ) (ask : Ask) (s : Client) → ShowsNoWant (asked place ask s) → ShowsNoWant s
-before_asked place ask s none =
-    let now : ShowsNoWant (begun ask s.sent s) = record { results = none.results; stage = none.stage } in
-    before_kept s (begun ask s.sent s) (begun_kept ask s.sent s now) now
+pub before_asked : (digest : List ℕ → Id) (place : ℕ) (ask : Ask) (s : ClientState) → ShowsNoWant (asked digest place ask s) → ShowsNoWant s
+before_asked digest place ask s none =
+    let now : ShowsNoWant (begun digest ask s.sent s) = record { results = none.results; stage = none.stage } in
+    before_kept digest s (begun digest ask s.sent s) (begun_kept digest ask s.sent s now) now
 
 -- a client with an ask to make has settled it
-composed_same : (s : Client) (stage : Stage) (m : Message) → slice_get (group s.who stage) (length s.sent) ≡ Some m → composed_stage s stage ≡ stage
-composed_same s compose m found = absurd (cc)
-composed_same s (round keys) m found = refl
-composed_same s (act flow) m found = refl
-composed_same s (winds ending m ms) at found = refl
+composed_same : (digest : List ℕ → Id) (s : ClientState) (stage : Stage) (m : Message) → slice_get (group s.who stage) (length s.sent) ≡ Some m → composed_stage digest s stage ≡ stage
+composed_same digest s compose m found = absurd (cc)
+composed_same digest s (round keys) m found = refl
+composed_same digest s (act flow) m found = refl
+composed_same digest s (winds ending m ms) at found = refl
 
-settled : (s : Client) (number : ℕ) (ask : Ask) → next_step s ≡ asks number ask → composed s ≡ s
-settled s number ask next = ap (λ (stage : Stage). record s { stage = stage }) (composed_same s s.stage _ (goes s number ask next).message)
+settled : (digest : List ℕ → Id) (s : ClientState) (number : ℕ) (ask : Ask) → next_step s ≡ asks number ask → composed digest s ≡ s
+settled digest s number ask next = ap (λ (stage : Stage). record s { stage = stage }) (composed_same digest s s.stage _ (goes s number ask next).message)
 
-next_kept : (s t : Client) (number : ℕ) (ask : Ask) → KeptOn s t → next_step t ≡ asks number ask → next_step (composed s) ≡ asks number ask
-next_kept s t number ask (inl same) next =
+next_kept : (digest : List ℕ → Id) (s t : ClientState) (number : ℕ) (ask : Ask) → KeptOn digest s t → next_step t ≡ asks number ask → next_step (composed digest s) ≡ asks number ask
+next_kept digest s t number ask (inl same) next =
     let here : next_step s ≡ asks number ask = ap next_step (sym same) ∙ next in
-    ap next_step (settled s number ask here) ∙ here
-next_kept s t number ask (inr same) next = ap next_step (sym same) ∙ next
+    ap next_step (settled digest s number ask here) ∙ here
+next_kept digest s t number ask (inr same) next = ap next_step (sym same) ∙ next
 
 -- so an ask that shows no want of memory is the next one
-pub is_planned : (s : Client) (number : ℕ) (ask : Ask) (sent : List Sent) → next_step (begun ask sent s) ≡ asks number ask → ShowsNoWant (begun ask sent s)
-    → next_step (planned_from sent s) ≡ asks number ask
-is_planned s number ask [] next none = next_kept s (begun ask [] s) number ask (begun_kept ask [] s none) next
-is_planned s number ask (x ∷ sent) next none = next
+pub is_planned : (digest : List ℕ → Id) (s : ClientState) (number : ℕ) (ask : Ask) (sent : List Sent) → next_step (begun digest ask sent s) ≡ asks number ask → ShowsNoWant (begun digest ask sent s)
+    → next_step (planned_from digest sent s) ≡ asks number ask
+is_planned digest s number ask [] next none = next_kept digest s (begun digest ask [] s) number ask (begun_kept digest ask [] s none) next
+is_planned digest s number ask (x ∷ sent) next none = next
 
 -- ---- behind a step
 
-pub after_planned : (sent : List Sent) (s : Client) → ShowsNoWant s → ShowsNoWant (planned_from sent s)
-after_planned [] s none = record { results = none.results; stage = composed_has IsNoWant s s.stage none.stage }
-after_planned (x ∷ sent) s none = none
+pub after_planned : (digest : List ℕ → Id) (sent : List Sent) (s : ClientState) → ShowsNoWant s → ShowsNoWant (planned_from digest sent s)
+after_planned digest [] s none = record { results = none.results; stage = composed_has digest IsNoWant s s.stage none.stage }
+after_planned digest (x ∷ sent) s none = none
 
 no_lift : (who : Who) (flow : Flow) → lifts (message_of who flow).request ≡ false
 no_lift who (finishes chain op) = refl
 no_lift who (reserves chain name mode) = refl
-no_lift who (makes chain name mode version) = refl
-no_lift who (links chain name mode version born) = refl
+no_lift who (makes chain name mode version id) = refl
+no_lift who (links chain name mode version dir) = refl
 no_lift who (seals chain) = refl
 no_lift who (unlinks chain) = refl
 
@@ -220,48 +221,48 @@ no_lookup_lifts who (k ∷ keys) zero m found =
     ap (λ (n : Message). lifts n.request) (sym same)
 no_lookup_lifts who (k ∷ keys) (suc index) m found = no_lookup_lifts who keys index m found
 
-no_key_lifts : (who : Who) (course : Option Course) (m : Message) → slice_get (group who (keys_of who course)) 0 ≡ Some m → lifts m.request ≡ false
-no_key_lifts who None m found = absurd (cc)
-no_key_lifts who (Some course) m found =
+no_key_lifts : (digest : List ℕ → Id) (who : Who) (course : Option Course) (m : Message) → slice_get (group who (keys_of digest who course)) 0 ≡ Some m → lifts m.request ≡ false
+no_key_lifts digest who None m found = absurd (cc)
+no_key_lifts digest who (Some course) m found =
     let same : lookup_of who look.Top ≡ m = cc in
     ap (λ (n : Message). lifts n.request) (sym same)
 
-found_composed : (asked : Request) (s : Client) → lifts asked ≡ false → found_at asked s ≡ composed s
-found_composed asked s no_lift = ap (λ b. if b then (if is_acting s.stage then given_up s else s) else composed s) no_lift
+found_composed : (digest : List ℕ → Id) (asked : Request) (s : ClientState) → lifts asked ≡ false → found_at digest asked s ≡ composed digest s
+found_composed digest asked s no_lift = ap (λ b. if b then (if is_acting s.stage then given_up s else s) else composed digest s) no_lift
 
 -- an ask that lifts something is of a client that winds up
-finds_composed : (s : Client) (stage : Stage) (m : Message) → s.stage ≡ stage → slice_get (group s.who (composed_stage s stage)) 0 ≡ Some m
-    → found_at m.request s ≡ composed s
-finds_composed s compose m is found = found_composed m.request s (no_key_lifts s.who (next_course s.left) m found)
-finds_composed s (round keys) m is found = found_composed m.request s (no_lookup_lifts s.who keys 0 m found)
-finds_composed s (act flow) m is found =
+finds_composed : (digest : List ℕ → Id) (s : ClientState) (stage : Stage) (m : Message) → s.stage ≡ stage → slice_get (group s.who (composed_stage digest s stage)) 0 ≡ Some m
+    → found_at digest m.request s ≡ composed digest s
+finds_composed digest s compose m is found = found_composed digest m.request s (no_key_lifts digest s.who (next_course s.left) m found)
+finds_composed digest s (round keys) m is found = found_composed digest m.request s (no_lookup_lifts s.who keys 0 m found)
+finds_composed digest s (act flow) m is found =
     let same : message_of s.who flow ≡ m = cc in
-    found_composed m.request s (subst (λ (n : Message). lifts n.request ≡ false) same (no_lift s.who flow))
-finds_composed s (winds ending m ms) n is found =
-    let same : s ≡ composed s = sym (ap (λ (stage : Stage). record s { stage = stage }) (ap (composed_stage s) is ∙ sym is)) in
-    if_both (λ (t : Client). t ≡ composed s) (lifts n.request) (if is_acting s.stage then given_up s else s) (composed s)
+    found_composed digest m.request s (subst (λ (n : Message). lifts n.request ≡ false) same (no_lift s.who flow))
+finds_composed digest s (winds ending m ms) n is found =
+    let same : s ≡ composed digest s = sym (ap (λ (stage : Stage). record s { stage = stage }) (ap (composed_stage digest s) is ∙ sym is)) in
+    if_both (λ (t : ClientState). t ≡ composed digest s) (lifts n.request) (if is_acting s.stage then given_up s else s) (composed digest s)
     (ap (λ b. if b then given_up s else s) (ap is_acting is) ∙ same) refl
 
 abbrev message_to : ℕ → Request → Message
-message_to number asked = record { number = number; request = asked }
+message_to number what = record { number = number; request = what }
 
 -- the next ask finds the client as it planned it
-pub begun_planned : (s : Client) (number : ℕ) (ask : Ask) (sent : List Sent) → s.sent ≡ sent → next_step (planned_from sent s) ≡ asks number ask
-    → begun ask sent s ≡ planned_from sent s
-begun_planned s number ask (x ∷ sent) is next = refl
-begun_planned s number ask [] is next =
-    let to = goes (composed s) number ask next in
+pub begun_planned : (digest : List ℕ → Id) (s : ClientState) (number : ℕ) (ask : Ask) (sent : List Sent) → s.sent ≡ sent → next_step (planned_from digest sent s) ≡ asks number ask
+    → begun digest ask sent s ≡ planned_from digest sent s
+begun_planned digest s number ask (x ∷ sent) is next = refl
+begun_planned digest s number ask [] is next =
+    let to = goes (composed digest s) number ask next in
     let own : eqb ask.from.number s.number ≡ true = (Decides-eqb ask.from.number s.number).1 (ap (λ (call : CallRef). call.number) to.from) in
-    let first : slice_get (group s.who (composed_stage s s.stage)) 0 ≡ Some (message_to number ask.request) =
-    subst (λ (xs : List Sent). slice_get (group s.who (composed_stage s s.stage)) (length xs) ≡ Some (message_to number ask.request)) is to.message in
-    let found = finds_composed s s.stage (message_to number ask.request) refl first in
+    let first : slice_get (group s.who (composed_stage digest s s.stage)) 0 ≡ Some (message_to number ask.request) =
+    subst (λ (xs : List Sent). slice_get (group s.who (composed_stage digest s s.stage)) (length xs) ≡ Some (message_to number ask.request)) is to.message in
+    let found = finds_composed digest s s.stage (message_to number ask.request) refl first in
     at_hand s.left to.under_way own found
   where
-    at_hand : (left : List Call) → 0 < length left → eqb ask.from.number s.number ≡ true → found_at ask.request s ≡ composed s
-        → at_call ask.from.number ask.request left s ≡ composed s
+    at_hand : (left : List Call) → 0 < length left → eqb ask.from.number s.number ≡ true → found_at digest ask.request s ≡ composed digest s
+        → at_call digest ask.from.number ask.request left s ≡ composed digest s
     at_hand [] none own found = absurd (omega arith)
     at_hand (call ∷ calls) some own found =
-        ap (λ b. if b then found_at ask.request s else (if is_some (course_of call) then at_call ask.from.number ask.request calls (given_up s) else s)) own
+        ap (λ b. if b then found_at digest ask.request s else (if is_some (course_of call) then at_call digest ask.from.number ask.request calls (given_up s) else s)) own
         ∙ found
 
 no_want : IsOfReplies IsNoWant
@@ -273,7 +274,7 @@ no_want = record {
   clash = λ own kept. refl;
 }
 
-after_wound : (ending : Ending) (more : List Message) (s : Client) → EndingHas IsNoWant ending → HasNotGivenUp s.results → ShowsNoWant (wound ending more s)
+after_wound : (ending : Ending) (more : List Message) (s : ClientState) → EndingHas IsNoWant ending → HasNotGivenUp s.results → ShowsNoWant (wound ending more s)
 after_wound (answers given place) [] s none before = record {
   results = none_joined s.results (result_of given place s.counts.last s ∷ []) before (neither (is_no_memory given) false none refl);
   stage = tt;
@@ -281,18 +282,18 @@ after_wound (answers given place) [] s none before = record {
 after_wound retries [] s none before = record { results = before; stage = tt }
 after_wound ending (m ∷ ms) s none before = record { results = before; stage = none }
 
-after_turn : (turn : Turn) (s : Client) → TurnHas IsNoWant turn → HasNotGivenUp s.results → ShowsNoWant (turned turn s)
+after_turn : (turn : Turn) (s : ClientState) → TurnHas IsNoWant turn → HasNotGivenUp s.results → ShowsNoWant (turned turn s)
 after_turn (goes_on next) s none before = record { results = before; stage = none }
 after_turn (winds_up ending more) s none before = after_wound ending more s none before
 
-pub after_served : (place : ℕ) (told : Told) (s : Client) → wants (map (told_at place told) s.sent) ≡ false → ShowsNoWant s → ShowsNoWant (served place told s)
-after_served place told s plain none =
-    by_answer ShowsNoWant place told s
+pub after_served : (digest : List ℕ → Id) (place : ℕ) (told : Told) (s : ClientState) → wants (map (told_at place told) s.sent) ≡ false → ShowsNoWant s → ShowsNoWant (served digest place told s)
+after_served digest place told s plain none =
+    by_answer digest ShowsNoWant place told s
     (λ apart. none)
     (λ here going. record { results = none.results; stage = none.stage })
     (λ here over.
-    after_turn (turn_at (recorded place told s) s.stage) (recorded place told s)
-    (turn_has IsNoWant no_want (recorded place told s) s.stage none.stage (λ want. absurd (cc))) none.results)
+    after_turn (turn_at digest (recorded place told s) s.stage) (recorded place told s)
+    (turn_has digest IsNoWant no_want (recorded place told s) s.stage none.stage (λ want. absurd (cc))) none.results)
 
 -- ---- what clients were told
 
@@ -312,8 +313,8 @@ plain_recorded place told (x ∷ sent) now before =
     (first_told x.told told (false_before _ _ before) now) (false_before _ _ before))
     (plain_recorded place told sent now (false_behind (wants_memory x.told) _ before))
 
-wants_last : Lasts (λ s. wants s.sent ≡ false)
-wants_last = record {
+wants_last : (digest : List ℕ → Id) → Lasts digest (λ s. wants s.sent ≡ false)
+wants_last digest = record {
   composing = λ s plain. plain;
   ending = λ given place s plain. refl;
   again = λ s plain. refl;
@@ -328,19 +329,19 @@ starting_plain world client (Some line) = refl
 pub plain_after : (world : World) (client : ℕ) (h : List Event) → list_any wanted h ≡ false → wants (client_after world client h).sent ≡ false
 plain_after world client [] plain = starting_plain world client (slice_get world.setup.clients client)
 plain_after world client (event.Ask number ask ∷ h) plain =
-    let s : Client = client_after world client h in
+    let s : ClientState = client_after world client h in
     let before : wants s.sent ≡ false = plain_after world client h plain in
-    if_both (λ (t : Client). wants t.sent ≡ false) (eqb ask.from.client client) (asked (suc (length h)) ask s) s
-    (list_any-append (λ (x : Sent). wants_memory x.told) (begun ask s.sent s).sent _
-    ∙ neither (wants (begun ask s.sent s).sent) false (begun_lasts (λ t. wants t.sent ≡ false) wants_last ask s.sent s before) refl)
+    if_both (λ (t : ClientState). wants t.sent ≡ false) (eqb ask.from.client client) (asked world.digest (suc (length h)) ask s) s
+    (list_any-append (λ (x : Sent). wants_memory x.told) (begun world.digest ask s.sent s).sent _
+    ∙ neither (wants (begun world.digest ask s.sent s).sent) false (begun_lasts world.digest (λ t. wants t.sent ≡ false) (wants_last world.digest) ask s.sent s before) refl)
     before
 plain_after world client (event.Serve number ask_place given ∷ h) plain =
-    let s : Client = client_after world client h in
+    let s : ClientState = client_after world client h in
     let told : Told = told_reply (suc (length h)) (heard given) in
     let now : wants (map (told_at ask_place told) s.sent) ≡ false =
     plain_recorded ask_place told s.sent (plain_told (suc (length h)) given (false_before _ _ plain))
     (plain_after world client h (false_behind (is_no_mem given) _ plain)) in
-    by_answer (λ t. wants t.sent ≡ false) ask_place told s
+    by_answer world.digest (λ t. wants t.sent ≡ false) ask_place told s
     (λ apart. plain_after world client h (false_behind (is_no_mem given) _ plain))
     (λ here going. now)
-    (λ here over. turned_lasts (λ t. wants t.sent ≡ false) wants_last (turn_at (recorded ask_place told s) s.stage) (recorded ask_place told s) now)
+    (λ here over. turned_lasts world.digest (λ t. wants t.sent ≡ false) (wants_last world.digest) (turn_at world.digest (recorded ask_place told s) s.stage) (recorded ask_place told s) now)

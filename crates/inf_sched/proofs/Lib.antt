@@ -16,6 +16,5 @@ pub mod QueueFacts
 pub mod ScheduleFacts
 pub mod OpeningFacts
 pub mod RunFacts
-pub mod RunBy
 pub mod ServeFacts
 pub mod StepFacts

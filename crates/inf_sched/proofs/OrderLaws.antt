@@ -1,8 +1,9 @@
 -- Laws of whatever an order of moves makes.
 use Rattle.std.proofs.Common.{◌≡◌, ℕ, suc, ◌+◌, Bool, true, false, cond, eqb, List, [], ◌∷◌, length, map, ◌&&◌, zero, slice_get, slice_set, refl, sym, ap, subst, ◌∙◌, inl, inr}
+use Rattle.inf_base.specs.declared.id.Id.{Id}
 use Rattle.std.proofs.lemmas.Bool.Decides.{Decides-eqb}
 use Rattle.inf_base.specs.declared.setup.ClientLine.{ClientLine}
-use Rattle.inf_flow_dir.specs.Client.{Client, has_place}
+use Rattle.inf_flow_dir.specs.Client.{ClientState, has_place}
 use Rattle.inf_laws_history.specs.Legal.{Legal}
 use Rattle.inf_duty.specs.After.{client_after}
 use Rattle.inf_duty.specs.Outcome.{Agrees, Outcome, OutcomeFrom, may_give_up}
@@ -36,13 +37,13 @@ is_legal world order h results by =
 
 -- ---- a client that is gone stands between two groups, where it was to ask
 
-pub record IsLeft (s : Client) : Type 0 where
+pub record IsLeft (digest : List ℕ → Id) (s : ClientState) : Type 0 where
   pub between : s.sent ≡ []
-  pub was_to_ask : is_ask (next_step (planned s)) ≡ true
+  pub was_to_ask : is_ask (next_step (planned digest s)) ≡ true
   pub free : may_give_up s ≡ true
 
 abbrev pub GoneAreLeft : World → Scene → Type 0
-GoneAreLeft world scene = (client : ℕ) → is_gone scene client ≡ true → IsLeft (client_in world scene client)
+GoneAreLeft world scene = (client : ℕ) → is_gone scene client ≡ true → IsLeft world.digest (client_in world scene client)
 
 pub starts_present : (lines : List ClientLine) (client : ℕ) → is_set (slice_get (map (λ (line : ClientLine). false) lines) client) ≡ false
 starts_present [] client = refl
@@ -57,24 +58,24 @@ asking_left : (world : World) (client : ℕ) (old new : Scene) → MakesAsk worl
 asking_left world client old new asks left = subst (GoneAreLeft world) (sym asks.joins) (λ each gone.
     let another : eqb asks.ask.from.client each ≡ false =
     other asks.ask.from.client each (λ same. let here : is_gone old each ≡ false = subst (λ c. is_gone old c ≡ false) (sym asks.own ∙ same) asks.here in cc) in
-    subst IsLeft
-    (sym (ap (λ b. cond b (asked (suc (length old.history)) asks.ask (client_after world each old.history)) (client_after world each old.history)) another))
+    subst (IsLeft world.digest)
+    (sym (ap (λ b. cond b (asked world.digest (suc (length old.history)) asks.ask (client_after world each old.history)) (client_after world each old.history)) another))
     (left each gone))
 
 giving_up_left : (world : World) (client : ℕ) (old new : Scene) → GivesUp world client old new → GoneAreLeft world old → GoneAreLeft world new
 giving_up_left world client old new gives left = subst (GoneAreLeft world) (sym gives.gone) (λ each gone. by each gone (eqb each client) refl)
   where
-    by : (each : ℕ) → is_set (slice_get (slice_set old.gone client true) each) ≡ true → (b : Bool) → eqb each client ≡ b → IsLeft (client_in world old each)
+    by : (each : ℕ) → is_set (slice_get (slice_set old.gone client true) each) ≡ true → (b : Bool) → eqb each client ≡ b → IsLeft world.digest (client_in world old each)
     by each gone true same =
-        subst (λ c. IsLeft (client_in world old c)) (sym ((Decides-eqb each client).0 same))
+        subst (λ c. IsLeft world.digest (client_in world old c)) (sym ((Decides-eqb each client).0 same))
         (record { between = gives.between; was_to_ask = (both_true _ _ gives.can).1; free = gives.free })
     by each gone false apart =
         left each (ap is_set (sym (got_apart old.gone client each true (λ same. let is : eqb each client ≡ true = (Decides-eqb each client).1 same in cc))) ∙ gone)
 
 serving_left : (world : World) (number place : ℕ) (old new : Scene) → MakesServe world number place old new → GoneAreLeft world old → GoneAreLeft world new
 serving_left world number place old new serves left = subst (GoneAreLeft world) (sym serves.joins) (λ each gone.
-    subst IsLeft
-    (sym (served_apart place (told_reply (suc (length old.history)) (heard serves.given)) (client_in world old each)
+    subst (IsLeft world.digest)
+    (sym (served_apart world.digest place (told_reply (suc (length old.history)) (heard serves.given)) (client_in world old each)
     (ap (has_place place) (left each gone).between)))
     (left each gone))
 
@@ -87,9 +88,9 @@ gone_left world order scene moves =
 
 -- ---- what it makes is an outcome
 
-agrees : (gone : Bool) (s : Client) → (gone ≡ true → IsLeft s) → Agrees s (came_to gone s)
-agrees true s left = inr ((left refl).between, refl)
-agrees false s left = inl refl
+agrees : (digest : List ℕ → Id) (gone : Bool) (s : ClientState) → (gone ≡ true → IsLeft digest s) → Agrees s (came_to gone s)
+agrees digest true s left = inr ((left refl).between, refl)
+agrees digest false s left = inl refl
 
 outcome_from : (world : World) (scene : Scene) (client : ℕ) (lines : List ClientLine) → GoneAreLeft world scene → OutcomeFrom world scene.history client lines (results_from world scene client lines)
 outcome_from world scene client [] left = refl
@@ -97,7 +98,7 @@ outcome_from world scene client (line ∷ lines) left = record {
   mine = came_to (is_gone scene client) (client_in world scene client);
   others = results_from world scene (client + 1) lines;
   all = refl;
-  agrees = agrees (is_gone scene client) (client_in world scene client) (left client);
+  agrees = agrees world.digest (is_gone scene client) (client_in world scene client) (left client);
   later = outcome_from world scene (client + 1) lines left;
 }
 

@@ -9,7 +9,7 @@ use Rattle.std.proofs.lemmas.List.Elements.{All-head, All-nil, All-push, All-tai
 use Rattle.std.proofs.lemmas.List.Folds.{find-append}
 use Rattle.std.proofs.lemmas.Option.{slice_get-get_or, slice_get-map, slice_get_within}
 use Rattle.inf_base.specs.declared.id.Id.{Id}
-use Rattle.inf_flow_dir.specs.Client.{Client}
+use Rattle.inf_flow_dir.specs.Client.{ClientState}
 use Rattle.inf_core.specs.Core.{world_in}
 use Rattle.inf_core.proofs.Posted.{posted_known}
 use Rattle.inf_duty.specs.Duty.{asked, next_step}
@@ -26,10 +26,10 @@ use Rattle.inf_message.specs.declared.reply.Reply.{Reply}
 use Rattle.inf_message.specs.History.{Own, Posted, asked_at, asks_of, is_served, made_ask, own_ask, posted_ask, served_at, told_reply}
 use Rattle.inf_message.proofs.ClientLaws.{asks_apart, serve_apart}
 use Rattle.inf_message.proofs.HistoryLaws.{asked_newest, asked_stays, asked_within}
-use Rattle.inf_client.specs.Actor.{Actor, wants_to_ask}
+use Rattle.inf_client.specs.Client.{Client, wants_to_ask}
 use Rattle.inf_sched.specs.Moves.{HasNoAsk}
 use Rattle.inf_sched.specs.Scene.{Asks, MakesServe, Scene, can_ask, is_ask, is_gone, is_set, planned}
-use Rattle.inf_sched.specs.Run.{AreActors, AreQueues, Asked, HasGivenUp, HasRested, HasServed, IsActor, IsKept, IsStateOf, Playing, asks_shown, gone_of, scene_of}
+use Rattle.inf_sched.specs.Run.{AreClients, AreQueues, Asked, HasGivenUp, HasRested, HasServed, IsClient, IsKept, IsStateOf, Playing, asks_shown, gone_of, scene_of}
 use Rattle.inf_sched.specs.Waiting.{IsFrontLeft, IsQueue, IsWaiting, IsWithin, Posting, is_by, is_for, is_open, is_to, oldest, posting, postings}
 
 -- ---- a queue
@@ -177,7 +177,7 @@ front_queues fits h many index queues queue rest are at left = record {
 other_asks : (world : World) (h : List Event) (number client : ℕ) (ask : Ask) → client ≢ ask.from.client
     → client_after world client (event.Ask number ask ∷ h) ≡ client_after world client h
 other_asks world h number client ask unlike =
-    ap (λ b. cond b (asked (suc (length h)) ask (client_after world client h)) (client_after world client h))
+    ap (λ b. cond b (asked world.digest (suc (length h)) ask (client_after world client h)) (client_after world client h))
     (unlike_test ask.from.client client (λ same. unlike (sym same)))
 
 -- the Asks of a client by its events
@@ -195,47 +195,47 @@ map_back f (own ∷ owns) =
     ∙ ap (λ front. front ++ f own ∷ []) (map_back f owns)
     ∙ sym (reverse-cons (f own) (map f owns))
 
-asked_actors : (world : World) (h after : List Event) (client : ℕ) (p : Posting) (actors : List Actor) (a b : Actor)
-    → AreActors world h actors → slice_get actors client ≡ Some a → Asked world client p h after a b → AreActors world after (slice_set actors client b)
-asked_actors world h after client p actors a b are at did = record {
-  count = length-set actors client b ∙ are.count;
-  each = set_each (λ k x. IsActor (client_after world k after) x) actors client b (slice_get_within actors client a at) did.actor
+asked_clients : (world : World) (h after : List Event) (client : ℕ) (p : Posting) (clients : List Client) (a b : Client)
+    → AreClients world h clients → slice_get clients client ≡ Some a → Asked world client p h after a b → AreClients world after (slice_set clients client b)
+asked_clients world h after client p clients a b are at did = record {
+  count = length-set clients client b ∙ are.count;
+  each = set_each (λ k x. IsClient (client_after world k after) x) clients client b (slice_get_within clients client a at) did.is_client
       (λ k x unlike at_k.
-      subst (λ s. IsActor s x)
+      subst (λ s. IsClient s x)
       (sym (ap (client_after world k) did.joins ∙ other_asks world h did.number k did.ask (λ same. unlike (same ∙ did.own))))
       (are.each k x at_k));
-  asks = set_each (λ k x. x.log.asks ≡ asks_shown k after) actors client b (slice_get_within actors client a at)
+  asks = set_each (λ k x. x.log.asks ≡ asks_shown k after) clients client b (slice_get_within clients client a at)
       (did.asks ∙ ap (λ owns. owns ++ own_ask (made_ask did.number did.ask (suc (length h))) None ∷ []) (are.asks client a at)
       ∙ sym (ap (asks_shown client) did.joins ∙ asks_newly client did.number did.ask h did.own))
       (λ k x unlike at_k.
       are.asks k x at_k
       ∙ sym (ap (asks_shown k) did.joins ∙ ap reverse (asks_apart k did.number did.ask h (λ same. unlike (sym same ∙ did.own)))));
-  idle = set_each (λ k x. x.handed ≡ false) actors client b (slice_get_within actors client a at) did.idle (λ k x unlike at_k. are.idle k x at_k);
+  idle = set_each (λ k x. x.handed ≡ false) clients client b (slice_get_within clients client a at) did.idle (λ k x unlike at_k. are.idle k x at_k);
 }
 
-gave_up_actors : (world : World) (h after : List Event) (client : ℕ) (actors : List Actor) (a b : Actor)
-    → AreActors world h actors → slice_get actors client ≡ Some a → HasGivenUp world client h after a b → AreActors world h (slice_set actors client b)
-gave_up_actors world h after client actors a b are at did = record {
-  count = length-set actors client b ∙ are.count;
-  each = set_each (λ k x. IsActor (client_after world k h) x) actors client b (slice_get_within actors client a at) did.actor
+gave_up_clients : (world : World) (h after : List Event) (client : ℕ) (clients : List Client) (a b : Client)
+    → AreClients world h clients → slice_get clients client ≡ Some a → HasGivenUp world client h after a b → AreClients world h (slice_set clients client b)
+gave_up_clients world h after client clients a b are at did = record {
+  count = length-set clients client b ∙ are.count;
+  each = set_each (λ k x. IsClient (client_after world k h) x) clients client b (slice_get_within clients client a at) did.is_client
       (λ k x unlike at_k. are.each k x at_k);
-  asks = set_each (λ k x. x.log.asks ≡ asks_shown k h) actors client b (slice_get_within actors client a at)
+  asks = set_each (λ k x. x.log.asks ≡ asks_shown k h) clients client b (slice_get_within clients client a at)
       (did.asks ∙ are.asks client a at)
       (λ k x unlike at_k. are.asks k x at_k);
-  idle = set_each (λ k x. x.handed ≡ false) actors client b (slice_get_within actors client a at) did.idle (λ k x unlike at_k. are.idle k x at_k);
+  idle = set_each (λ k x. x.handed ≡ false) clients client b (slice_get_within clients client a at) did.idle (λ k x unlike at_k. are.idle k x at_k);
 }
 
-served_actors : (world : World) (h after : List Event) (p : Posting) (actors : List Actor) (a b : Actor) → Legal world h → IsWaiting h p
-    → AreActors world h actors → slice_get actors p.client ≡ Some a → HasServed world p h after a b → AreActors world after (slice_set actors p.client b)
-served_actors world h after p actors a b legal waits are at did = record {
-  count = length-set actors p.client b ∙ are.count;
-  each = set_each (λ k x. IsActor (client_after world k after) x) actors p.client b (slice_get_within actors p.client a at) did.actor
+served_clients : (world : World) (h after : List Event) (p : Posting) (clients : List Client) (a b : Client) → Legal world h → IsWaiting h p
+    → AreClients world h clients → slice_get clients p.client ≡ Some a → HasServed world p h after a b → AreClients world after (slice_set clients p.client b)
+served_clients world h after p clients a b legal waits are at did = record {
+  count = length-set clients p.client b ∙ are.count;
+  each = set_each (λ k x. IsClient (client_after world k after) x) clients p.client b (slice_get_within clients p.client a at) did.is_client
       (λ k x unlike at_k.
-      subst (λ s. IsActor s x)
+      subst (λ s. IsClient s x)
       (sym (ap (client_after world k) did.joins
       ∙ others_stay world h k p.number p.place did.given (posted_ask p.number waits.ask) waits.asked (λ same. unlike (sym same ∙ waits.own))))
       (are.each k x at_k));
-  asks = set_each (λ k x. x.log.asks ≡ asks_shown k after) actors p.client b (slice_get_within actors p.client a at)
+  asks = set_each (λ k x. x.log.asks ≡ asks_shown k after) clients p.client b (slice_get_within clients p.client a at)
       (did.asks ∙ ap (map (served_at p.place (told_reply (suc (length h)) did.given))) (are.asks p.client a at)
       ∙ map_back (served_at p.place (told_reply (suc (length h)) did.given)) (asks_of p.client h)
       ∙ sym (ap (asks_shown p.client) did.joins))
@@ -243,23 +243,23 @@ served_actors world h after p actors a b legal waits are at did = record {
       are.asks k x at_k
       ∙ sym (ap (asks_shown k) did.joins
       ∙ ap reverse (serve_apart k p.number p.place did.given (posted_ask p.number waits.ask) h waits.asked (λ same. unlike (sym same ∙ waits.own)))));
-  idle = set_each (λ k x. x.handed ≡ false) actors p.client b (slice_get_within actors p.client a at) (did.same_handed ∙ are.idle p.client a at)
+  idle = set_each (λ k x. x.handed ≡ false) clients p.client b (slice_get_within clients p.client a at) (did.same_handed ∙ are.idle p.client a at)
       (λ k x unlike at_k. are.idle k x at_k);
 }
 
 -- ---- the run
 
-pub kept_asked : (world : World) (h after : List Event) (client : ℕ) (p : Posting) (actors : List Actor) (to by : List (List Posting)) (a b : Actor) (q r : List Posting)
-    → IsKept world h actors to by → slice_get actors client ≡ Some a → Asked world client p h after a b
+pub kept_asked : (world : World) (h after : List Event) (client : ℕ) (p : Posting) (clients : List Client) (to by : List (List Posting)) (a b : Client) (q r : List Posting)
+    → IsKept world h clients to by → slice_get clients client ≡ Some a → Asked world client p h after a b
     → slice_get to p.number ≡ Some q → slice_get by client ≡ Some r
-    → IsKept world after (slice_set actors client b) (slice_set to p.number (q ++ p ∷ [])) (slice_set by client (r ++ p ∷ []))
-kept_asked world h after client p actors to by a b q r kept at did at_to at_by =
+    → IsKept world after (slice_set clients client b) (slice_set to p.number (q ++ p ∷ [])) (slice_set by client (r ++ p ∷ []))
+kept_asked world h after client p clients to by a b q r kept at did at_to at_by =
     let is : p ≡ posting (suc (length h)) did.number did.ask.from.client = did.posted ∙ ap (posting (suc (length h)) did.number) (sym did.own) in
     let number : p.number ≡ did.number = ap (λ (x : Posting). x.number) is in
     let by_own : client ≡ did.ask.from.client = sym did.own in
     record {
       legal = did.legal;
-      clients = asked_actors world h after client p actors a b kept.clients at did;
+      clients = asked_clients world h after client p clients a b kept.clients at did;
       servers =
           subst (λ g. AreQueues is_to g (world.setup.servers + 1) (slice_set to p.number (q ++ p ∷ []))) (sym did.joins)
           (subst (λ x. AreQueues is_to (event.Ask did.number did.ask ∷ h) (world.setup.servers + 1) (slice_set to p.number (q ++ x ∷ []))) (sym is)
@@ -274,35 +274,35 @@ kept_asked world h after client p actors to by a b q r kept at did at_to at_by =
           (λ k unlike. unlike_test did.ask.from.client k (λ same. unlike (sym same ∙ did.own)))));
     }
 
-pub kept_gave_up : (world : World) (h after : List Event) (client : ℕ) (actors : List Actor) (to by : List (List Posting)) (a b : Actor)
-    → IsKept world h actors to by → slice_get actors client ≡ Some a → HasGivenUp world client h after a b
-    → IsKept world after (slice_set actors client b) to by
-kept_gave_up world h after client actors to by a b kept at did =
-    subst (λ g. IsKept world g (slice_set actors client b) to by) (sym did.same)
-    (record { legal = kept.legal; clients = gave_up_actors world h after client actors a b kept.clients at did; servers = kept.servers; askers = kept.askers })
+pub kept_gave_up : (world : World) (h after : List Event) (client : ℕ) (clients : List Client) (to by : List (List Posting)) (a b : Client)
+    → IsKept world h clients to by → slice_get clients client ≡ Some a → HasGivenUp world client h after a b
+    → IsKept world after (slice_set clients client b) to by
+kept_gave_up world h after client clients to by a b kept at did =
+    subst (λ g. IsKept world g (slice_set clients client b) to by) (sym did.same)
+    (record { legal = kept.legal; clients = gave_up_clients world h after client clients a b kept.clients at did; servers = kept.servers; askers = kept.askers })
 
-pub kept_served : (world : World) (h after : List Event) (p : Posting) (actors : List Actor) (to by : List (List Posting)) (a b : Actor)
-    → IsKept world h actors to by → IsWaiting h p → slice_get actors p.client ≡ Some a → HasServed world p h after a b
-    → IsKept world after (slice_set actors p.client b) to by
-kept_served world h after p actors to by a b kept waits at did = record {
+pub kept_served : (world : World) (h after : List Event) (p : Posting) (clients : List Client) (to by : List (List Posting)) (a b : Client)
+    → IsKept world h clients to by → IsWaiting h p → slice_get clients p.client ≡ Some a → HasServed world p h after a b
+    → IsKept world after (slice_set clients p.client b) to by
+kept_served world h after p clients to by a b kept waits at did = record {
   legal = did.legal;
-  clients = served_actors world h after p actors a b kept.legal waits kept.clients at did;
+  clients = served_clients world h after p clients a b kept.legal waits kept.clients at did;
   servers = subst (λ g. AreQueues is_to g (world.setup.servers + 1) to) (sym did.joins) (served_queues is_to h (world.setup.servers + 1) p.number p.place did.given to kept.servers);
   askers = subst (λ g. AreQueues is_by g (length world.setup.clients) by) (sym did.joins) (served_queues is_by h (length world.setup.clients) p.number p.place did.given by kept.askers);
 }
 
-pub kept_front_to : (world : World) (h : List Event) (number : ℕ) (actors : List Actor) (to by : List (List Posting)) (q rest : List Posting)
-    → IsKept world h actors to by → slice_get to number ≡ Some q → IsFrontLeft h q rest → IsKept world h actors (slice_set to number rest) by
-kept_front_to world h number actors to by q rest kept at left = record {
+pub kept_front_to : (world : World) (h : List Event) (number : ℕ) (clients : List Client) (to by : List (List Posting)) (q rest : List Posting)
+    → IsKept world h clients to by → slice_get to number ≡ Some q → IsFrontLeft h q rest → IsKept world h clients (slice_set to number rest) by
+kept_front_to world h number clients to by q rest kept at left = record {
   legal = kept.legal;
   clients = kept.clients;
   servers = front_queues is_to h (world.setup.servers + 1) number to q rest kept.servers at left;
   askers = kept.askers;
 }
 
-pub kept_front_by : (world : World) (h : List Event) (client : ℕ) (actors : List Actor) (to by : List (List Posting)) (q rest : List Posting)
-    → IsKept world h actors to by → slice_get by client ≡ Some q → IsFrontLeft h q rest → IsKept world h actors to (slice_set by client rest)
-kept_front_by world h client actors to by q rest kept at left = record {
+pub kept_front_by : (world : World) (h : List Event) (client : ℕ) (clients : List Client) (to by : List (List Posting)) (q rest : List Posting)
+    → IsKept world h clients to by → slice_get by client ≡ Some q → IsFrontLeft h q rest → IsKept world h clients to (slice_set by client rest)
+kept_front_by world h client clients to by q rest kept at left = record {
   legal = kept.legal;
   clients = kept.clients;
   servers = kept.servers;
@@ -370,7 +370,7 @@ pub waiting_client : (world : World) (h : List Event) (p : Posting) → Legal wo
 waiting_client world h p legal waits =
     subst (λ c. c < length world.setup.clients) waits.own (asked_client world p.place (posted_ask p.number waits.ask) h legal waits.asked)
 
-pub asked_server : (world : World) (h after : List Event) (client : ℕ) (p : Posting) (a b : Actor) → 1 ≤ world.setup.servers → Asked world client p h after a b → p.number < world.setup.servers
+pub asked_server : (world : World) (h after : List Event) (client : ℕ) (p : Posting) (a b : Client) → 1 ≤ world.setup.servers → Asked world client p h after a b → p.number < world.setup.servers
 asked_server world h after client p a b some did =
     let number : did.number ≡ p.number = ap (λ (x : Posting). x.number) (sym did.posted) in
     subst (λ n. n < world.setup.servers) number
@@ -401,96 +401,96 @@ if_waiting fits h (Some p) is = waiting_found fits h p (sym is)
 
 -- ---- scenes
 
-abbrev pub scene : List Event → List Actor → Scene
-scene h actors = record { history = h; gone = gone_of actors }
+abbrev pub scene : List Event → List Client → Scene
+scene h clients = record { history = h; gone = gone_of clients }
 
-gone_same : (actors : List Actor) (i : ℕ) (a b : Actor) → slice_get actors i ≡ Some a → b.gone ≡ a.gone → gone_of (slice_set actors i b) ≡ gone_of actors
+gone_same : (clients : List Client) (i : ℕ) (a b : Client) → slice_get clients i ≡ Some a → b.gone ≡ a.gone → gone_of (slice_set clients i b) ≡ gone_of clients
 gone_same [] i a b at same = absurd (cc)
-gone_same (x ∷ actors) zero a b at same = let this : x ≡ a = cc in ap (λ g. g ∷ gone_of actors) (same ∙ ap (λ (y : Actor). y.gone) (sym this))
-gone_same (x ∷ actors) (suc i) a b at same = ap (λ gs. x.gone ∷ gs) (gone_same actors i a b at same)
+gone_same (x ∷ clients) zero a b at same = let this : x ≡ a = cc in ap (λ g. g ∷ gone_of clients) (same ∙ ap (λ (y : Client). y.gone) (sym this))
+gone_same (x ∷ clients) (suc i) a b at same = ap (λ gs. x.gone ∷ gs) (gone_same clients i a b at same)
 
 set_same : {X : Type 0} (xs : List X) (i : ℕ) (x : X) → slice_get xs i ≡ Some x → slice_set xs i x ≡ xs
 set_same [] i x at = absurd (cc)
 set_same (y ∷ xs) zero x at = let this : y ≡ x = cc in ap (λ z. z ∷ xs) (sym this)
 set_same (y ∷ xs) (suc i) x at = ap (λ zs. y ∷ zs) (set_same xs i x at)
 
-pub gone_at : (h : List Event) (actors : List Actor) (client : ℕ) (a : Actor) → slice_get actors client ≡ Some a → is_gone (scene h actors) client ≡ a.gone
-gone_at h actors client a at = ap is_set (slice_get-map (λ (x : Actor). x.gone) actors client ∙ ap (option_map (λ (x : Actor). x.gone)) at)
+pub gone_at : (h : List Event) (clients : List Client) (client : ℕ) (a : Client) → slice_get clients client ≡ Some a → is_gone (scene h clients) client ≡ a.gone
+gone_at h clients client a at = ap is_set (slice_get-map (λ (x : Client). x.gone) clients client ∙ ap (option_map (λ (x : Client). x.gone)) at)
 
-pub state_here : (s : Client) (a : Actor) → IsActor s a → a.gone ≡ false → a.state ≡ s
+pub state_here : (s : ClientState) (a : Client) → IsClient s a → a.gone ≡ false → a.state ≡ s
 state_here s a is here = by a.gone here is
   where
     by : (g : Bool) → g ≡ false → IsStateOf g s a.state → a.state ≡ s
     by true no_more same = absurd (cc)
     by false no_more same = same
 
-wants_same : (world : World) (h : List Event) (actors : List Actor) (client : ℕ) (a : Actor) → slice_get actors client ≡ Some a
-    → IsActor (client_after world client h) a → can_ask world (scene h actors) client ≡ wants_to_ask a
-wants_same world h actors client a at is = ap (λ g. not g && is_ask (next_step (planned (client_after world client h)))) (gone_at h actors client a at) ∙ by a.gone refl
+wants_same : (world : World) (h : List Event) (clients : List Client) (client : ℕ) (a : Client) → slice_get clients client ≡ Some a
+    → IsClient (client_after world client h) a → can_ask world (scene h clients) client ≡ wants_to_ask world.digest a
+wants_same world h clients client a at is = ap (λ g. not g && is_ask (next_step (planned world.digest (client_after world client h)))) (gone_at h clients client a at) ∙ by a.gone refl
   where
-    by : (g : Bool) → a.gone ≡ g → (not g && is_ask (next_step (planned (client_after world client h)))) ≡ (not a.gone && is_ask (next_step (planned a.state)))
+    by : (g : Bool) → a.gone ≡ g → (not g && is_ask (next_step (planned world.digest (client_after world client h)))) ≡ (not a.gone && is_ask (next_step (planned world.digest a.state)))
     by true gone = rw gone refl
     by false here = rw (state_here (client_after world client h) a is here, here) refl
 
-pub makes_ask : (world : World) (h after : List Event) (client : ℕ) (p : Posting) (actors : List Actor) (a b : Actor) → slice_get actors client ≡ Some a
-    → Asked world client p h after a b → Asks world client (record { history = h; gone = gone_of actors }) (record { history = after; gone = gone_of (slice_set actors client b) })
-makes_ask world h after client p actors a b at did = inl (record {
+pub makes_ask : (world : World) (h after : List Event) (client : ℕ) (p : Posting) (clients : List Client) (a b : Client) → slice_get clients client ≡ Some a
+    → Asked world client p h after a b → Asks world client (record { history = h; gone = gone_of clients }) (record { history = after; gone = gone_of (slice_set clients client b) })
+makes_ask world h after client p clients a b at did = inl (record {
   number = did.number;
   ask = did.ask;
-  here = gone_at h actors client a at ∙ did.here;
+  here = gone_at h clients client a at ∙ did.here;
   own = did.own;
   may = did.may;
-  joins = ap₂ (λ g gs. record { history = g; gone = gs }) did.joins (gone_same actors client a b at (did.still_here ∙ sym did.here));
+  joins = ap₂ (λ g gs. record { history = g; gone = gs }) did.joins (gone_same clients client a b at (did.still_here ∙ sym did.here));
 })
 
-pub gives_up : (world : World) (h after : List Event) (client : ℕ) (actors : List Actor) (a b : Actor) → slice_get actors client ≡ Some a → IsActor (client_after world client h) a
-    → HasGivenUp world client h after a b → Asks world client (record { history = h; gone = gone_of actors }) (record { history = after; gone = gone_of (slice_set actors client b) })
-gives_up world h after client actors a b at is did = inr (record {
-  can = wants_same world h actors client a at is ∙ did.asking;
-  between = ap (λ (s : Client). s.sent) (sym (state_here (client_after world client h) a is did.here)) ∙ did.between;
+pub gives_up : (world : World) (h after : List Event) (client : ℕ) (clients : List Client) (a b : Client) → slice_get clients client ≡ Some a → IsClient (client_after world client h) a
+    → HasGivenUp world client h after a b → Asks world client (record { history = h; gone = gone_of clients }) (record { history = after; gone = gone_of (slice_set clients client b) })
+gives_up world h after client clients a b at is did = inr (record {
+  can = wants_same world h clients client a at is ∙ did.asking;
+  between = ap (λ (s : ClientState). s.sent) (sym (state_here (client_after world client h) a is did.here)) ∙ did.between;
   free = ap may_give_up (sym (state_here (client_after world client h) a is did.here)) ∙ did.free;
   gone = ap₂ (λ g gs. record { history = g; gone = gs }) did.same
-      (map-set (λ (x : Actor). x.gone) actors client b ∙ ap (λ g. slice_set (gone_of actors) client g) did.gone);
+      (map-set (λ (x : Client). x.gone) clients client b ∙ ap (λ g. slice_set (gone_of clients) client g) did.gone);
 })
 
-pub has_no_ask : (world : World) (h after : List Event) (client : ℕ) (actors : List Actor) (a b : Actor) → slice_get actors client ≡ Some a → IsActor (client_after world client h) a
-    → HasRested h after a b → HasNoAsk world client (record { history = h; gone = gone_of actors })
-has_no_ask world h after client actors a b at is did = record { idle = wants_same world h actors client a at is ∙ did.idle }
+pub has_no_ask : (world : World) (h after : List Event) (client : ℕ) (clients : List Client) (a b : Client) → slice_get clients client ≡ Some a → IsClient (client_after world client h) a
+    → HasRested world h after a b → HasNoAsk world client (record { history = h; gone = gone_of clients })
+has_no_ask world h after client clients a b at is did = record { idle = wants_same world h clients client a at is ∙ did.idle }
 
-pub rests_same : (h after : List Event) (client : ℕ) (actors : List Actor) (a b : Actor) → slice_get actors client ≡ Some a
-    → HasRested h after a b → record { history = after; gone = gone_of (slice_set actors client b) } ≡ scene h actors
-rests_same h after client actors a b at did =
-    ap₂ (λ g gs. record { history = g; gone = gs }) did.same (gone_same actors client a b at (ap (λ (x : Actor). x.gone) did.actor))
+pub rests_same : (world : World) (h after : List Event) (client : ℕ) (clients : List Client) (a b : Client) → slice_get clients client ≡ Some a
+    → HasRested world h after a b → record { history = after; gone = gone_of (slice_set clients client b) } ≡ scene h clients
+rests_same world h after client clients a b at did =
+    ap₂ (λ g gs. record { history = g; gone = gs }) did.same (gone_same clients client a b at (ap (λ (x : Client). x.gone) did.is_client))
 
-pub kept_rested : (world : World) (h after : List Event) (client : ℕ) (actors : List Actor) (to by : List (List Posting)) (a b : Actor)
-    → IsKept world h actors to by → slice_get actors client ≡ Some a → HasRested h after a b
-    → IsKept world after (slice_set actors client b) to by
-kept_rested world h after client actors to by a b kept at did =
-    subst (λ g. IsKept world g (slice_set actors client b) to by) (sym did.same)
-    (subst (λ xs. IsKept world h xs to by) (sym (ap (slice_set actors client) did.actor ∙ set_same actors client a at)) kept)
+pub kept_rested : (world : World) (h after : List Event) (client : ℕ) (clients : List Client) (to by : List (List Posting)) (a b : Client)
+    → IsKept world h clients to by → slice_get clients client ≡ Some a → HasRested world h after a b
+    → IsKept world after (slice_set clients client b) to by
+kept_rested world h after client clients to by a b kept at did =
+    subst (λ g. IsKept world g (slice_set clients client b) to by) (sym did.same)
+    (subst (λ xs. IsKept world h xs to by) (sym (ap (slice_set clients client) did.is_client ∙ set_same clients client a at)) kept)
 
-pub makes_serve : (world : World) (h after : List Event) (p : Posting) (actors : List Actor) (a b : Actor) → slice_get actors p.client ≡ Some a
+pub makes_serve : (world : World) (h after : List Event) (p : Posting) (clients : List Client) (a b : Client) → slice_get clients p.client ≡ Some a
     → HasServed world p h after a b
-    → MakesServe world p.number p.place (record { history = h; gone = gone_of actors }) (record { history = after; gone = gone_of (slice_set actors p.client b) })
-makes_serve world h after p actors a b at did = record {
+    → MakesServe world p.number p.place (record { history = h; gone = gone_of clients }) (record { history = after; gone = gone_of (slice_set clients p.client b) })
+makes_serve world h after p clients a b at did = record {
   given = did.given;
   may = did.may;
-  joins = ap₂ (λ g gs. record { history = g; gone = gs }) did.joins (gone_same actors p.client a b at did.same_gone);
+  joins = ap₂ (λ g gs. record { history = g; gone = gs }) did.joins (gone_same clients p.client a b at did.same_gone);
 }
 
-pub kept_pushed : (world : World) (h after : List Event) (client : ℕ) (p : Posting) (actors : List Actor) (to by : List (List Posting)) (a b : Actor) (q r s t : List Posting)
-    → IsKept world h actors to by → slice_get actors client ≡ Some a → Asked world client p h after a b
+pub kept_pushed : (world : World) (h after : List Event) (client : ℕ) (p : Posting) (clients : List Client) (to by : List (List Posting)) (a b : Client) (q r s t : List Posting)
+    → IsKept world h clients to by → slice_get clients client ≡ Some a → Asked world client p h after a b
     → slice_get to p.number ≡ Some q → slice_get by client ≡ Some r → s ≡ q ++ p ∷ [] → t ≡ r ++ p ∷ []
-    → IsKept world after (slice_set actors client b) (slice_set to p.number s) (slice_set by client t)
-kept_pushed world h after client p actors to by a b q r s t kept at did at_to at_by pushed pushed_by =
-    subst (λ x. IsKept world after (slice_set actors client b) (slice_set to p.number x) (slice_set by client t)) (sym pushed)
-    (subst (λ x. IsKept world after (slice_set actors client b) (slice_set to p.number (q ++ p ∷ [])) (slice_set by client x)) (sym pushed_by)
-    (kept_asked world h after client p actors to by a b q r kept at did at_to at_by))
+    → IsKept world after (slice_set clients client b) (slice_set to p.number s) (slice_set by client t)
+kept_pushed world h after client p clients to by a b q r s t kept at did at_to at_by pushed pushed_by =
+    subst (λ x. IsKept world after (slice_set clients client b) (slice_set to p.number x) (slice_set by client t)) (sym pushed)
+    (subst (λ x. IsKept world after (slice_set clients client b) (slice_set to p.number (q ++ p ∷ [])) (slice_set by client x)) (sym pushed_by)
+    (kept_asked world h after client p clients to by a b q r kept at did at_to at_by))
 
 -- ---- the same in the words of a run
 
-pub kept_in : (v w : World) (h : List Event) (actors : List Actor) (to by : List (List Posting)) → v ≡ w → IsKept w h actors to by → IsKept v h actors to by
-kept_in v w h actors to by same kept = subst (λ x. IsKept x h actors to by) (sym same) kept
+pub kept_in : (v w : World) (h : List Event) (clients : List Client) (to by : List (List Posting)) → v ≡ w → IsKept w h clients to by → IsKept v h clients to by
+kept_in v w h clients to by same kept = subst (λ x. IsKept x h clients to by) (sym same) kept
 
 pub asks_in : {R : Type 0} (digest_of : R → List ℕ → Id) (client : ℕ) (u v : Playing R) (new : Scene) → u ≡ v
     → Asks (world_in digest_of u.core) client (scene_of u) new → Asks (world_in digest_of v.core) client (scene_of v) new

@@ -2,7 +2,7 @@
 use Rattle.std.proofs.Common.{◌≡◌, ℕ, zero, suc, ◌+◌, ◌<◌, Bool, true, false, List, [], ◌∷◌, length, slice_get, Option, Some, None, refl, subst, arith, inl, inr}
 use Rattle.std.proofs.lemmas.List.{length-map}
 use Rattle.inf_base.specs.declared.setup.ClientLine.{ClientLine}
-use Rattle.inf_flow_dir.specs.Client.{Client}
+use Rattle.inf_flow_dir.specs.Client.{ClientState}
 use Rattle.inf_duty.specs.Start.{starting}
 use Rattle.inf_duty.specs.World.{World}
 use Rattle.inf_order.specs.declared.moves.Move.{Move}
@@ -137,7 +137,7 @@ opening_calm world = record {
   answers = λ client within. starting_none world client (slice_get world.setup.clients client);
 }
 
-came_to_none : (gone : Bool) (s : Client) → gone ≡ false → ShowsNoWant s → HasNotGivenUp (came_to gone s)
+came_to_none : (gone : Bool) (s : ClientState) → gone ≡ false → ShowsNoWant s → HasNotGivenUp (came_to gone s)
 came_to_none true s here none = absurd (cc)
 came_to_none false s here none = to_results s none
 

@@ -1,9 +1,10 @@
 -- Each step can be made without want of memory.
 use Rattle.std.proofs.Common.{◌≡◌, ℕ, suc, ◌<◌, Bool, true, false, cond, eqb, not, ◌&&◌, List, [], ◌∷◌, length, Option, Some, refl, sym, ap, subst, ◌∙◌}
+use Rattle.inf_base.specs.declared.id.Id.{Id}
 use Rattle.std.specs.List.{list_any}
 use Rattle.std.proofs.lemmas.Bool.Decides.{Decides-eqb}
 use Rattle.inf_base.specs.declared.caller.CallRef.{CallRef}
-use Rattle.inf_flow_dir.specs.Client.{Client, Sent}
+use Rattle.inf_flow_dir.specs.Client.{ClientState, Sent}
 use Rattle.inf_flow_dir.specs.Flow.{Who}
 use Rattle.inf_flow_dir.specs.Heard.{heard}
 use Rattle.inf_duty.specs.Duty.{Duty, Next, asked, asks, begun, is_over, next_step, waits}
@@ -36,22 +37,22 @@ pub record Comes (world : World) (By : Scene → Type 0) (new : Scene) : Type 0 
 
 -- ---- an Ask
 
-planned_who : (sent : List Sent) (s : Client) → (planned_from sent s).who ≡ s.who
-planned_who [] s = refl
-planned_who (x ∷ sent) s = refl
+planned_who : (digest : List ℕ → Id) (sent : List Sent) (s : ClientState) → (planned_from digest sent s).who ≡ s.who
+planned_who digest [] s = refl
+planned_who digest (x ∷ sent) s = refl
 
 here_of : (a b : Bool) → (not a && b) ≡ true → a ≡ false
 here_of true b e = absurd (cc)
 here_of false b e = refl
 
-next_comes : (world : World) (client : ℕ) (old : Scene) (number : ℕ) (ask : Ask) → can_ask world old client ≡ true → next_step (planned (client_in world old client)) ≡ asks number ask → IsCalm world old → Comes world (MakesAsk world client old) (with_event (event.Ask number ask) old)
+next_comes : (world : World) (client : ℕ) (old : Scene) (number : ℕ) (ask : Ask) → can_ask world old client ≡ true → next_step (planned world.digest (client_in world old client)) ≡ asks number ask → IsCalm world old → Comes world (MakesAsk world client old) (with_event (event.Ask number ask) old)
 next_comes world client old number ask can next calm =
-    let s : Client = client_in world old client in
+    let s : ClientState = client_in world old client in
     let own : ask.from.client ≡ client =
-    ap (λ (call : CallRef). call.client) (goes (planned s) number ask next).from
-    ∙ ap (λ (w : Who). w.client) (planned_who s.sent s ∙ who_after world old.history client) in
-    let finds : begun ask s.sent s ≡ planned s = begun_planned s number ask s.sent refl next in
-    let duty : Duty s number ask = ap next_step finds ∙ next in
+    ap (λ (call : CallRef). call.client) (goes (planned world.digest s) number ask next).from
+    ∙ ap (λ (w : Who). w.client) (planned_who world.digest s.sent s ∙ who_after world old.history client) in
+    let finds : begun world.digest ask s.sent s ≡ planned world.digest s = begun_planned world.digest s number ask s.sent refl next in
+    let duty : Duty world.digest s number ask = ap next_step finds ∙ next in
     let within : client < length world.setup.clients = asks_within world client old.history (asking_of _ _ can) in
     record {
       by = record {
@@ -61,7 +62,7 @@ next_comes world client old number ask can next calm =
         own = own;
         may = record {
           client = subst (λ c. c < length world.setup.clients) (sym own) within;
-          duty = subst (λ c. Duty (client_after world c old.history) number ask) (sym own) duty;
+          duty = subst (λ c. Duty world.digest (client_after world c old.history) number ask) (sym own) duty;
         };
         joins = refl;
       };
@@ -73,20 +74,20 @@ next_comes world client old number ask can next calm =
       };
     }
   where
-    asked_none : (s : Client) → begun ask s.sent s ≡ planned s → ShowsNoWant s → ShowsNoWant (asked (suc (length old.history)) ask s)
+    asked_none : (s : ClientState) → begun world.digest ask s.sent s ≡ planned world.digest s → ShowsNoWant s → ShowsNoWant (asked world.digest (suc (length old.history)) ask s)
     asked_none s finds none =
-        let now : ShowsNoWant (begun ask s.sent s) = subst ShowsNoWant (sym finds) (after_planned s.sent s none) in
+        let now : ShowsNoWant (begun world.digest ask s.sent s) = subst ShowsNoWant (sym finds) (after_planned world.digest s.sent s none) in
         record { results = now.results; stage = now.stage }
 
-    answers : ask.from.client ≡ client → ShowsNoWant (asked (suc (length old.history)) ask (client_in world old client)) → (each : ℕ) → each < length world.setup.clients → (b : Bool) → eqb ask.from.client each ≡ b → ShowsNoWant (cond b (asked (suc (length old.history)) ask (client_in world old each)) (client_in world old each))
+    answers : ask.from.client ≡ client → ShowsNoWant (asked world.digest (suc (length old.history)) ask (client_in world old client)) → (each : ℕ) → each < length world.setup.clients → (b : Bool) → eqb ask.from.client each ≡ b → ShowsNoWant (cond b (asked world.digest (suc (length old.history)) ask (client_in world old each)) (client_in world old each))
     answers own none each inside false apart = calm.answers each inside
     answers own none each inside true same =
-        subst (λ c. ShowsNoWant (asked (suc (length old.history)) ask (client_in world old c))) (sym own ∙ (Decides-eqb ask.from.client each).0 same) none
+        subst (λ c. ShowsNoWant (asked world.digest (suc (length old.history)) ask (client_in world old c))) (sym own ∙ (Decides-eqb ask.from.client each).0 same) none
 
 pub ask_comes : (world : World) (client : ℕ) (old : Scene) → can_ask world old client ≡ true → IsCalm world old → Comes world (MakesAsk world client old) (with_next_ask world client old)
-ask_comes world client old can calm = by (next_step (planned (client_in world old client))) refl (asking_of _ _ can)
+ask_comes world client old can calm = by (next_step (planned world.digest (client_in world old client))) refl (asking_of _ _ can)
   where
-    by : (next : Next) → next_step (planned (client_in world old client)) ≡ next → is_ask next ≡ true → Comes world (MakesAsk world client old) (with_ask next old)
+    by : (next : Next) → next_step (planned world.digest (client_in world old client)) ≡ next → is_ask next ≡ true → Comes world (MakesAsk world client old) (with_ask next old)
     by (asks number ask) is asking = next_comes world client old number ask can is calm
     by waits is asking = absurd (cc)
     by is_over is asking = absurd (cc)
@@ -95,8 +96,8 @@ ask_comes world client old can calm = by (next_step (planned (client_in world ol
 
 served_calm : (world : World) (client place : ℕ) (given : Reply) (h : List Event) → is_no_mem given ≡ false → list_any wanted h ≡ false → ShowsNoWant (client_after world client h) → ShowsNoWant (client_after world client (event.Serve client place given ∷ h))
 served_calm world client place given h plain earlier none =
-    let s : Client = client_after world client h in
-    after_served place (told_reply (suc (length h)) (heard given)) s
+    let s : ClientState = client_after world client h in
+    after_served world.digest place (told_reply (suc (length h)) (heard given)) s
     (plain_recorded place (told_reply (suc (length h)) (heard given)) s.sent (plain_told (suc (length h)) given plain) (plain_after world client h earlier))
     none
 

@@ -10,8 +10,8 @@ use Rattle.inf_laws_history.specs.Legal.{Legal}
 use Rattle.inf_laws_history.proofs.OwnHistory.{shows_state}
 use Rattle.inf_message.specs.declared.event.Event.{Event}
 use Rattle.inf_message.specs.History.{asks_of, trip_of, trips_of}
-use Rattle.inf_client.specs.Actor.{Actor, trips_of_actor}
-use Rattle.inf_sched.specs.Run.{AreActors, IsActor}
+use Rattle.inf_client.specs.Client.{Client, trips_of_client}
+use Rattle.inf_sched.specs.Run.{AreClients, IsClient}
 
 cons_back : {X : Type 0} (o : Option X) (xs : List X) → reverse (cons_option o xs) ≡ reverse xs ++ cons_option o []
 cons_back None xs = sym (append-nil (reverse xs))
@@ -26,14 +26,14 @@ filter_back f (x ∷ xs) =
     ∙ sym (cons_back (f x) (filter_map f xs))
 
 -- what a client kept of its trips are those of the history
-pub trips_same : (world : World) (h : List Event) (actors : List Actor) (client : ℕ) (a : Actor) → AreActors world h actors → slice_get actors client ≡ Some a
-    → trips_of_actor a ≡ reverse (trips_of client h)
-trips_same world h actors client a are at = ap (filter_map trip_of) (are.asks client a at) ∙ filter_back trip_of (asks_of client h)
+pub trips_same : (world : World) (h : List Event) (clients : List Client) (client : ℕ) (a : Client) → AreClients world h clients → slice_get clients client ≡ Some a
+    → trips_of_client a ≡ reverse (trips_of client h)
+trips_same world h clients client a are at = ap (filter_map trip_of) (are.asks client a at) ∙ filter_back trip_of (asks_of client h)
 
 -- its Asks show what it is
-pub asks_show : (world : World) (h : List Event) (actors : List Actor) (client : ℕ) (a : Actor) → Legal world h → AreActors world h actors → slice_get actors client ≡ Some a
-    → IsActor (client_of world client (map own_of a.log.asks)) a
-asks_show world h actors client a legal are at =
-    subst (λ s. IsActor s a)
+pub asks_show : (world : World) (h : List Event) (clients : List Client) (client : ℕ) (a : Client) → Legal world h → AreClients world h clients → slice_get clients client ≡ Some a
+    → IsClient (client_of world client (map own_of a.log.asks)) a
+asks_show world h clients client a legal are at =
+    subst (λ s. IsClient s a)
     (sym (ap (λ owns. client_of world client (map own_of owns)) (are.asks client a at) ∙ shows_state world client h legal))
     (are.each client a at)

@@ -1,9 +1,10 @@
 -- What comes of letting a client ask, by what its step told.
 use Rattle.std.proofs.Common.{◌≡◌, ℕ, suc, ◌+◌, ◌≤◌, ◌<◌, ◌^◌, Bool, true, false, cond, not, ◌&&◌, List, [], ◌∷◌, ◌++◌, length, reverse, slice_get, None, Some, All, refl, sym, ap, subst, ◌∙◌, arith, inl, inr}
+use Rattle.inf_base.specs.declared.id.Id.{Id}
 use Rattle.std.proofs.lemmas.Bool.Decides.{Decides-eqb}
 use Rattle.std.proofs.lemmas.List.Elements.{All-head, All-nil, All-push, All-tail, All-weaker}
 use mathlib.Core.List.{reverse-cons}
-use Rattle.inf_flow_dir.specs.Client.{Client, placed}
+use Rattle.inf_flow_dir.specs.Client.{ClientState, placed}
 use Rattle.inf_duty.specs.Outcome.{all_given_up}
 use Rattle.inf_sched.specs.Scene.{planned}
 use Rattle.inf_duty.specs.ClientStep.{is_ask}
@@ -21,34 +22,34 @@ use Rattle.inf_message.specs.History.{Own, Posted, asks_of, made_ask, own_ask, p
 use Rattle.inf_message.specs.Shown.{IsOwn}
 use Rattle.inf_message.proofs.ClientLaws.{asks_are_own}
 use Rattle.inf_message.proofs.HistoryLaws.{asked_within}
-use Rattle.inf_client.specs.Actor.{Actor, AsksNext, Rests, Steps, actor, wants_to_ask}
+use Rattle.inf_client.specs.Client.{Client, AsksNext, Rests, Steps, client_with, wants_to_ask}
 use Rattle.inf_trips.specs.AskLog.{AskLog, IsLater, asked_first, asked_log}
-use Rattle.inf_sched.specs.Run.{Asked, Did, IsActor, IsGivenUp, IsStateOf, asks_shown, rested}
+use Rattle.inf_sched.specs.Run.{Asked, Did, IsClient, IsGivenUp, IsStateOf, asks_shown, rested}
 use Rattle.inf_sched.specs.Waiting.{posting}
 
 -- ---- a client that asks
 
-here_state : (s : Client) (a : Actor) → IsActor s a → a.gone ≡ false → a.state ≡ s
+here_state : (s : ClientState) (a : Client) → IsClient s a → a.gone ≡ false → a.state ≡ s
 here_state s a is here = by a.gone here is
   where
     by : (g : Bool) → g ≡ false → IsStateOf g s a.state → a.state ≡ s
     by true no_more same = absurd (cc)
     by false no_more same = same
 
-own_client : (world : World) (client : ℕ) (h : List Event) (a : Actor) (ask : Ask) → a.state ≡ client_after world client h
+own_client : (world : World) (client : ℕ) (h : List Event) (a : Client) (ask : Ask) → a.state ≡ client_after world client h
     → ask.from.client ≡ a.state.who.client → ask.from.client ≡ client
-own_client world client h a ask same own = own ∙ ap (λ (s : Client). s.who.client) same ∙ client_is world h client
+own_client world client h a ask same own = own ∙ ap (λ (s : ClientState). s.who.client) same ∙ client_is world h client
 
 -- the ask that a step tells may be made
-pub may_ask : (world : World) (client number : ℕ) (h : List Event) (ask : Ask) (a b : Actor) → client < length world.setup.clients
-    → IsActor (client_after world client h) a → AsksNext number ask a b → MayAsk world h number ask
+pub may_ask : (world : World) (client number : ℕ) (h : List Event) (ask : Ask) (a b : Client) → client < length world.setup.clients
+    → IsClient (client_after world client h) a → AsksNext world.digest number ask a b → MayAsk world h number ask
 may_ask world client number h ask a b there is next =
     let same : a.state ≡ client_after world client h = here_state (client_after world client h) a is next.here in
     let own : ask.from.client ≡ client = own_client world client h a ask same next.own in
     record {
       client = subst (λ c. c < length world.setup.clients) (sym own) there;
-      duty = subst (λ c. Duty (client_after world c h) number ask) (sym own)
-          (subst (λ (s : Client). Duty s number ask) same next.duty);
+      duty = subst (λ c. Duty world.digest (client_after world c h) number ask) (sym own)
+          (subst (λ (s : ClientState). Duty world.digest s number ask) same next.duty);
     }
 
 -- ---- its Asks so far stand at earlier places
@@ -64,29 +65,29 @@ asks_within client h =
     (λ own is. let place = asked_within own.made.ask_place _ h is.made.asked in omega (arith, place.within))
     (asks_of client h) (asks_are_own client h)
 
-pub ready_later : (client number place : ℕ) (h : List Event) (ask : Ask) (a b : Actor) → a.log.asks ≡ asks_shown client h → AsksNext number ask a b
+pub ready_later : (digest : List ℕ → Id) (client number place : ℕ) (h : List Event) (ask : Ask) (a b : Client) → a.log.asks ≡ asks_shown client h → AsksNext digest number ask a b
     → place ≡ suc (length h) → IsLater place b.log.asks
-ready_later client number place h ask a b shown next newest =
+ready_later digest client number place h ask a b shown next newest =
     subst (λ p. IsLater p b.log.asks) (sym newest)
     (subst (IsLater (suc (length h))) (sym (next.asks ∙ shown))
     (all_back (λ (own : Own). own.made.ask_place < suc (length h)) (asks_of client h) (asks_within client h)))
 
 -- ---- what it is then
 
-module _ (world : World) (client number : ℕ) (h : List Event) (ask : Ask) (a b : Actor) (is : IsActor (client_after world client h) a) (next : AsksNext number ask a b) where
-  begins : b.state ≡ begun ask (client_after world client h).sent (client_after world client h)
-  begins = next.state ∙ ap (λ (t : Client). begun ask t.sent t) (here_state (client_after world client h) a is next.here)
+module _ (world : World) (client number : ℕ) (h : List Event) (ask : Ask) (a b : Client) (is : IsClient (client_after world client h) a) (next : AsksNext world.digest number ask a b) where
+  begins : b.state ≡ begun world.digest ask (client_after world client h).sent (client_after world client h)
+  begins = next.state ∙ ap (λ (t : ClientState). begun world.digest ask t.sent t) (here_state (client_after world client h) a is next.here)
 
   follows : client_after world client (event.Ask number ask ∷ h) ≡ placed (suc (length h)) b.state
   follows =
-      let s : Client = client_after world client h in
+      let s : ClientState = client_after world client h in
       let own : ask.from.client ≡ client = own_client world client h a ask (here_state s a is next.here) next.own in
-      ap (λ t. cond t (asked (suc (length h)) ask s) s) ((Decides-eqb ask.from.client client).1 own) ∙ ap (placed (suc (length h))) (sym begins)
+      ap (λ t. cond t (asked world.digest (suc (length h)) ask s) s) ((Decides-eqb ask.from.client client).1 own) ∙ ap (placed (suc (length h))) (sym begins)
 
   pub ready_room : (place : ℕ) → place ≡ suc (length h) → place < 2 ^ 64 → b.state.counts.messages + 1 < 2 ^ 64
   ready_room place newest fits =
       let few : (client_after world client (event.Ask number ask ∷ h)).counts.messages ≤ suc (length h) = messages_within world (event.Ask number ask ∷ h) client in
-      let count : (client_after world client (event.Ask number ask ∷ h)).counts.messages ≡ b.state.counts.messages + 1 = ap (λ (t : Client). t.counts.messages) follows in
+      let count : (client_after world client (event.Ask number ask ∷ h)).counts.messages ≡ b.state.counts.messages + 1 = ap (λ (t : ClientState). t.counts.messages) follows in
       omega (arith, few, count, newest, fits)
 
 first_asked : (place : ℕ) (posted : Posted) (log : AskLog) → slice_get log.ready 0 ≡ Some posted
@@ -100,9 +101,9 @@ first_asked place posted log first = by log.ready first
         let is : p ≡ posted = cc in
         ap (λ (q : Posted). log.asks ++ own_ask (made_ask q.number q.ask place) None ∷ []) is
 
-pub asked_did : (world : World) (client number place : ℕ) (h after : List Event) (ask : Ask) (a b c : Actor) → client < length world.setup.clients → Legal world after
-    → IsActor (client_after world client h) a → AsksNext number ask a b → place ≡ suc (length h)
-    → after ≡ event.Ask number ask ∷ h → c ≡ actor (placed place b.state) false (asked_log place b.log) false
+pub asked_did : (world : World) (client number place : ℕ) (h after : List Event) (ask : Ask) (a b c : Client) → client < length world.setup.clients → Legal world after
+    → IsClient (client_after world client h) a → AsksNext world.digest number ask a b → place ≡ suc (length h)
+    → after ≡ event.Ask number ask ∷ h → c ≡ client_with (placed place b.state) false (asked_log place b.log) false
     → Asked world client (posting place number client) h after a c
 asked_did world client number place h after ask a b c there legal is next newest joins placing =
     let same : a.state ≡ client_after world client h = here_state (client_after world client h) a is next.here in
@@ -116,40 +117,40 @@ asked_did world client number place h after ask a b c there legal is next newest
       may = may_ask world client number h ask a b there is next;
       joins = joins;
       posted = ap (λ p. posting p number client) newest;
-      still_here = ap (λ (x : Actor). x.gone) placing;
-      asks = ap (λ (x : Actor). x.log.asks) placing ∙ first_asked place (posted_ask number ask) b.log next.first
+      still_here = ap (λ (x : Client). x.gone) placing;
+      asks = ap (λ (x : Client). x.log.asks) placing ∙ first_asked place (posted_ask number ask) b.log next.first
           ∙ ap (λ owns. owns ++ own_ask (made_ask number ask place) None ∷ []) next.asks
           ∙ ap (λ p. a.log.asks ++ own_ask (made_ask number ask p) None ∷ []) newest;
-      idle = ap (λ (x : Actor). x.handed) placing;
-      actor = subst (λ x. IsActor (client_after world client after) x) (sym placing) is_after;
+      idle = ap (λ (x : Client). x.handed) placing;
+      is_client = subst (λ x. IsClient (client_after world client after) x) (sym placing) is_after;
       legal = legal;
     }
 
 -- ---- one that rests
 
-gave_up_here : (a : Actor) → wants_to_ask a ≡ true → a.gone ≡ false
-gave_up_here a asking = by a.gone asking
+gave_up_here : (digest : List ℕ → Id) (a : Client) → wants_to_ask digest a ≡ true → a.gone ≡ false
+gave_up_here digest a asking = by a.gone asking
   where
-    by : (g : Bool) → (not g && is_ask (next_step (planned a.state))) ≡ true → g ≡ false
+    by : (g : Bool) → (not g && is_ask (next_step (planned digest a.state))) ≡ true → g ≡ false
     by true none = absurd (cc)
     by false some = refl
 
-pub rested_did : (world : World) (client : ℕ) (h : List Event) (a b : Actor)
-    → IsActor (client_after world client h) a → Rests a b → Did world client (rested a.gone b.gone) h h a b
+pub rested_did : (world : World) (client : ℕ) (h : List Event) (a b : Client)
+    → IsClient (client_after world client h) a → Rests world.digest a b → Did world client (rested a.gone b.gone) h h a b
 rested_did world client h a b is (inl resting) =
     let same : b ≡ a = resting.same in
-    subst (λ (x : Actor). Did world client (rested a.gone x.gone) h h a x) (sym same) (by a.gone)
+    subst (λ (x : Client). Did world client (rested a.gone x.gone) h h a x) (sym same) (by a.gone)
   where
     by : (g : Bool) → Did world client (rested g g) h h a a
-    by true = record { idle = resting.idle; same = refl; actor = refl }
-    by false = record { idle = resting.idle; same = refl; actor = refl }
+    by true = record { idle = resting.idle; same = refl; is_client = refl }
+    by false = record { idle = resting.idle; same = refl; is_client = refl }
 rested_did world client h a b is (inr giving) =
-    let s : Client = client_after world client h in
-    let here : a.gone ≡ false = gave_up_here a giving.asking in
+    let s : ClientState = client_after world client h in
+    let here : a.gone ≡ false = gave_up_here world.digest a giving.asking in
     let same : a.state ≡ s = here_state s a is here in
     let given : IsGivenUp s b.state = record {
-      between = ap (λ (t : Client). t.sent) (sym same) ∙ giving.between;
-      all = giving.state ∙ ap (λ (t : Client). all_given_up t.left t) same;
+      between = ap (λ (t : ClientState). t.sent) (sym same) ∙ giving.between;
+      all = giving.state ∙ ap (λ (t : ClientState). all_given_up t.left t) same;
     } in
     subst (λ g. Did world client (rested g b.gone) h h a b) (sym here)
     (subst (λ g. Did world client (rested false g) h h a b) (sym giving.gone)
@@ -162,11 +163,11 @@ rested_did world client h a b is (inr giving) =
       gone = giving.gone;
       asks = giving.asks;
       idle = giving.handed;
-      actor = subst (λ g. IsStateOf g s b.state) (sym giving.gone) given;
+      is_client = subst (λ g. IsStateOf g s b.state) (sym giving.gone) given;
     }))
 
-pub waiting_rests : (a b : Actor) → Steps a step.Waiting b → Rests a b
-waiting_rests a b how = how.0
+pub waiting_rests : (digest : List ℕ → Id) (a b : Client) → Steps digest a step.Waiting b → Rests digest a b
+waiting_rests digest a b how = how.0
 
-pub finished_rests : (a b : Actor) → Steps a step.Finished b → Rests a b
-finished_rests a b how = how.0
+pub finished_rests : (digest : List ℕ → Id) (a b : Client) → Steps digest a step.Finished b → Rests digest a b
+finished_rests digest a b how = how.0

@@ -1,9 +1,10 @@
 -- Where nothing wanted memory in the end, nothing did on the way, so an order makes one history.
 use Rattle.std.proofs.Common.{◌≡◌, ℕ, zero, suc, ◌+◌, ◌<◌, Bool, true, false, List, [], ◌∷◌, length, refl, sym, ap, subst, ◌∙◌, arith}
+use Rattle.inf_base.specs.declared.id.Id.{Id}
 use Rattle.std.specs.List.{list_any}
 use Rattle.std.proofs.lemmas.List.{length-map, length-set}
 use Rattle.inf_base.specs.declared.setup.ClientLine.{ClientLine}
-use Rattle.inf_flow_dir.specs.Client.{Client}
+use Rattle.inf_flow_dir.specs.Client.{ClientState}
 use Rattle.inf_duty.specs.World.{World}
 use Rattle.inf_message.specs.declared.call_result.CallResult.{CallResult}
 use Rattle.inf_message.specs.declared.event.Event.{Event}
@@ -33,13 +34,13 @@ sized : (world : World) (order : List Move) (scene : Scene) → ByMoves world or
 sized world order scene moves = moves_keep world (IsSized world) (sized_kept world) order (opening world) scene moves (length-map world.setup.clients (λ (line : ClientLine). false))
 
 -- a client whose results tell of no want is there, and has given up nothing
-record IsPresent (gone : Bool) (s : Client) : Type 0 where
+record IsPresent (gone : Bool) (s : ClientState) : Type 0 where
   here : gone ≡ false
   answers : ShowsNoWant s
 
-present : (gone : Bool) (s : Client) → (gone ≡ true → IsLeft s) → IsBuiltFor s → HasNotGivenUp (came_to gone s) → IsPresent gone s
-present true s left built none = absurd (let gave = gone_gave_up s (left refl) in cc)
-present false s left built none = record { here = refl; answers = from_results s built none }
+present : (digest : List ℕ → Id) (gone : Bool) (s : ClientState) → (gone ≡ true → IsLeft digest s) → IsBuiltFor s → HasNotGivenUp (came_to gone s) → IsPresent gone s
+present digest true s left built none = absurd (let gave = gone_gave_up digest s (left refl) in cc)
+present digest false s left built none = record { here = refl; answers = from_results s built none }
 
 one_on : (first k : ℕ) → first + 1 + k ≡ first + suc k
 one_on first k = omega arith
@@ -69,7 +70,7 @@ calm_after world order scene moves replies answers = record {
   where
     each : (client : ℕ) → client < length world.setup.clients → IsPresent (is_gone scene client) (client_in world scene client)
     each client within =
-        present (is_gone scene client) (client_in world scene client) (gone_left world order scene moves client) (built world client scene.history)
+        present world.digest (is_gone scene client) (client_in world scene client) (gone_left world order scene moves client) (built world client scene.history)
         (subst (λ c. HasNotGivenUp (came_to (is_gone scene c) (client_in world scene c))) (from_zero client)
         (each_came_to world scene 0 world.setup.clients answers client within))
 

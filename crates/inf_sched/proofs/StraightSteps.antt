@@ -1,11 +1,12 @@
 -- Where nothing wants memory, each step is the one step that there is.
 use Rattle.std.proofs.Common.{◌≡◌, ℕ, suc, ◌<◌, Bool, true, false, cond, eqb, not, ◌&&◌, List, [], ◌∷◌, length, slice_get, slice_set, Option, Some, None, refl, sym, ap, subst, ◌∙◌, arith, ⊎_elim}
+use Rattle.inf_base.specs.declared.id.Id.{Id}
 use Rattle.std.specs.List.{list_any}
 use Rattle.std.proofs.lemmas.Bool.Decides.{Decides-eqb}
 use Rattle.std.proofs.lemmas.List.{length-set}
 use Rattle.std.proofs.lemmas.Option.{slice_get_within}
 use Rattle.inf_base.specs.declared.setup.ClientLine.{ClientLine}
-use Rattle.inf_flow_dir.specs.Client.{Client, Sent, rest_of}
+use Rattle.inf_flow_dir.specs.Client.{ClientState, Sent, rest_of}
 use Rattle.inf_flow_dir.specs.Heard.{heard}
 use Rattle.inf_duty.specs.Duty.{Duty, Next, asked, asks, next_in, next_step}
 use Rattle.inf_duty.specs.After.{client_after}
@@ -54,9 +55,9 @@ asking_calm world client old new makes calm =
       here = now.here;
       replies = now.replies;
       answers = λ each within.
-          let s : Client = client_in world old each in
-          if_both (λ t. ShowsNoWant t → ShowsNoWant s) (eqb makes.ask.from.client each) (asked (suc (length old.history)) makes.ask s) s
-          (before_asked (suc (length old.history)) makes.ask s) (λ none. none) (now.answers each within);
+          let s : ClientState = client_in world old each in
+          if_both (λ t. ShowsNoWant t → ShowsNoWant s) (eqb makes.ask.from.client each) (asked world.digest (suc (length old.history)) makes.ask s) s
+          (before_asked world.digest (suc (length old.history)) makes.ask s) (λ none. none) (now.answers each within);
     }
 
 -- the client could make its next ask, and made it
@@ -68,17 +69,17 @@ made_next : (world : World) (client : ℕ) (old new : Scene) → MakesAsk world 
 made_next world client old new makes calm =
     let number : ℕ = makes.number in
     let ask : Ask = makes.ask in
-    let s : Client = client_in world old client in
-    let duty : Duty s number ask = subst (λ c. Duty (client_after world c old.history) number ask) makes.own makes.may.duty in
+    let s : ClientState = client_in world old client in
+    let duty : Duty world.digest s number ask = subst (λ c. Duty world.digest (client_after world c old.history) number ask) makes.own makes.may.duty in
     let now : IsCalm world (record { history = event.Ask number ask ∷ old.history; gone = old.gone }) = subst (IsCalm world) makes.joins calm in
     let own : eqb ask.from.client client ≡ true = (Decides-eqb ask.from.client client).1 makes.own in
-    let shown : ShowsNoWant (cond (eqb ask.from.client client) (asked (suc (length old.history)) ask s) s) =
+    let shown : ShowsNoWant (cond (eqb ask.from.client client) (asked world.digest (suc (length old.history)) ask s) s) =
     now.answers client (subst (λ c. c < length world.setup.clients) makes.own makes.may.client) in
-    let none : ShowsNoWant (asked (suc (length old.history)) ask s) =
-    subst (λ b. ShowsNoWant (cond b (asked (suc (length old.history)) ask s) s)) own shown in
-    let next : next_step (planned s) ≡ asks number ask = is_planned s number ask s.sent duty (record { results = none.results; stage = none.stage }) in
+    let none : ShowsNoWant (asked world.digest (suc (length old.history)) ask s) =
+    subst (λ b. ShowsNoWant (cond b (asked world.digest (suc (length old.history)) ask s) s)) own shown in
+    let next : next_step (planned world.digest s) ≡ asks number ask = is_planned world.digest s number ask s.sent duty (record { results = none.results; stage = none.stage }) in
     record {
-      can = can_make (is_gone old client) (next_step (planned s)) number ask makes.here next;
+      can = can_make (is_gone old client) (next_step (planned world.digest s)) number ask makes.here next;
       leads = record { calm = asking_calm world client old new makes calm; same = makes.joins ∙ ap (λ n. with_ask n old) (sym next) };
     }
   where
@@ -88,8 +89,8 @@ made_next world client old new makes calm =
 
 -- ---- no client is gone
 
-none_last : Lasts (λ s. s.left ≡ [])
-none_last = record {
+none_last : (digest : List ℕ → Id) → Lasts digest (λ s. s.left ≡ [])
+none_last digest = record {
   composing = λ s none. none;
   ending = λ given place s none. ap rest_of none;
   again = λ s none. none;
@@ -104,39 +105,39 @@ starting_none world client (Some line) is = absurd (cc)
 none_left : (world : World) (client : ℕ) (h : List Event) → slice_get world.setup.clients client ≡ None → (client_after world client h).left ≡ []
 none_left world client [] is = starting_none world client (slice_get world.setup.clients client) is
 none_left world client (event.Ask number ask ∷ h) is =
-    let s : Client = client_after world client h in
-    if_both (λ (t : Client). t.left ≡ []) (eqb ask.from.client client) (asked (suc (length h)) ask s) s
-    (begun_lasts (λ t. t.left ≡ []) none_last ask s.sent s (none_left world client h is)) (none_left world client h is)
+    let s : ClientState = client_after world client h in
+    if_both (λ (t : ClientState). t.left ≡ []) (eqb ask.from.client client) (asked world.digest (suc (length h)) ask s) s
+    (begun_lasts world.digest (λ t. t.left ≡ []) (none_last world.digest) ask s.sent s (none_left world client h is)) (none_left world client h is)
 none_left world client (event.Serve number ask_place given ∷ h) is =
-    served_lasts (λ t. t.left ≡ []) none_last (λ place told t none. none) ask_place (told_reply (suc (length h)) (heard given)) (client_after world client h)
+    served_lasts world.digest (λ t. t.left ≡ []) (none_last world.digest) (λ place told t none. none) ask_place (told_reply (suc (length h)) (heard given)) (client_after world client h)
     (none_left world client h is)
 
-planned_left : (sent : List Sent) (s : Client) → (planned_from sent s).left ≡ s.left
-planned_left [] s = refl
-planned_left (x ∷ sent) s = refl
+planned_left : (digest : List ℕ → Id) (sent : List Sent) (s : ClientState) → (planned_from digest sent s).left ≡ s.left
+planned_left digest [] s = refl
+planned_left digest (x ∷ sent) s = refl
 
 pub asking_of : (a b : Bool) → (a && b) ≡ true → b ≡ true
 asking_of true b e = e
 asking_of false b e = absurd (cc)
 
 -- a client that has an ask to make is there
-pub asks_within : (world : World) (client : ℕ) (h : List Event) → is_ask (next_step (planned (client_after world client h))) ≡ true → client < length world.setup.clients
+pub asks_within : (world : World) (client : ℕ) (h : List Event) → is_ask (next_step (planned world.digest (client_after world client h))) ≡ true → client < length world.setup.clients
 asks_within world client h asking = by (slice_get world.setup.clients client) refl
   where
-    s : Client
+    s : ClientState
     s = client_after world client h
 
     by : (line : Option ClientLine) → slice_get world.setup.clients client ≡ line → client < length world.setup.clients
     by None at =
-        let none : (planned s).left ≡ [] = planned_left s.sent s ∙ none_left world client h at in
-        let over : is_ask (next_step (planned s)) ≡ false = ap (λ calls. is_ask (next_in (planned s) calls)) none in
+        let none : (planned world.digest s).left ≡ [] = planned_left world.digest s.sent s ∙ none_left world client h at in
+        let over : is_ask (next_step (planned world.digest s)) ≡ false = ap (λ calls. is_ask (next_in (planned world.digest s) calls)) none in
         absurd (cc)
     by (Some line) at = slice_get_within world.setup.clients client line at
 
 none_gives_up : (world : World) (client : ℕ) (old new : Scene) → GivesUp world client old new → IsCalm world new → ⊥
 none_gives_up world client old new gives calm =
     let now : IsCalm world (record { history = old.history; gone = slice_set old.gone client true }) = subst (IsCalm world) gives.gone calm in
-    let asking : is_ask (next_step (planned (client_in world old client))) ≡ true = asking_of (not (is_gone old client)) _ gives.can in
+    let asking : is_ask (next_step (planned world.digest (client_in world old client))) ≡ true = asking_of (not (is_gone old client)) _ gives.can in
     let within : client < length world.setup.clients = asks_within world client old.history asking in
     let size : length (slice_set old.gone client true) ≡ length old.gone = length-set old.gone client true in
     let sized : length (slice_set old.gone client true) ≡ length world.setup.clients = now.sized in
@@ -168,7 +169,7 @@ serve_leads world p old new makes calm =
         sized = now.sized;
         here = now.here;
         replies = false_behind (is_no_mem given) _ now.replies;
-        answers = λ each within. before_served p.place (told_reply (suc (length h)) (heard given)) (client_in world old each) (now.answers each within);
+        answers = λ each within. before_served world.digest p.place (told_reply (suc (length h)) (heard given)) (client_in world old each) (now.answers each within);
       };
       same = makes.joins ∙ ap (λ r. with_event (event.Serve p.number p.place r) old) is;
     }

@@ -1,5 +1,6 @@
 -- Which answers the turns of a client bring.
 use Rattle.std.proofs.Common.{◌≡◌, ℕ, ◌==◌, Bool, true, false, if◌then◌else◌, List, [], ◌∷◌, ◌++◌, Option, Some, None, refl, ap}
+use Rattle.inf_base.specs.declared.id.Id.{Id}
 use Rattle.std.specs.List.{list_any}
 use Rattle.inf_base.specs.declared.answer.Answer.{Answer}
 use Rattle.inf_base.specs.declared.answer.Answer.TheVariants as answer
@@ -10,7 +11,7 @@ use Rattle.inf_base.specs.declared.file.FileMeta.{FileMeta}
 use Rattle.inf_base.specs.declared.item.Kind.{Kind}
 use Rattle.inf_base.specs.declared.triple.Triple.{Triple}
 use Rattle.inf_base.specs.Same.{dir_of}
-use Rattle.inf_flow_dir.specs.Client.{Client, Ending, Sent, Stage, act, answers, compose, retries, round, winds}
+use Rattle.inf_flow_dir.specs.Client.{ClientState, Ending, Sent, Stage, act, answers, compose, retries, round, winds}
 use Rattle.inf_flow_dir.specs.Flow.{Flow, Who, birth_of, finishes, links, makes, reserves, seals, unlinks}
 use Rattle.inf_flow_dir.specs.Group.{Course, composed_stage, keys_of, next_course}
 use Rattle.inf_flow_dir.specs.Turn.{Next, Turn, act_turn, after_act, after_make, after_round, by_next, fails, follow, from_root, goes_on, is_busy, links_to, next_entry, steps, stops, told_entry, turn_at, wants_memory, winds_up}
@@ -33,16 +34,16 @@ abbrev pub TurnHas : (Answer → Type 0) → Turn → Type 0
 TurnHas P (goes_on next) = StageHas P next
 TurnHas P (winds_up ending more) = EndingHas P ending
 
-keys_have : (P : Answer → Type 0) (who : Who) (course : Option Course) → StageHas P (keys_of who course)
-keys_have P who None = tt
-keys_have P who (Some course) = tt
+keys_have : (digest : List ℕ → Id) (P : Answer → Type 0) (who : Who) (course : Option Course) → StageHas P (keys_of digest who course)
+keys_have digest P who None = tt
+keys_have digest P who (Some course) = tt
 
 -- settling what is asked for changes nothing of it
-pub composed_has : (P : Answer → Type 0) (s : Client) (stage : Stage) → StageHas P stage → StageHas P (composed_stage s stage)
-composed_has P s compose has = keys_have P s.who (next_course s.left)
-composed_has P s (round keys) has = has
-composed_has P s (act flow) has = has
-composed_has P s (winds ending m ms) has = has
+pub composed_has : (digest : List ℕ → Id) (P : Answer → Type 0) (s : ClientState) (stage : Stage) → StageHas P stage → StageHas P (composed_stage digest s stage)
+composed_has digest P s compose has = keys_have digest P s.who (next_course s.left)
+composed_has digest P s (round keys) has = has
+composed_has digest P s (act flow) has = has
+composed_has digest P s (winds ending m ms) has = has
 
 -- so are the answers that a server's reply may bring, but for want of memory
 pub record IsOfReplies (P : Answer → Type 0) : Type 0 where
@@ -56,7 +57,7 @@ pub record IsOfReplies (P : Answer → Type 0) : Type 0 where
 abbrev pub wants : List Sent → Bool
 wants sent = list_any (λ (x : Sent). wants_memory x.told) sent
 
-module _ (P : Answer → Type 0) (of : IsOfReplies P) where
+module _ (digest : List ℕ → Id) (P : Answer → Type 0) (of : IsOfReplies P) where
   -- ---- after a message of a flow
 
   fails_has : (who : Who) (flow : Flow) (place : ℕ) (given : Reply) → (given ≡ reply.NoMem → P answer.NoMemory) → TurnHas P (fails who flow place given)
@@ -71,14 +72,14 @@ module _ (P : Answer → Type 0) (of : IsOfReplies P) where
   make_has who flow own place any_reply wanting = fails_has who flow place any_reply wanting
 
   act_has : (who : Who) (flow : Flow) (asked place : ℕ) (given : Reply) → (given ≡ reply.NoMem → P answer.NoMemory)
-      → TurnHas P (after_act who flow asked place given)
+      → TurnHas P (after_act digest who flow asked place given)
   act_has who (finishes chain (op.Create name mode)) asked place reply.Fine wanting = of.done
   act_has who (finishes chain (op.Stat name)) asked place (reply.Stat kind meta) wanting = of.stat kind meta
   act_has who (reserves chain name mode) asked place (reply.Reserved version) wanting = tt
-  act_has who (makes chain name mode version) asked place reply.Fine wanting = tt
-  act_has who (makes chain name mode version) asked place given wanting =
-      make_has who (makes chain name mode version) (birth_of who chain name version) place given wanting
-  act_has who (links chain name mode version born) asked place reply.Fine wanting = of.done
+  act_has who (makes chain name mode version id) asked place reply.Fine wanting = tt
+  act_has who (makes chain name mode version id) asked place given wanting =
+      make_has who (makes chain name mode version id) (birth_of who chain name version) place given wanting
+  act_has who (links chain name mode version dir) asked place reply.Fine wanting = of.done
   act_has who (seals chain) asked place reply.Fine wanting = tt
   act_has who (unlinks chain) asked place reply.Fine wanting = of.done
   act_has who flow asked place given wanting = fails_has who flow place given wanting
@@ -149,16 +150,16 @@ module _ (P : Answer → Type 0) (of : IsOfReplies P) where
 
   told_has : (who : Who) (flow : Flow) (place : ℕ) (told : Option Told) (xs : List Sent)
       → (wants (record { place = place; told = told } ∷ xs) ≡ true → P answer.NoMemory)
-      → TurnHas P (act_turn who flow (record { place = place; told = told } ∷ xs))
+      → TurnHas P (act_turn digest who flow (record { place = place; told = told } ∷ xs))
   told_has who flow place None xs wanting = tt
   told_has who flow place (Some told) xs wanting =
       act_has who flow place told.serve_place told.reply (wanted_first place told.serve_place told.reply xs wanting)
 
-  flow_has : (who : Who) (flow : Flow) (sent : List Sent) → (wants sent ≡ true → P answer.NoMemory) → TurnHas P (act_turn who flow sent)
+  flow_has : (who : Who) (flow : Flow) (sent : List Sent) → (wants sent ≡ true → P answer.NoMemory) → TurnHas P (act_turn digest who flow sent)
   flow_has who flow [] wanting = tt
   flow_has who flow (x ∷ xs) wanting = told_has who flow x.place x.told xs wanting
 
-  pub turn_has : (s : Client) (stage : Stage) → StageHas P stage → (wants s.sent ≡ true → P answer.NoMemory) → TurnHas P (turn_at s stage)
+  pub turn_has : (s : ClientState) (stage : Stage) → StageHas P stage → (wants s.sent ≡ true → P answer.NoMemory) → TurnHas P (turn_at digest s stage)
   turn_has s compose has wanting = tt
   turn_has s (round keys) has wanting = round_has (next_course s.left) s.sent wanting
   turn_has s (act flow) has wanting = flow_has s.who flow s.sent wanting

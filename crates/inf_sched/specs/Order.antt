@@ -1,7 +1,7 @@
 -- The outcomes that an order makes.
 use Rattle.std.specs.Prelude.{◌≡◌, ℕ, ◌+◌, Bool, true, false, List, [], ◌∷◌, ◌++◌}
 use Rattle.inf_base.specs.declared.setup.ClientLine.{ClientLine}
-use Rattle.inf_flow_dir.specs.Client.{Client}
+use Rattle.inf_flow_dir.specs.Client.{ClientState}
 use Rattle.inf_duty.specs.Outcome.{all_given_up, results_of}
 use Rattle.inf_duty.specs.World.{World}
 use Rattle.inf_message.specs.declared.call_result.CallResult.{CallResult}
@@ -16,7 +16,7 @@ ByMoves world [] old new = new ≡ old
 ByMoves world (move ∷ moves) old new = FollowedBy (λ mid. ByMove world move old mid) (λ mid. ByMoves world moves mid new)
 
 -- what a client's calls came to: where it gave up what was left, these calls wanted memory; else they are unanswered
-abbrev pub came_to : Bool → Client → List CallResult
+abbrev pub came_to : Bool → ClientState → List CallResult
 came_to true s = results_of (all_given_up s.left s)
 came_to false s = results_of s
 

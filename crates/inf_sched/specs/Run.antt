@@ -1,10 +1,9 @@
 -- What contracts see of a run, and what it keeps behind that.
 use Rattle.std.specs.Prelude.{◌≡◌, ◌⊎◌, ℕ, zero, suc, ◌+◌, Bool, true, false, List, [], ◌∷◌, ◌++◌, length, map, reverse, slice_get, Some, None}
-use Rattle.inf_flow_dir.specs.Client.{Client}
+use Rattle.inf_flow_dir.specs.Client.{ClientState}
 use Rattle.inf_duty.specs.Start.{start}
 use Rattle.inf_core.specs.Core.{IsSameRun, Running}
 use Rattle.inf_laws_history.specs.Legal.{Legal, MayAsk, MayServe}
-use Rattle.inf_base.specs.declared.id.Id.{Id}
 use Rattle.inf_duty.specs.After.{client_after}
 use Rattle.inf_duty.specs.Outcome.{all_given_up, may_give_up, results_of}
 use Rattle.inf_duty.specs.World.{World}
@@ -13,8 +12,7 @@ use Rattle.inf_message.specs.declared.call_result.CallResult.{CallResult}
 use Rattle.inf_message.specs.declared.event.Event.{Event}
 use Rattle.inf_message.specs.declared.event.Event.TheVariants as event
 use Rattle.inf_message.specs.History.{Own, asks_of, made_ask, own_ask, served_at, told_reply}
-use Rattle.inf_client.specs.ActorBy.{ActorBy, actor_by}
-use Rattle.inf_client.specs.Actor.{Actor, actor, wants_to_ask}
+use Rattle.inf_client.specs.Client.{Client, client_with, wants_to_ask}
 use Rattle.inf_trips.specs.AskLog.{no_asks}
 use Rattle.inf_sched.specs.declared.stepping.Stepped.{Stepped}
 use Rattle.inf_sched.specs.declared.stepping.Stepped.TheVariants as stepped
@@ -34,58 +32,51 @@ playing core gone = record { core = core; gone = gone }
 abbrev pub scene_of : {R : Type 0} → Playing R → Scene
 scene_of run = record { history = run.core.history; gone = run.gone }
 
-abbrev pub gone_of : List Actor → List Bool
-gone_of actors = map (λ (a : Actor). a.gone) actors
-
--- clients as code has them, with the rule that makes identifiers
-abbrev pub gone_by : {A : Type 0} → List (ActorBy A) → List Bool
-gone_by actors = map (λ (a : ActorBy _). a.gone) actors
-
-abbrev pub actors_by : {A : Type 0} → (A → List ℕ → Id) → List (ActorBy A) → List Actor
-actors_by digest_of actors = map (actor_by digest_of) actors
+abbrev pub gone_of : List Client → List Bool
+gone_of clients = map (λ (a : Client). a.gone) clients
 
 -- ---- what a run keeps
 
 -- between two groups it gave up all that it had left
-pub record IsGivenUp (s state : Client) : Type 0 where
+pub record IsGivenUp (s state : ClientState) : Type 0 where
   pub between : s.sent ≡ []
   pub all : state ≡ all_given_up s.left s
 
-abbrev pub IsStateOf : Bool → Client → Client → Type 0
+abbrev pub IsStateOf : Bool → ClientState → ClientState → Type 0
 IsStateOf true s state = IsGivenUp s state
 IsStateOf false s state = state ≡ s
 
 -- a client in code is as its events leave it
-abbrev pub IsActor : Client → Actor → Type 0
-IsActor s a = IsStateOf a.gone s a.state
+abbrev pub IsClient : ClientState → Client → Type 0
+IsClient s a = IsStateOf a.gone s a.state
 
 -- the Asks of a client in the order of asking, each with its answer, if it was served
 abbrev pub asks_shown : ℕ → List Event → List Own
 asks_shown client h = reverse (asks_of client h)
 
-pub record AreActors (world : World) (h : List Event) (actors : List Actor) : Type 0 where
-  pub count : length actors ≡ length world.setup.clients
-  pub each : (client : ℕ) (a : Actor) → slice_get actors client ≡ Some a → IsActor (client_after world client h) a
+pub record AreClients (world : World) (h : List Event) (clients : List Client) : Type 0 where
+  pub count : length clients ≡ length world.setup.clients
+  pub each : (client : ℕ) (a : Client) → slice_get clients client ≡ Some a → IsClient (client_after world client h) a
   -- what it keeps of its Asks is what its events show
-  pub asks : (client : ℕ) (a : Actor) → slice_get actors client ≡ Some a → a.log.asks ≡ asks_shown client h
+  pub asks : (client : ℕ) (a : Client) → slice_get clients client ≡ Some a → a.log.asks ≡ asks_shown client h
   -- it was told of no ask that it did not make
-  pub idle : (client : ℕ) (a : Actor) → slice_get actors client ≡ Some a → a.handed ≡ false
+  pub idle : (client : ℕ) (a : Client) → slice_get clients client ≡ Some a → a.handed ≡ false
 
 -- so many queues, each with the Asks that fit
 pub record AreQueues (fits : ℕ → Posting → Bool) (h : List Event) (many : ℕ) (queues : List (List Posting)) : Type 0 where
   pub count : length queues ≡ many
   pub each : (index : ℕ) (queue : List Posting) → slice_get queues index ≡ Some queue → IsQueue (fits index) h queue
 
-pub record IsKept (world : World) (h : List Event) (actors : List Actor) (to_server by_client : List (List Posting)) : Type 0 where
+pub record IsKept (world : World) (h : List Event) (now : List Client) (to_server by_client : List (List Posting)) : Type 0 where
   pub legal : Legal world h
-  pub clients : AreActors world h actors
+  pub clients : AreClients world h now
   pub servers : AreQueues is_to h (world.setup.servers + 1) to_server
   pub askers : AreQueues is_by h (length world.setup.clients) by_client
 
 -- ---- what comes of letting a client ask
 
 -- it asked, and the posting is its Ask's
-pub record Asked (world : World) (client : ℕ) (p : Posting) (h after : List Event) (a b : Actor) : Type 0 where
+pub record Asked (world : World) (client : ℕ) (p : Posting) (h after : List Event) (a b : Client) : Type 0 where
   pub number : ℕ
   pub ask : Ask
   pub here : a.gone ≡ false
@@ -96,31 +87,31 @@ pub record Asked (world : World) (client : ℕ) (p : Posting) (h after : List Ev
   pub still_here : b.gone ≡ false
   pub asks : b.log.asks ≡ a.log.asks ++ own_ask (made_ask number ask (suc (length h))) None ∷ []
   pub idle : b.handed ≡ false
-  pub actor : IsActor (client_after world client after) b
+  pub is_client : IsClient (client_after world client after) b
   pub legal : Legal world after
 
 -- it gave up all that it had left
-pub record HasGivenUp (world : World) (client : ℕ) (h after : List Event) (a b : Actor) : Type 0 where
+pub record HasGivenUp (world : World) (client : ℕ) (h after : List Event) (a b : Client) : Type 0 where
   pub here : a.gone ≡ false
-  pub asking : wants_to_ask a ≡ true
+  pub asking : wants_to_ask world.digest a ≡ true
   pub between : a.state.sent ≡ []
   pub free : may_give_up a.state ≡ true
   pub same : after ≡ h
   pub gone : b.gone ≡ true
   pub asks : b.log.asks ≡ a.log.asks
   pub idle : b.handed ≡ false
-  pub actor : IsActor (client_after world client h) b
+  pub is_client : IsClient (client_after world client h) b
 
 -- it has no ask to make
-pub record HasRested (h after : List Event) (a b : Actor) : Type 0 where
-  pub idle : wants_to_ask a ≡ false
+pub record HasRested (world : World) (h after : List Event) (a b : Client) : Type 0 where
+  pub idle : wants_to_ask world.digest a ≡ false
   pub same : after ≡ h
-  pub actor : b ≡ a
+  pub is_client : b ≡ a
 
-abbrev pub Did : World → ℕ → Stepped → List Event → List Event → Actor → Actor → Type 0
+abbrev pub Did : World → ℕ → Stepped → List Event → List Event → Client → Client → Type 0
 Did world client (stepped.Asked p) h after a b = Asked world client p h after a b
 Did world client stepped.GaveUp h after a b = HasGivenUp world client h after a b
-Did world client stepped.Rested h after a b = HasRested h after a b
+Did world client stepped.Rested h after a b = HasRested world h after a b
 
 -- what it did that made no ask
 abbrev pub rested : Bool → Bool → Stepped
@@ -129,14 +120,14 @@ rested was_gone is_gone = stepped.Rested
 
 -- ---- what comes of serving an Ask
 
-pub record HasServed (world : World) (p : Posting) (h after : List Event) (a b : Actor) : Type 0 where
+pub record HasServed (world : World) (p : Posting) (h after : List Event) (a b : Client) : Type 0 where
   pub given : Reply
   pub may : MayServe world h p.number p.place given
   pub joins : after ≡ event.Serve p.number p.place given ∷ h
   pub same_gone : b.gone ≡ a.gone
   pub same_handed : b.handed ≡ a.handed
   pub asks : b.log.asks ≡ map (served_at p.place (told_reply (suc (length h)) given)) a.log.asks
-  pub actor : IsActor (client_after world p.client after) b
+  pub is_client : IsClient (client_after world p.client after) b
   pub legal : Legal world after
 
 -- ---- steps of a run
@@ -153,17 +144,17 @@ unset zero = []
 unset (suc many) = false ∷ unset many
 
 -- the first so many clients before anything has happened
-pub record AreOpening (world : World) (many : ℕ) (actors : List Actor) : Type 0 where
-  pub count : length actors ≡ many
-  pub each : (client : ℕ) (a : Actor) → slice_get actors client ≡ Some a → a ≡ actor (start world client) false no_asks false
-  pub gone : gone_of actors ≡ unset many
+pub record AreOpening (world : World) (many : ℕ) (clients : List Client) : Type 0 where
+  pub count : length clients ≡ many
+  pub each : (client : ℕ) (a : Client) → slice_get clients client ≡ Some a → a ≡ client_with (start world client) false no_asks false
+  pub gone : gone_of clients ≡ unset many
 
 pub record AreEmpty (many : ℕ) (queues : List (List Posting)) : Type 0 where
   pub count : length queues ≡ many
   pub each : (index : ℕ) (queue : List Posting) → slice_get queues index ≡ Some queue → queue ≡ []
 
-abbrev pub results_of_actor : Actor → List CallResult
-results_of_actor a = results_of a.state
+abbrev pub results_of_client : Client → List CallResult
+results_of_client a = results_of a.state
 
 -- ---- a client that goes on alone
 

@@ -1,7 +1,7 @@
 -- Where a run stands, and the steps that it takes: a client asks, or wants memory; a server serves.
 use Rattle.std.specs.Prelude.{◌≡◌, ◌⊎◌, ℕ, Bool, true, false, ◌&&◌, ◌||◌, not, nat_lt, List, [], ◌∷◌, length, map, slice_get, slice_set, Option, Some, None}
 use Rattle.inf_base.specs.declared.setup.ClientLine.{ClientLine}
-use Rattle.inf_flow_dir.specs.Client.{Client}
+use Rattle.inf_flow_dir.specs.Client.{ClientState}
 pub use Rattle.inf_client.specs.Planned.{planned, planned_from}
 pub use Rattle.inf_duty.specs.ClientStep.{is_ask}
 use Rattle.inf_duty.specs.Duty.{next_step}
@@ -31,14 +31,14 @@ abbrev pub is_gone : Scene → ℕ → Bool
 is_gone scene client = is_set (slice_get scene.gone client)
 
 -- a client as its own events leave it
-abbrev pub client_in : World → Scene → ℕ → Client
+abbrev pub client_in : World → Scene → ℕ → ClientState
 client_in world scene client = client_after world client scene.history
 
 -- ---- what a client may do
 
 -- whether the client has an ask to make
 abbrev pub can_ask : World → Scene → ℕ → Bool
-can_ask world scene client = not (is_gone scene client) && is_ask (next_step (planned (client_in world scene client)))
+can_ask world scene client = not (is_gone scene client) && is_ask (next_step (planned world.digest (client_in world scene client)))
 
 -- the client makes an ask: its next one; where it wanted memory for some calls, its next one behind these; where it wanted
 -- memory in the midst of a flow, the first of what lifts that flow's changes

@@ -38,7 +38,7 @@ with_ask is_over scene = scene
 
 -- the client makes its next ask
 abbrev pub with_next_ask : World → ℕ → Scene → Scene
-with_next_ask world client scene = with_ask (next_step (planned (client_in world scene client))) scene
+with_next_ask world client scene = with_ask (next_step (planned world.digest (client_in world scene client))) scene
 
 -- what the machine replies to the Ask at this place; where there is none, nothing is served
 abbrev pub reply_to : World → ℕ → ℕ → List Event → Option Posted → Reply

@@ -2,21 +2,17 @@
 
 ghost use Rattle.std.specs.Prelude.{◌≡◌, IfOk};
 ghost use Rattle.std.specs.List.{flat_map};
-ghost use Rattle.inf_sched.specs.Run.{actors_by, results_of_actor};
+ghost use Rattle.inf_sched.specs.Run.{results_of_client};
 
 use inf_base::NoMemory;
-use inf_birth::IdRule;
 use inf_client::Client;
 use inf_message::CallResult;
 use std::alloc::Global;
 
 /// The results of all clients, one client after another.
-pub fn all_results<R: IdRule>(
-    alloc: Global,
-    clients: Vec<Client<R>>,
-) -> Result<Vec<CallResult>, NoMemory>
+pub fn all_results(alloc: Global, clients: Vec<Client>) -> Result<Vec<CallResult>, NoMemory>
     ensures { IfOk result (λ results. results.items
-        ≡ flat_map results_of_actor (actors_by R.digest_of clients.items)) }
+        ≡ flat_map results_of_client clients.items) }
 {
     let mut results = Vec::new(alloc);
     for client in clients {

@@ -10,11 +10,11 @@ ghost use Rattle.inf_message.specs.declared.call_result.CallResult.{CallResult};
 ghost use Rattle.inf_message.specs.declared.event.Event.{Event};
 ghost use Rattle.inf_message.specs.History.{trips_of};
 ghost use Rattle.inf_order.specs.declared.moves.Move.{Move};
-ghost use Rattle.inf_client.specs.Actor.{Actor, trips_of_actor};
+ghost use Rattle.inf_client.specs.Client.{Client, trips_of_client};
 ghost use Rattle.inf_sched.specs.Endings.{IsLeftOpen};
 ghost use Rattle.inf_sched.specs.Laws.{IsStraight, MakesCalmly};
 ghost use Rattle.inf_sched.specs.Order.{ByOrder, results_in};
-ghost use Rattle.inf_sched.specs.Run.{AreActors, IsActor};
+ghost use Rattle.inf_sched.specs.Run.{AreClients, IsClient};
 ghost use Rattle.inf_sched.specs.Scene.{opening};
 ghost use Rattle.inf_sched.specs.Straight.{straight};
 
@@ -69,14 +69,14 @@ pub fn calls_left_open_are_unanswered()
 
 /// A client of a run keeps exactly its trips of the history, the oldest first.
 pub fn clients_keep_their_trips()
-    ensures { (world : World) (h : List Event) (actors : List Actor) (client : ℕ) (a : Actor)
-        → AreActors world h actors → slice_get actors client ≡ Some a
-        → trips_of_actor a ≡ reverse (trips_of client h) }
+    ensures { (world : World) (h : List Event) (clients : List Client) (client : ℕ) (a : Client)
+        → AreClients world h clients → slice_get clients client ≡ Some a
+        → trips_of_client a ≡ reverse (trips_of client h) }
 {}
 
 /// And its state, and so its results, is what its Asks show, those that wait among them.
 pub fn kept_asks_show_the_client()
-    ensures { (world : World) (h : List Event) (actors : List Actor) (client : ℕ) (a : Actor)
-        → Legal world h → AreActors world h actors → slice_get actors client ≡ Some a
-        → IsActor (client_of world client (map own_of a.log.asks)) a }
+    ensures { (world : World) (h : List Event) (clients : List Client) (client : ℕ) (a : Client)
+        → Legal world h → AreClients world h clients → slice_get clients client ≡ Some a
+        → IsClient (client_of world client (map own_of a.log.asks)) a }
 {}

@@ -4,7 +4,7 @@ ghost use Rattle.std.specs.Prelude.{◌≤◌, length, IfOk};
 ghost use Rattle.inf_base.specs.declared.limits.TheConstants.{MOST_CALLS, MOST_CLIENTS};
 ghost use Rattle.inf_base.specs.Setup.{call_count};
 ghost use Rattle.inf_duty.specs.World.{world_by};
-ghost use Rattle.inf_sched.specs.Run.{AreEmpty, AreOpening, actors_by};
+ghost use Rattle.inf_sched.specs.Run.{AreEmpty, AreOpening};
 
 use crate::queue::Queue;
 use inf_base::{NoMemory, Setup};
@@ -16,14 +16,14 @@ use std::alloc::Global;
 /// The clients of a setup, of which none has asked for anything.
 pub fn open_clients<R: IdRule>(
     alloc: Global,
-    rule: R,
+    rule: &R,
     setup: &Setup,
-) -> Result<Vec<Client<R>>, NoMemory>
+) -> Result<Vec<Client>, NoMemory>
     requires some_servers { 1 ≤ setup.now.servers }
     requires few_calls { call_count setup.now.clients ≤ MOST_CALLS }
     requires few_clients { length setup.now.clients ≤ MOST_CLIENTS }
-    ensures { IfOk result (λ clients. AreOpening (world_by (R.digest_of rule) setup.now)
-        (length setup.now.clients) (actors_by R.digest_of clients.items)) }
+    ensures { IfOk result (λ clients. AreOpening (world_by (R.digest_of rule.now) setup.now)
+        (length setup.now.clients) clients.items) }
 {
     let mut clients = Vec::new(alloc);
     for number in 0..setup.clients.len() {

@@ -32,7 +32,7 @@ use std::marker::Model;
 pub struct Run<R: IdRule> {
     alloc: Global,
     core: Core<R>,
-    clients: Vec<Client<R>>,
+    clients: Vec<Client>,
     /// By number, the coordinator last.
     to_server: Vec<Queue>,
     by_client: Vec<Queue>,
@@ -40,13 +40,13 @@ pub struct Run<R: IdRule> {
 
 impl<R: IdRule> Model for Run<R> {
     ghost use Rattle.inf_core.specs.Core.{world_in};
-    ghost use Rattle.inf_sched.specs.Run.{IsKept, Playing, actors_by, gone_by, playing};
+    ghost use Rattle.inf_sched.specs.Run.{IsKept, Playing, gone_of, playing};
 
     ghost Value = { Playing R };
 
-    ghost view = { λ r. playing r.core (gone_by r.clients.items) };
+    ghost view = { λ r. playing r.core (gone_of r.clients.items) };
 
-    ghost invariant = { λ r. IsKept (world_in R.digest_of r.core) r.core.history (actors_by R.digest_of r.clients.items)
+    ghost invariant = { λ r. IsKept (world_in R.digest_of r.core) r.core.history r.clients.items
         r.to_server.items r.by_client.items };
 }
 
@@ -60,7 +60,7 @@ impl<R: IdRule> Run<R> {
         ensures core { IfOk result (λ run. run.core ≡ record { rule = rule; setup = setup; history = [] }) }
         ensures opening { IfOk result (λ run. scene_of run ≡ opening (world_by (R.digest_of rule) setup)) }
     {
-        let clients = open_clients(alloc, rule, &setup)?;
+        let clients = open_clients(alloc, &rule, &setup)?;
         let to_server = open_queues(alloc, setup.servers as usize + 1)?;
         let by_client = open_queues(alloc, setup.clients.len())?;
         let core = Core::new(alloc, setup, rule)?;
@@ -183,8 +183,8 @@ impl<R: IdRule> Run<R> {
         ensures { result ≡ has_ended (world_in R.digest_of self.now.core) client number
             (scene_of self.now) }
     {
-        let actor = &self.clients[client as usize];
-        actor.has_given_up() || number < actor.number()
+        let found = &self.clients[client as usize];
+        found.has_given_up() || number < found.number()
     }
 
     /// Whether the client gave up all that it had left.

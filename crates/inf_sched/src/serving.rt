@@ -1,10 +1,9 @@
 //! What comes of serving an Ask.
 
 ghost use Rattle.std.specs.Prelude.{OnOk};
-ghost use Rattle.inf_client.specs.ActorBy.{actor_by};
 ghost use Rattle.inf_core.specs.Core.{IsSameRun, world_in};
 ghost use Rattle.inf_duty.specs.After.{client_after};
-ghost use Rattle.inf_sched.specs.Run.{HasServed, IsActor};
+ghost use Rattle.inf_sched.specs.Run.{HasServed, IsClient};
 ghost use Rattle.inf_sched.specs.Waiting.{IsWaiting};
 
 use crate::posting::Posting;
@@ -17,17 +16,18 @@ use inf_core::Core;
 /// The server of an Ask that waits serves it, and the client that made it is told.
 pub fn serve<R: IdRule>(
     core: &mut Core<R>,
-    client: &mut Client<R>,
+    client: &mut Client,
     posting: Posting,
 ) -> Result<(), NoMemory>
     requires waits { IsWaiting core.old.history posting }
-    requires actor { IsActor (client_after (world_in R.digest_of core.old)
-        posting.client core.old.history) (actor_by R.digest_of client.old) }
+    requires is_client { IsClient (client_after (world_in R.digest_of core.old)
+        posting.client core.old.history) client.old }
     ensures served { OnOk result (HasServed (world_in R.digest_of core.old) posting
-        core.old.history core.new.history (actor_by R.digest_of client.old) (actor_by R.digest_of client.new)) }
+        core.old.history core.new.history client.old client.new) }
     ensures same { OnOk result (IsSameRun core.old core.new) }
 {
+    let rule = core.rule();
     let (place, reply) = core.serve(posting.place)?;
-    client.told(posting.place, place, reply);
+    client.told(&rule, posting.place, place, reply);
     Ok(())
 }

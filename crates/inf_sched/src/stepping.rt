@@ -1,10 +1,9 @@
 //! What comes of letting a client ask.
 
 ghost use Rattle.std.specs.Prelude.{◌≡◌, ◌<◌, false, length, IfOk, OnOk};
-ghost use Rattle.inf_client.specs.ActorBy.{actor_by};
 ghost use Rattle.inf_core.specs.Core.{IsSameRun, world_in};
 ghost use Rattle.inf_duty.specs.After.{client_after};
-ghost use Rattle.inf_sched.specs.Run.{Did, IsActor, asks_shown, rested};
+ghost use Rattle.inf_sched.specs.Run.{Did, IsClient, asks_shown, rested};
 
 use crate::posting::Posting;
 use inf_base::NoMemory;
@@ -29,20 +28,20 @@ pub enum Stepped {
 pub fn let_ask<R: IdRule>(
     alloc: Global,
     core: &mut Core<R>,
-    client: &mut Client<R>,
+    client: &mut Client,
     number: u32,
 ) -> Result<Stepped, NoMemory>
     requires there { number < length core.old.setup.clients }
-    requires actor { IsActor (client_after (world_in R.digest_of core.old)
-        number core.old.history) (actor_by R.digest_of client.old) }
+    requires is_client { IsClient (client_after (world_in R.digest_of core.old)
+        number core.old.history) client.old }
     requires asks { client.old.log.asks ≡ asks_shown number core.old.history }
     requires idle { client.old.handed ≡ false }
     ensures did { IfOk result (λ stepped. Did (world_in R.digest_of core.old) number stepped
-        core.old.history core.new.history (actor_by R.digest_of client.old) (actor_by R.digest_of client.new)) }
+        core.old.history core.new.history client.old client.new) }
     ensures same { OnOk result (IsSameRun core.old core.new) }
 {
     let was_gone = client.has_given_up();
-    match client.step(alloc) {
+    match client.step(alloc, &core.rule()) {
         ClientStep::Ask(server, ask) => {
             let place = core.ask(server, ask)?;
             client.asked(place);
@@ -57,7 +56,7 @@ pub fn let_ask<R: IdRule>(
     }
 }
 
-fn rested<R: IdRule>(was_gone: bool, client: &Client<R>) -> Stepped
+fn rested(was_gone: bool, client: &Client) -> Stepped
     ensures { result ≡ rested was_gone client.now.gone }
 {
     if !was_gone && client.has_given_up() {

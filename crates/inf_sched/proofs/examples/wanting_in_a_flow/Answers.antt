@@ -24,7 +24,7 @@ scene h = record { history = h; gone = false ∷ [] }
 abbrev first : ℕ → List Event
 first count = drop (6 - count) lifted
 
-asking : (h : List Event) (asked : Request) → Duty (client_after mkdir_world 0 h) 0 (ask 0 asked)
+asking : (h : List Event) (asked : Request) → Duty mkdir_world.digest (client_after mkdir_world 0 h) 0 (ask 0 asked)
     → ByMove mkdir_world a_steps (scene h) (scene (asks 0 asked ∷ h))
 asking h asked duty = inl (inl (record { number = 0; ask = ask 0 asked; here = refl; own = refl; may = record { client = lit< tt; duty = duty }; joins = refl }))
 

@@ -1,16 +1,16 @@
 use Rattle.std.proofs.Common.{◌≡◌, ◌<◌, false, length, subst, ◌∙◌, sym, rules, arith}
 use Rattle.inf_core.specs.Core.{world_in}
-use Rattle.inf_client.specs.ActorBy.{actor_by}
 use Rattle.inf_sched.specs.Run.{Playing, scene_of}
 use Rattle.inf_sched.specs.Scene.{calls_left, is_gone}
-use Rattle.inf_sched.proofs.RunBy.{count_by, got_by, left_by}
+use Rattle.inf_sched.proofs.RunFacts.{got_there}
+use Rattle.inf_sched.proofs.OpeningFacts.{left_same}
 use Rattle.inf_sched.proofs.run.Run.calls_left.Goals as goal
 
 pub returns : goal.returns
 returns g c =
-    let within : c.args.client < length c.self.inside.clients.items = grind (arith, rules, c.self.invariant.clients.count, count_by g.R.IdRule.digest_of c.self.inside.clients.items) in
-    let at = got_by g.R.IdRule.digest_of c.self.inside.clients.items c.args.client c.index.result.now c.index.ensures within in
-    let is = c.self.invariant.clients.each c.args.client (actor_by g.R.IdRule.digest_of c.index.result.now) at in
+    let within : c.args.client < length c.self.inside.clients.items = grind (arith, rules, c.self.invariant.clients.count) in
+    let at = got_there c.self.inside.clients.items c.args.client c.index.result.now c.index.ensures within in
+    let is = c.self.invariant.clients.each c.args.client c.index.result.now at in
     let here = subst (λ (v : Playing _). is_gone (scene_of v) c.args.client ≡ false) (sym c.self.view_is) c.requires.here in
     subst (λ (v : Playing _). c.calls_left.result ≡ calls_left (world_in g.R.IdRule.digest_of v.core) (scene_of v) c.args.client) c.self.view_is
-    (c.calls_left.ensures ∙ left_by g.R.IdRule.digest_of (world_in g.R.IdRule.digest_of c.self.inside.core) c.self.inside.core.history c.self.inside.clients.items c.args.client c.index.result.now at is here)
+    (c.calls_left.ensures ∙ left_same (world_in g.R.IdRule.digest_of c.self.inside.core) c.self.inside.core.history c.self.inside.clients.items c.args.client c.index.result.now at is here)

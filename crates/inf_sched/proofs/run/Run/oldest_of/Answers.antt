@@ -1,6 +1,6 @@
 use Rattle.std.proofs.Common.{◌≡◌, Some, subst, ◌∙◌, rules, arith}
 use Rattle.inf_core.specs.Core.{world_in}
-use Rattle.inf_sched.specs.Run.{Playing, actors_by}
+use Rattle.inf_sched.specs.Run.{Playing}
 use Rattle.inf_sched.specs.Waiting.{is_for, oldest}
 use Rattle.inf_sched.proofs.RunFacts.{got_there, if_waiting, kept_front_by, oldest_of_is}
 use Rattle.inf_sched.proofs.run.Run.oldest_of.Goals as goal
@@ -17,7 +17,7 @@ returns-clause-waits g c = if_waiting (is_for c.args.number (Some c.args.client)
 pub invariant_of-self : goal.invariant_of-self
 invariant_of-self g c =
     let at = got_there c.self.inside.by_client.items c.args.client c.index_mut.result.now c.index_mut.ensures.value (search (rules, arith)) in
-    kept_front_by (world_in g.R.IdRule.digest_of c.self.inside.core) c.self.inside.core.history c.args.client (actors_by g.R.IdRule.digest_of c.self.inside.clients.items) c.self.inside.to_server.items c.self.inside.by_client.items
+    kept_front_by (world_in g.R.IdRule.digest_of c.self.inside.core) c.self.inside.core.history c.args.client c.self.inside.clients.items c.self.inside.to_server.items c.self.inside.by_client.items
     c.index_mut.result.now c.oldest_to.new.self c.self.invariant at c.oldest_to.ensures.left
 
 pub oldest_to-requires : goal.oldest_to-requires
