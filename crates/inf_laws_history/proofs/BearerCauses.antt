@@ -1,5 +1,5 @@
 -- Who bears a directory that is to be made and is there already: another client, which has not linked it yet, or sealed it.
-use Rattle.std.proofs.Common.{◌≡◌, bytes_eq, ◌≢◌, ◌⊎◌, inl, inr, ℕ, ◌==◌, ◌&&◌, Bool, true, false, not, cond, List, [], Option, Some, None, is_some, refl, sym, ap, ap₂, ◌∙◌, subst, arith}
+use Rattle.std.proofs.Common.{◌≡◌, bytes_eq, ◌≢◌, ◌⊎◌, inl, inr, ℕ, ◌==◌, ◌&&◌, Bool, true, false, not, cond, List, [], Option, Some, None, is_some, IfSome, refl, sym, ap, ap₂, ◌∙◌, subst, arith}
 use Rattle.std.specs.List.{list_any}
 use Rattle.std.proofs.lemmas.Bool.Decides.{Decides-eqb}
 use Rattle.std.proofs.lemmas.Slice.Eq.{bytes_eq-Decides}
@@ -16,6 +16,7 @@ use Rattle.inf_base.specs.Same.{dir_of, is_same_call, is_same_id, is_same_triple
 use Rattle.inf_content.specs.Contents.{bearer, bearer_or, content_at, content_of_id, empty_content, if_born, slots_found}
 use Rattle.inf_content.specs.Slot.{filled, reserves}
 use Rattle.inf_content.specs.Slots.{first, slot_in}
+use Rattle.inf_duty.specs.Outcome.{Outcome}
 use Rattle.inf_duty.specs.World.{World}
 use Rattle.inf_content.specs.Order.{AreInOrder}
 use Rattle.inf_laws_history.specs.Causes.{IsAgainBecause, before}
@@ -39,7 +40,7 @@ use Rattle.inf_server.specs.Machine.{on_request}
 use Rattle.inf_server.specs.State.{State, is_here, root_id}
 use Rattle.inf_laws_directory.specs.Objects.{content_in, directories_of}
 use Rattle.inf_laws_directory.specs.Owned.{Has, HasPlace, IsLinkedSomewhere, Links}
-use Rattle.inf_laws_directory.specs.Phases.{IsLoose, IsReserving, IsSealing, Phase, has_made, has_reserved, has_sealed, has_unlinked, idle}
+use Rattle.inf_laws_directory.specs.Phases.{IsLoose, IsReserving, IsSealing, Phase, Phases, has_made, has_reserved, has_sealed, has_unlinked, idle}
 use Rattle.inf_laws_directory.specs.Things.{a_dir, thing_in}
 use Rattle.inf_laws_directory.proofs.CallFacts.{same_call, same_call_self}
 use Rattle.inf_laws_server.specs.Passed.{IsAsked}
@@ -47,7 +48,9 @@ use Rattle.inf_laws_server.proofs.Serves.{blocked, may_reply}
 use Rattle.inf_laws_directory.proofs.ServedSlots.{slots_in_order}
 use Rattle.inf_laws_directory.proofs.SlotFacts.{first_is_changed, first_passes}
 use Rattle.inf_renames.proofs.RenamesFacts.{same_id}
-use Rattle.inf_laws_history.proofs.AgainCauses.{any_content, content_there, flies, found_at, last_of_three, owned_flies, same_client, sealing, way_is_other}
+use Rattle.inf_laws_history.proofs.AgainCauses.{acts, any_content, content_there, flies, found_at, last_of_three, owned_flies, same_client, sealing, way_is_other}
+use Rattle.inf_laws_history.proofs.BehindEntries.{Counts}
+use Rattle.inf_laws_history.proofs.UnderWayFacts.{was_under_way}
 use Rattle.inf_laws_history.proofs.BlockedRequests.{IsBlocked, IsBornAlready, is_of_self, request_busy}
 use Rattle.inf_laws_history.proofs.ClashCauses.{found_id, same_triple_self}
 use Rattle.inf_duty.proofs.BegunKept.{if_both}
@@ -304,6 +307,7 @@ module _ (world : World) (keeps : (h : List Event) → Legal world h → Kept wo
 
     -- what bears it: the call sealed it, or made it
     pub record IsBearing (by : CallRef) : Type 0 where
+      pub acts : kept.phases by ≢ idle
       pub flies_now : InFlight world h by
       pub is_other : by.client ≢ may.posted.ask.from.client
       pub touched : bears by birth content ≡ true
@@ -327,6 +331,7 @@ module _ (world : World) (keeps : (h : List Event) → Legal world h → Kept wo
         let it = sealing world h kept number content.dir sealer (record { content = content; here = here_too; there = at_dir; seal = sealed }) in
         let seals : is_of sealer content.seal ≡ true = ap (is_of sealer) sealed ∙ is_of_self sealer in
         record {
+          acts = λ none. subst (λ (p : Phase). IsSealing p content.dir) none it;
           flies_now = flies world h number sealer content.dir.id (identity world.digest birth) content here_too there
               (let others = seals in rw others refl);
           is_other = not_asker sealer (λ none. subst (λ (p : Phase). IsSealing p content.dir) none it)
@@ -341,6 +346,7 @@ module _ (world : World) (keeps : (h : List Event) → Legal world h → Kept wo
         let unlinked : was_linked content.dir h ≡ false = never_linked world keeps h legal content.maker content.triple content.dir acts was_made in
         let self = same_call_self content.maker in
         record {
+          acts = acts;
           flies_now = flies world h number content.maker content.dir.id (identity world.digest birth) content here_too there
               (last_of_three (is_of content.maker content.seal) (list_any (λ (e : List ℕ × Slot). is_taken content.maker e.1) content.slots)
               (is_unlinked content.maker h content) (and_true (is_same_call content.maker content.maker) _ self (ap not unlinked)));
@@ -359,7 +365,8 @@ module _ (world : World) (keeps : (h : List Event) → Legal world h → Kept wo
 -- ---- a Serve that replies Busy
 
 -- why a server replies that a call is in the way
-pub record IsWhy (world : World) (h : List Event) (number : ℕ) (by : CallRef) (at : Spot) (ask : Ask) : Type 0 where
+pub record IsWhy (world : World) (h : List Event) (phases : Phases) (number : ℕ) (by : CallRef) (at : Spot) (ask : Ask) : Type 0 where
+  pub acts : phases by ≢ idle
   pub is_other : by.client ≢ ask.from.client
   pub flies_now : InFlight world h by
   pub touched : touches by at ask.request (server_after world number h) ≡ true
@@ -372,28 +379,30 @@ module _ (world : World) (keeps : (h : List Event) → Legal world h → Kept wo
   abbrev state : State
   state = server_after world number h
 
-  by_bearing : IsBornAlready (site_of world number) state ask.request by at → IsWhy world h number by at ask
+  by_bearing : IsBornAlready (site_of world number) state ask.request by at → IsWhy world h (keeps h legal).phases number by at ask
   by_bearing born_already =
       let borne = born_already.is in
       let birth = born_already.birth in
       let it = bearing world keeps h legal number place (reply.Busy by at born) may birth born_already.is_make borne.content borne.here borne.there
       (same_triple borne.content.triple birth borne.same) by borne.bearer_is in
       record {
+        acts = it.acts;
         is_other = it.is_other;
         flies_now = it.flies_now;
         touched = ap₂ (λ (s : Spot) (r : Request). touches by s r state) borne.spot_is born_already.is_make
             ∙ any_content (bears by birth) (identity world.digest birth) state.contents borne.content borne.there it.touched;
       }
 
-  by_block : IsBlocked (site_of world number) state ask.from ask.request by at → IsWhy world h number by at ask
+  by_block : IsBlocked (site_of world number) state ask.from ask.request by at → IsWhy world h (keeps h legal).phases number by at ask
   by_block (inl way) = record {
+    acts = acts world h (keeps h legal) number by way.owned;
     is_other = way_is_other world h (keeps h legal) number place (reply.Busy by at born) may by at way;
     flies_now = owned_flies world h number by way.owned;
     touched = way.touched;
   }
   by_block (inr borne) = by_bearing borne
 
-  pub why_busy : IsWhy world h number by at may.posted.ask
+  pub why_busy : IsWhy world h (keeps h legal).phases number by at may.posted.ask
   why_busy =
       let kept = keeps h legal in
       let site = site_of world number in
@@ -403,14 +412,19 @@ module _ (world : World) (keeps : (h : List Event) → Legal world h → Kept wo
       (may_reply site state place ask (reply.Busy by at born) may.after may.reply ask.request (reply.Busy by at born) refl refl)))
 
 -- a result that was told of a call in the way names a change in flight
-pub again_is_because : (world : World) → ((h : List Event) → Legal world h → Kept world h) → (h : List Event) → Legal world h → (result : CallResult) (by : CallRef)
-    → IsBusyFor h result.call by result.place → IsAgainBecause world h result by
-again_is_because world keeps h legal result by is =
+pub again_is_because : (world : World) → ((h : List Event) → Legal world h → Kept world h) → (h : List Event) → Legal world h → (results : List CallResult)
+    → Outcome world h results → (result : CallResult) (by : CallRef) → IsBusyFor h result.call by result.place
+    → IfSome result.place (λ place. Counts h result.call result.answer place) → IsAgainBecause world h results result by
+again_is_because world keeps h legal results out result by is placed =
     let legally = serve_may world h legal is.place is.number is.ask_place (reply.Busy by is.spot is.born) is.told in
     let same : legally.1.posted ≡ is.posted = let one = legally.1.made in let two = is.asked in cc in
-    let why : IsWhy world (before is.place h) is.number by is.spot is.posted.ask =
-    subst (λ (p : Posted). IsWhy world (before is.place h) is.number by is.spot p.ask) same
+    let kept : Kept world (before is.place h) = keeps (before is.place h) legally.0 in
+    let why : IsWhy world (before is.place h) kept.phases is.number by is.spot is.posted.ask =
+    subst (λ (p : Posted). IsWhy world (before is.place h) kept.phases is.number by is.spot p.ask) same
     (why_busy world keeps (before is.place h) legally.0 is.number is.ask_place by is.spot is.born legally.1) in
+    let clients : by.client ≢ result.call.client = λ equal. why.is_other (equal ∙ ap (λ (c : CallRef). c.client) (sym is.own)) in
+    let counts : Counts h result.call result.answer is.place =
+    subst (λ (at : Option ℕ). IfSome at (λ place. Counts h result.call result.answer place)) is.placed placed in
     record {
       place = is.place;
       placed = is.placed;
@@ -422,7 +436,10 @@ again_is_because world keeps h legal result by is =
       posted = is.posted;
       asked = is.asked;
       own = is.own;
-      other = λ clients. why.is_other (clients ∙ ap (λ (c : CallRef). c.client) (sym is.own));
+      behind = λ id name looks. counts.counts is.number is.ask_place by is.spot is.born is.posted id name is.told is.asked looks;
+      other = clients;
+      under_way = was_under_way world h results out is.place is.number is.ask_place (reply.Busy by is.spot is.born) is.posted by is.told is.asked
+          (λ equal. why.is_other (sym equal)) kept why.acts;
       in_flight = why.flies_now;
       touched = why.touched;
     }

@@ -13,7 +13,7 @@ use Rattle.inf_content.specs.declared.made.Made.TheVariants as made
 use Rattle.inf_duty.specs.World.{World}
 use Rattle.inf_laws_server.specs.Replies.{IsOther}
 use Rattle.inf_laws_server.proofs.Serves.{clashed, may_reply}
-use Rattle.inf_laws_history.specs.Causes.{IsClashBecause, before}
+use Rattle.inf_laws_history.specs.Causes.{IsClashBecause, KeepsBirth, before}
 use Rattle.inf_laws_history.specs.Legal.{Legal, MayServe, server_after}
 use Rattle.inf_laws_history.specs.Sites.{site_of}
 use Rattle.inf_message.specs.declared.ask.Ask.{Ask}
@@ -62,6 +62,9 @@ module _ (world : World) (h : List Event) (legal : Legal world h) (number ask_pl
       (may_reply (site_of world number) (server_after world number h) ask_place may.posted.ask (reply.Clash kept) may.after may.reply
       (request.Make own) (reply.Clash kept) makes refl)
 
+  keeps_birth : KeepsBirth (server_after world number h) (identity world.digest own) kept
+  keeps_birth = record { content = other.content; found = other.there; is_born = other.kept_is }
+
   clash_unlike : own ≢ kept
   clash_unlike equal = unlike_by own kept other.content.triple equal other.kept_is other.apart
 
@@ -96,4 +99,5 @@ clash_is_of_two_births world h legal result own kept is =
       makes = is.makes;
       unlike = clash_unlike world (before is.place h) legally.0 is.number is.ask_place own kept legally.1 makes;
       clash = same_identity world (before is.place h) legally.0 is.number is.ask_place own kept legally.1 makes;
+      keeps = keeps_birth world (before is.place h) legally.0 is.number is.ask_place own kept legally.1 makes;
     }

@@ -122,11 +122,11 @@ abbrev StageCaused : List Event → CallRef → Stage → Type 0
 StageCaused h call (winds ending m ms) = EndsCaused h call ending
 StageCaused h call other_stage = Unit {0}
 
-abbrev IsServedIf : List Event → CallRef → ℕ → Option Told → Type 0
+abbrev pub IsServedIf : List Event → CallRef → ℕ → Option Told → Type 0
 IsServedIf h call place None = Unit {0}
 IsServedIf h call place (Some told) = IsServedFor h call place told
 
-abbrev AreServed : List Event → CallRef → List Sent → Type 0
+abbrev pub AreServed : List Event → CallRef → List Sent → Type 0
 AreServed h call [] = Unit {0}
 AreServed h call (x ∷ xs) = IsServedIf h call x.place x.told × AreServed h call xs
 
@@ -200,7 +200,7 @@ module _ (e : Event) (h : List Event) (call : CallRef) where
   if_stays place None is = tt
   if_stays place (Some told) is = served_stays place told is
 
-  sent_stays : (sent : List Sent) → AreServed h call sent → AreServed (e ∷ h) call sent
+  pub sent_stays : (sent : List Sent) → AreServed h call sent → AreServed (e ∷ h) call sent
   sent_stays [] is = tt
   sent_stays (x ∷ xs) is = (if_stays x.place x.told is.0, sent_stays xs is.1)
 
@@ -440,7 +440,7 @@ module _ (h : List Event) (call : CallRef) (ask_place : ℕ) (told : Told) (now 
   one_recorded place old true same is = first_answer place old ((Decides-eqb place ask_place).0 same) is
   one_recorded place old false apart is = is
 
-  all_recorded : (sent : List Sent) → AreServed h call sent → AreServed h call (map (told_at ask_place told) sent)
+  pub all_recorded : (sent : List Sent) → AreServed h call sent → AreServed h call (map (told_at ask_place told) sent)
   all_recorded [] are = tt
   all_recorded (x ∷ xs) are = (one_recorded x.place x.told (eqb x.place ask_place) refl are.0, all_recorded xs are.1)
 
@@ -464,7 +464,7 @@ module _ (world : World) (h : List Event) (legal : Legal world h) (number ask_pl
   abbrev now : List Event
   now = event.Serve number ask_place given ∷ h
 
-  newly_served : has_place ask_place (client_after world client h).sent ≡ true
+  pub newly_served : has_place ask_place (client_after world client h).sent ≡ true
       → IsServedFor now (call_ref (client_after world client h)) ask_place (told_reply (suc (length h)) (heard given))
   newly_served here =
       let own = waits_for_own world client ask_place h here in

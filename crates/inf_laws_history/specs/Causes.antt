@@ -1,10 +1,17 @@
 -- Why a call is answered Again: the change in flight that touched it; and why IdClash: two births with one identifier.
-use Rattle.std.specs.Prelude.{◌≡◌, ◌≢◌, ℕ, suc, nat_lt, true, if◌then◌else◌, List, [], ◌∷◌, length, Some}
+use Rattle.std.specs.Prelude.{◌≡◌, ◌≢◌, ℕ, suc, ◌<◌, nat_lt, true, if◌then◌else◌, List, [], ◌∷◌, length, Some}
+use Rattle.inf_base.specs.declared.access.Access.{Access}
 use Rattle.inf_base.specs.declared.caller.CallRef.{CallRef}
+use Rattle.inf_base.specs.declared.id.Id.{Id}
+use Rattle.inf_base.specs.declared.key.Key.{Key}
+use Rattle.inf_base.specs.declared.key.LookKey.TheVariants as look
 use Rattle.inf_base.specs.declared.triple.Triple.{Triple}
+use Rattle.inf_base.specs.Content.{Content}
 use Rattle.inf_base.specs.Identity.{identity}
+use Rattle.inf_content.specs.Contents.{content_of_id}
 use Rattle.inf_laws_history.specs.Flight.{InFlight, touches}
 use Rattle.inf_laws_history.specs.Legal.{server_after}
+use Rattle.inf_laws_history.specs.UnderWay.{WasUnderWay}
 use Rattle.inf_duty.specs.World.{World}
 use Rattle.inf_message.specs.declared.call_result.CallResult.{CallResult}
 use Rattle.inf_message.specs.declared.event.Event.{Event}
@@ -13,14 +20,32 @@ use Rattle.inf_message.specs.declared.reply.Reply.TheVariants as reply
 use Rattle.inf_message.specs.declared.reply.Spot.{Spot}
 use Rattle.inf_message.specs.declared.request.Request.TheVariants as request
 use Rattle.inf_message.specs.History.{Posted, asked_at, event_at}
+use Rattle.inf_server.specs.State.{State}
 
 -- the events of smaller places
 abbrev pub before : ℕ → List Event → List Event
 before place [] = []
 before place (e ∷ h) = if nat_lt (suc (length h)) place then e ∷ h else before place h
 
+-- the client's Ask before this one was the same call's, and a server told it of a directory of this birth: the entry that
+-- stands before in the call's chain
+pub record IsBehindEntry (h : List Event) (call : CallRef) (ask_place born : ℕ) : Type 0 where
+  pub place : ℕ
+  pub posted : Posted
+  pub asked : asked_at place h ≡ Some posted
+  pub own : posted.ask.from ≡ call
+  pub earlier : place < ask_place
+  pub next : (between : ℕ) (other : Posted) → place < between → between < ask_place → asked_at between h ≡ Some other
+      → other.ask.from.client ≢ call.client
+  pub number : ℕ
+  pub told_at : ℕ
+  pub key : Key
+  pub access : Access
+  pub told : event_at told_at h ≡ Some (event.Serve number place (reply.Found key access))
+  pub same : access.born ≡ born
+
 -- the call of this result was answered Again, for it met a change of this other call
-pub record IsAgainBecause (world : World) (h : List Event) (result : CallResult) (by : CallRef) : Type 0 where
+pub record IsAgainBecause (world : World) (h : List Event) (results : List CallResult) (result : CallResult) (by : CallRef) : Type 0 where
   -- the result has a place
   pub place : ℕ
   pub placed : result.place ≡ Some place
@@ -34,12 +59,22 @@ pub record IsAgainBecause (world : World) (h : List Event) (result : CallResult)
   pub posted : Posted
   pub asked : asked_at ask_place (before place h) ≡ Some posted
   pub own : posted.ask.from ≡ result.call
+  -- a lookup under a name counts only where the birth told is that of the entry before it
+  pub behind : (id : Id) (name : List ℕ) → posted.ask.request ≡ request.Lookup (look.At id name) → IsBehindEntry h result.call ask_place born
   -- the other call is another client's
   pub other : by.client ≢ result.call.client
+  -- by its result it was under way
+  pub under_way : WasUnderWay world results place by
   -- just before, a change of it was in flight
   pub in_flight : InFlight world (before place h) by
   -- and at the server that replied it touched what was asked for, at the spot told
   pub touched : touches by spot posted.ask.request (server_after world number (before place h)) ≡ true
+
+-- the server keeps a directory of this identifier, and it is of this birth
+pub record KeepsBirth (state : State) (id : Id) (birth : Triple) : Type 0 where
+  pub content : Content
+  pub found : content_of_id id state.contents ≡ Some content
+  pub is_born : content.triple ≡ birth
 
 -- the call of this result was answered IdClash, for the directory that it was to make has the identifier of another
 pub record IsClashBecause (world : World) (h : List Event) (result : CallResult) (own kept : Triple) : Type 0 where
@@ -58,3 +93,5 @@ pub record IsClashBecause (world : World) (h : List Event) (result : CallResult)
   -- the births differ, and their identifiers are equal
   pub unlike : own ≢ kept
   pub clash : identity world.digest own ≡ identity world.digest kept
+  -- and just before, that server kept the directory of the other one
+  pub keeps : KeepsBirth (server_after world number (before place h)) (identity world.digest own) kept

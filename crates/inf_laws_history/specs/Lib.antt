@@ -1,4 +1,5 @@
 pub mod Causes
+pub mod Counted
 pub mod Decisions
 pub mod Flight
 pub mod Kept
@@ -8,3 +9,4 @@ pub mod Pending
 pub mod Phases
 pub mod Replayed
 pub mod Sites
+pub mod UnderWay

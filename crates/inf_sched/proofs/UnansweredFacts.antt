@@ -1,202 +1,171 @@
--- A call is unanswered only where the order ended before it was decided.
-use Rattle.std.proofs.Common.{◌≡◌, ◌≢◌, ℕ, suc, ◌+◌, ◌≤◌, Bool, true, false, cond, eqb, List, [], ◌∷◌, length, slice_get, Option, None, Some, All, refl, sym, ap, subst, ◌∙◌, ⊎_elim, arith}
+-- A call is unanswered exactly where the order's moves left it undecided.
+use Rattle.std.proofs.Common.{◌≡◌, ◌≢◌, ℕ, ◌+◌, ◌<◌, ◌≤◌, Bool, true, false, List, [], ◌∷◌, length, Option, None, All, refl, sym, ap, subst, ◌∙◌, arith}
+use Rattle.std.proofs.lemmas.List.Elements.{All-append, All-cons, All-nil}
 use Rattle.inf_base.specs.declared.id.Id.{Id}
-use Rattle.std.proofs.lemmas.List.Elements.{All-append, All-cons, All-nil, All-push}
 use Rattle.inf_base.specs.declared.answer.Answer.{Answer}
 use Rattle.inf_base.specs.declared.answer.Answer.TheVariants as answer
 use Rattle.inf_base.specs.declared.call.Call.{Call}
+use Rattle.inf_base.specs.declared.caller.CallRef.{CallRef}
 use Rattle.inf_base.specs.declared.setup.ClientLine.{ClientLine}
-use Rattle.inf_duty.specs.After.{client_after}
-use Rattle.inf_duty.specs.Duty.{asked, given_up, given_up_in}
-use Rattle.inf_duty.specs.Outcome.{Agrees, OutcomeFrom, all_given_up, may_give_up, results_of, so_far, unanswered}
-use Rattle.inf_duty.specs.Start.{starting}
+use Rattle.inf_duty.specs.Outcome.{results_of, so_far, unanswered}
 use Rattle.inf_duty.specs.World.{World}
-use Rattle.inf_flow_dir.specs.Client.{ClientState, Ending, Stage, act, answers, compose, ended, rest_of, result_of, retries, round, winds, wound}
-use Rattle.inf_flow_dir.specs.Flow.{Who, clean_up}
-use Rattle.inf_flow_dir.specs.Heard.{heard}
-use Rattle.inf_flow_dir.specs.Turn.{Turn, goes_on, recorded, served, turn_at, turned, winds_up}
-use Rattle.inf_duty.proofs.BegunKept.{IsKept, if_both, kept_begun}
-use Rattle.inf_laws_history.proofs.ClientSteps.{by_answer, who_after}
+use Rattle.inf_flow_dir.specs.Client.{ClientState, Stage, act, answers, compose, ended, retries, round, winds}
+use Rattle.inf_laws_history.proofs.Numbered.{IsNumbered, all_given_up_is, numbered_after, so_far_call, total_of}
+use Rattle.inf_laws_history.proofs.PlacedAnswers.{AllAre, IsOfServes, StageIs, all_given_up_are, answers_after}
 use Rattle.inf_message.specs.declared.call_result.CallResult.{CallResult}
 use Rattle.inf_message.specs.declared.event.Event.{Event}
-use Rattle.inf_message.specs.declared.event.Event.TheVariants as event
-use Rattle.inf_message.specs.declared.step.Message.{Message}
-use Rattle.inf_message.specs.History.{Told, told_reply}
 use Rattle.inf_order.specs.declared.moves.Move.{Move}
-use Rattle.inf_sched.specs.Endings.{IsLeftOpen}
-use Rattle.inf_sched.specs.Order.{ByOrder}
-use Rattle.inf_sched.proofs.BuiltFacts.{may_end}
-use Rattle.inf_sched.proofs.OrderLaws.{is_outcome}
-use Rattle.inf_sched.proofs.TurnFacts.{EndingHas, IsOfReplies, StageHas, TurnHas, composed_has, turn_has}
+use Rattle.inf_sched.specs.Endings.{IsLeftOpen, is_open, left_by, standing_in}
+use Rattle.inf_sched.specs.Order.{ByOrder, came_to, results_from}
+use Rattle.inf_sched.specs.Scene.{Scene, client_in, is_gone}
 
--- ---- a call that ended is answered
+-- ---- what decides a call is an answer
 
-abbrev IsAnswer : Answer → Type 0
-IsAnswer given = given ≢ answer.Unanswered
+abbrev IsAnswer : Answer → Option ℕ → Type 0
+IsAnswer given at = given ≢ answer.Unanswered
 
-abbrev IsAnswered : CallResult → Type 0
-IsAnswered result = IsAnswer result.answer
-
--- and one that winds up is, once it has ended
-record AllAnswered (s : ClientState) : Type 0 where
-  results : All IsAnswered s.results
-  stage : StageHas IsAnswer s.stage
-
-of_replies : IsOfReplies IsAnswer
-of_replies = record {
-  done = λ e. absurd (cc);
-  stat = λ kind meta e. absurd (cc);
-  refused = λ error e. absurd (cc);
-  again = λ by e. absurd (cc);
-  clash = λ own kept e. absurd (cc);
+of_serves : IsOfServes IsAnswer
+of_serves = record {
+  done = λ place e. absurd (cc);
+  stat = λ kind meta place e. absurd (cc);
+  refused = λ error place e. absurd (cc);
+  again = λ by place e. absurd (cc);
+  clash = λ own kept place e. absurd (cc);
+  wanting = λ e. absurd (cc);
 }
 
-no_memory : IsAnswer answer.NoMemory
-no_memory e = absurd (cc)
+-- ---- one client's results
 
-ended_answered : (given : Answer) (place : Option ℕ) (s : ClientState) → IsAnswer given → All IsAnswered s.results → AllAnswered (ended given place s)
-ended_answered given place s is before = record { results = All-push IsAnswered s.results (result_of given place s.counts.last s) before is; stage = tt }
-
-wound_answered : (ending : Ending) (more : List Message) (s : ClientState) → EndingHas IsAnswer ending → All IsAnswered s.results → AllAnswered (wound ending more s)
-wound_answered (answers given place) [] s is before = ended_answered given place s is before
-wound_answered retries [] s is before = record { results = before; stage = tt }
-wound_answered ending (m ∷ ms) s is before = record { results = before; stage = is }
-
-turned_answered : (turn : Turn) (s : ClientState) → TurnHas IsAnswer turn → All IsAnswered s.results → AllAnswered (turned turn s)
-turned_answered (goes_on next) s is before = record { results = before; stage = is }
-turned_answered (winds_up ending more) s is before = wound_answered ending more s is before
-
-given_up_answered : (s : ClientState) (stage : Stage) → AllAnswered s → AllAnswered (given_up_in s stage)
-given_up_answered s (act flow) before = wound_answered (answers answer.NoMemory None) (clean_up s.who flow) s no_memory before.results
-given_up_answered s (winds ending m ms) before = before
-given_up_answered s compose before = ended_answered answer.NoMemory None s no_memory before.results
-given_up_answered s (round keys) before = ended_answered answer.NoMemory None s no_memory before.results
-
-answered_kept : (digest : List ℕ → Id) → IsKept digest AllAnswered
-answered_kept digest = record {
-  composing = λ s before. record { results = before.results; stage = composed_has digest IsAnswer s s.stage before.stage };
-  giving_up = λ s before. given_up_answered s s.stage before;
-}
-
-served_answered : (digest : List ℕ → Id) (ask_place : ℕ) (told : Told) (s : ClientState) → AllAnswered s → AllAnswered (served digest ask_place told s)
-served_answered digest ask_place told s before =
-    by_answer digest AllAnswered ask_place told s
-    (λ apart. before)
-    (λ here going. record { results = before.results; stage = before.stage })
-    (λ here over.
-    turned_answered (turn_at digest (recorded ask_place told s) s.stage) (recorded ask_place told s)
-    (turn_has digest IsAnswer of_replies (recorded ask_place told s) s.stage before.stage (λ wants. no_memory)) before.results)
-
-starting_answered : (world : World) (client : ℕ) (line : Option ClientLine) → AllAnswered (starting world client line)
-starting_answered world client None = record { results = All-nil IsAnswered; stage = tt }
-starting_answered world client (Some line) = record { results = All-nil IsAnswered; stage = tt }
-
-answered : (world : World) (client : ℕ) (h : List Event) → AllAnswered (client_after world client h)
-answered world client [] = starting_answered world client (slice_get world.setup.clients client)
-answered world client (event.Ask number ask ∷ h) =
-    let s : ClientState = client_after world client h in
-    let begun =
-    kept_begun world.digest AllAnswered (answered_kept world.digest) ask s.sent s (answered world client h) in
-    if_both AllAnswered (eqb ask.from.client client) (asked world.digest (suc (length h)) ask s) s
-    (record { results = begun.results; stage = begun.stage }) (answered world client h)
-answered world client (event.Serve number ask_place given ∷ h) =
-    served_answered world.digest ask_place (told_reply (suc (length h)) (heard given)) (client_after world client h) (answered world client h)
-
--- ---- a call that has not ended is left
-
--- the client has so many calls of those that were left to it after the history, the first one behind so many others
-record IsFrom (world : World) (h : List Event) (client before count : ℕ) (s : ClientState) : Type 0 where
-  own : s.who.client ≡ client
-  number : s.number ≡ (client_after world client h).number + before
-  room : before + count ≤ length (client_after world client h).left
-
--- the same, of the calls that it has
-record IsWithin (world : World) (h : List Event) (client : ℕ) (s : ClientState) : Type 0 where
+-- the client has the result's call left, and nothing has decided it
+record IsLeft (s : ClientState) (result : CallResult) : Type 0 where
   before : ℕ
-  from : IsFrom world h client before (length s.left) s
-  answered : AllAnswered s
+  numbered : result.call.number ≡ s.number + before
+  left : before < length s.left
+  undecided : before ≡ 0 → is_open s.stage ≡ true
 
-abbrev OnlyOpen : World → List Event → CallResult → Type 0
-OnlyOpen world h result = result.answer ≡ answer.Unanswered → IsLeftOpen world h result
+-- the result of a call of the client, unanswered exactly where it is left so
+record IsExact (client : ℕ) (s : ClientState) (result : CallResult) : Type 0 where
+  own : result.call.client ≡ client
+  open_only : result.answer ≡ answer.Unanswered → IsLeft s result
+  open_all : IsLeft s result → result.answer ≡ answer.Unanswered
 
-from_after : (world : World) (h : List Event) (client : ℕ) → IsFrom world h client 0 (length (client_after world client h).left) (client_after world client h)
-from_after world h client = record {
-  own = ap (λ (who : Who). who.client) (who_after world h client);
-  number = omega arith;
-  room = omega arith;
-}
+module _ (client : ℕ) (s : ClientState) where
+  -- those behind the call under way
+  behind : (calls : List Call) (t : ClientState) (before : ℕ) → t.who.client ≡ client → 0 < before → t.number + 1 ≡ s.number + before → before + length calls ≤ length s.left
+      → All (IsExact client s) (unanswered calls (ended answer.Unanswered None t))
+  behind [] t before own some number within = All-nil (IsExact client s)
+  behind (call ∷ calls) t before own some number within =
+      All-cons (IsExact client s) (so_far compose (ended answer.Unanswered None t)) (unanswered calls (ended answer.Unanswered None (ended answer.Unanswered None t)))
+      (record {
+        own = own;
+        open_only = λ e. record {
+          before = before;
+          numbered = number;
+          left = omega (arith, within);
+          undecided = λ none. absurd (omega (arith, none, some));
+        };
+        open_all = λ left. refl;
+      })
+      (behind calls (ended answer.Unanswered None t) (before + 1) own (omega arith) (omega (arith, number)) (omega (arith, within)))
 
-given_up_within : (world : World) (h : List Event) (client before : ℕ) (calls : List Call) (s : ClientState) → s.left ≡ calls → AllAnswered s → IsFrom world h client before (length calls) s → IsWithin world h client (all_given_up calls s)
-given_up_within world h client before [] s same known from = record {
-  before = before;
-  from = record { own = from.own; number = from.number; room = omega (arith, from.room, ap length same) };
-  answered = known;
-}
-given_up_within world h client before (next ∷ calls) s same known from = by (may_give_up s) refl (given_up_within world h client (before + 1) calls (ended answer.NoMemory None s) (ap rest_of same)
-    (ended_answered answer.NoMemory None s no_memory known.results)
-    (record { own = from.own; number = omega (arith, from.number); room = omega (arith, from.room) }))
-  where
-    by : (b : Bool) → may_give_up s ≡ b → IsWithin world h client (all_given_up calls (ended answer.NoMemory None s)) → IsWithin world h client (cond b (all_given_up calls (given_up s)) s)
-    by true may given = subst (λ t. IsWithin world h client (all_given_up calls t)) (sym (may_end s may)) given
-    by false may given = record {
-      before = before;
-      from = record { own = from.own; number = from.number; room = omega (arith, from.room, ap length same) };
-      answered = known;
+  -- the one under way
+  open_if : (stage : Stage) → StageIs IsAnswer stage → (so_far stage s).answer ≡ answer.Unanswered → is_open stage ≡ true
+  open_if (winds (answers given at) m ms) is e = absurd (is e)
+  open_if (winds retries m ms) is e = refl
+  open_if compose is e = refl
+  open_if (round keys) is e = refl
+  open_if (act flow) is e = refl
+
+  open_so : (stage : Stage) → is_open stage ≡ true → (so_far stage s).answer ≡ answer.Unanswered
+  open_so (winds (answers given at) m ms) is = absurd (cc)
+  open_so (winds retries m ms) is = refl
+  open_so compose is = refl
+  open_so (round keys) is = refl
+  open_so (act flow) is = refl
+
+  first_exact : s.who.client ≡ client → 0 < length s.left → StageIs IsAnswer s.stage → IsExact client s (so_far s.stage s)
+  first_exact own some is =
+      let call = so_far_call s.stage s in
+      record {
+        own = ap (λ (c : CallRef). c.client) call ∙ own;
+        open_only = λ e. record {
+          before = 0;
+          numbered = omega (arith, ap (λ (c : CallRef). c.number) call);
+          left = some;
+          undecided = λ none. open_if s.stage is e;
+        };
+        open_all = λ left. open_so s.stage (left.undecided (omega (arith, left.numbered, ap (λ (c : CallRef). c.number) call)));
+      }
+
+  left_exact : (calls : List Call) → s.who.client ≡ client → length calls ≤ length s.left → StageIs IsAnswer s.stage → All (IsExact client s) (unanswered calls s)
+  left_exact [] own within is = All-nil (IsExact client s)
+  left_exact (call ∷ calls) own within is =
+      All-cons (IsExact client s) (so_far s.stage s) (unanswered calls (ended answer.Unanswered None s)) (first_exact own (omega (arith, within)) is)
+      (behind calls s 1 own (omega arith) refl (omega (arith, within)))
+
+  results_exact : (total : ℕ) → IsNumbered client total s → AllAre IsAnswer of_serves s → All (IsExact client s) (results_of s)
+  results_exact total numbered are =
+      All-append (IsExact client s) s.results (unanswered s.left s)
+      (λ k d inside.
+      (let before = numbered.results k d inside in
+      record {
+        own = before.own;
+        open_only = λ e. absurd (are.results k d inside e);
+        open_all = λ left. absurd (omega (arith, before.less, left.numbered));
+      }))
+      (left_exact s.left numbered.own (omega arith) are.stage)
+
+-- ---- all clients
+
+came_to_is : (gone : Bool) (s : ClientState) → came_to gone s ≡ results_of (left_by gone s)
+came_to_is true s = refl
+came_to_is false s = refl
+
+left_numbered : (digest : List ℕ → Id) (gone : Bool) (client total : ℕ) (s : ClientState) → IsNumbered client total s → IsNumbered client total (left_by gone s)
+left_numbered digest true client total s is = all_given_up_is digest client total s is
+left_numbered digest false client total s is = is
+
+left_are : (digest : List ℕ → Id) (gone : Bool) (s : ClientState) → AllAre IsAnswer of_serves s → AllAre IsAnswer of_serves (left_by gone s)
+left_are digest true s are = all_given_up_are IsAnswer of_serves digest s are
+left_are digest false s are = are
+
+-- the result is unanswered exactly where its client has it left undecided
+record IsEither (world : World) (scene : Scene) (result : CallResult) : Type 0 where
+  open_only : result.answer ≡ answer.Unanswered → IsLeftOpen world scene result
+  open_all : IsLeftOpen world scene result → result.answer ≡ answer.Unanswered
+
+either : (world : World) (scene : Scene) (client : ℕ) (result : CallResult) → IsExact client (standing_in world scene client) result → IsEither world scene result
+either world scene client result is =
+    let at = subst (λ c. IsExact c (standing_in world scene c) result) (sym is.own) is in
+    record {
+      open_only = λ e. (let left = at.open_only e in record { before = left.before; numbered = left.numbered; left = left.left; undecided = left.undecided });
+      open_all = λ left. at.open_all (record { before = left.before; numbered = left.numbered; left = left.left; undecided = left.undecided });
     }
 
-left_open : (world : World) (h : List Event) (client before count : ℕ) (s : ClientState) → IsFrom world h client before (count + 1) s → IsLeftOpen world h (result_of answer.Unanswered None None s)
-left_open world h client before count s from = record {
-  before = before;
-  numbered = from.number ∙ ap (λ c. (client_after world c h).number + before) (sym from.own);
-  left = omega (arith, from.room, ap (λ c. length (client_after world c h).left) from.own);
-  placeless = refl;
-}
+from_client : (world : World) (scene : Scene) (client : ℕ) (lines : List ClientLine) → All (IsEither world scene) (results_from world scene client lines)
+from_client world scene client [] = All-nil (IsEither world scene)
+from_client world scene client (line ∷ lines) =
+    let gone : Bool = is_gone scene client in
+    let s : ClientState = client_in world scene client in
+    All-append (IsEither world scene) (came_to gone s) (results_from world scene (client + 1) lines)
+    (subst (All (IsEither world scene)) (sym (came_to_is gone s))
+    (λ k d inside.
+    either world scene client _
+    (results_exact client (left_by gone s) (total_of world client)
+    (left_numbered world.digest gone client (total_of world client) s (numbered_after world client scene.history))
+    (left_are world.digest gone s (answers_after IsAnswer of_serves world client scene.history))
+    k d inside)))
+    (from_client world scene (client + 1) lines)
 
--- a call that winds up is answered already
-so_far_open : (world : World) (h : List Event) (client before count : ℕ) (s : ClientState) (stage : Stage) → StageHas IsAnswer stage → IsFrom world h client before (count + 1) s → OnlyOpen world h (so_far stage s)
-so_far_open world h client before count s (winds (answers given place) m ms) is from = λ e. absurd (is e)
-so_far_open world h client before count s (winds retries m ms) is from = λ e. left_open world h client before count s from
-so_far_open world h client before count s compose is from = λ e. left_open world h client before count s from
-so_far_open world h client before count s (round keys) is from = λ e. left_open world h client before count s from
-so_far_open world h client before count s (act flow) is from = λ e. left_open world h client before count s from
-
-unanswered_open : (world : World) (h : List Event) (client before : ℕ) (calls : List Call) (s : ClientState) → StageHas IsAnswer s.stage → IsFrom world h client before (length calls) s → All (OnlyOpen world h) (unanswered calls s)
-unanswered_open world h client before [] s is from = All-nil (OnlyOpen world h)
-unanswered_open world h client before (next ∷ calls) s is from =
-    All-cons (OnlyOpen world h) (so_far s.stage s) (unanswered calls (ended answer.Unanswered None s))
-    (so_far_open world h client before (length calls) s s.stage is (record { own = from.own; number = from.number; room = omega (arith, from.room) }))
-    (unanswered_open world h client (before + 1) calls (ended answer.Unanswered None s) tt
-    (record { own = from.own; number = omega (arith, from.number); room = omega (arith, from.room) }))
-
--- ---- the results of all clients
-
-results_open : (world : World) (h : List Event) (client : ℕ) (s : ClientState) → IsWithin world h client s → All (OnlyOpen world h) (results_of s)
-results_open world h client s is =
-    All-append (OnlyOpen world h) s.results (unanswered s.left s)
-    (λ k d within e. absurd (is.answered.results k d within e))
-    (unanswered_open world h client is.before s.left s is.answered.stage is.from)
-
-agreeing_open : (world : World) (h : List Event) (client : ℕ) (mine : List CallResult) → Agrees (client_after world client h) mine → All (OnlyOpen world h) mine
-agreeing_open world h client mine agrees =
-    let s : ClientState = client_after world client h in
-    ⊎_elim
-    (λ (same : mine ≡ results_of s).
-    subst (All (OnlyOpen world h)) (sym same)
-    (results_open world h client s (record { before = 0; from = from_after world h client; answered = answered world client h })))
-    (λ (gave : (s.sent ≡ []) × (mine ≡ results_of (all_given_up s.left s))).
-    subst (All (OnlyOpen world h)) (sym gave.1)
-    (results_open world h client (all_given_up s.left s)
-    (given_up_within world h client 0 s.left s refl (answered world client h) (from_after world h client))))
-    agrees
-
-outcome_open : (world : World) (h : List Event) (client : ℕ) (lines : List ClientLine) (results : List CallResult) → OutcomeFrom world h client lines results → All (OnlyOpen world h) results
-outcome_open world h client [] results out = subst (All (OnlyOpen world h)) (sym out) (All-nil (OnlyOpen world h))
-outcome_open world h client (line ∷ lines) results out =
-    subst (All (OnlyOpen world h)) (sym out.all)
-    (All-append (OnlyOpen world h) out.mine out.others
-    (agreeing_open world h client out.mine out.agrees)
-    (outcome_open world h (client + 1) lines out.others out.later))
+all_exact : (world : World) (order : List Move) (h : List Event) (results : List CallResult) (by : ByOrder world order h results) → All (IsEither world by.scene) results
+all_exact world order h results by = subst (All (IsEither world by.scene)) (sym by.counted) (from_client world by.scene 0 world.setup.clients)
 
 -- a call is unanswered only where the order ended before it was decided
-pub unanswered_are_left : (world : World) (order : List Move) (h : List Event) (results : List CallResult) → ByOrder world order h results → All (λ result. result.answer ≡ answer.Unanswered → IsLeftOpen world h result) results
-unanswered_are_left world order h results by = outcome_open world h 0 world.setup.clients results (is_outcome world order h results by)
+pub unanswered_are_left : (world : World) (order : List Move) (h : List Event) (results : List CallResult) (by : ByOrder world order h results)
+    → All (λ result. result.answer ≡ answer.Unanswered → IsLeftOpen world by.scene result) results
+unanswered_are_left world order h results by k d inside = (all_exact world order h results by k d inside).open_only
+
+-- and each that the order left so is
+pub left_are_unanswered : (world : World) (order : List Move) (h : List Event) (results : List CallResult) (by : ByOrder world order h results)
+    → All (λ result. IsLeftOpen world by.scene result → result.answer ≡ answer.Unanswered) results
+left_are_unanswered world order h results by k d inside = (all_exact world order h results by k d inside).open_all

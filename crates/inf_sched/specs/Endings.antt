@@ -1,14 +1,29 @@
 -- The calls that an order of moves leaves undecided.
-use Rattle.std.specs.Prelude.{◌≡◌, ℕ, ◌+◌, ◌<◌, List, length, None}
-use Rattle.inf_duty.specs.After.{client_after}
+use Rattle.std.specs.Prelude.{◌≡◌, ℕ, ◌+◌, ◌<◌, Bool, true, false, length}
+use Rattle.inf_duty.specs.Outcome.{all_given_up}
 use Rattle.inf_duty.specs.World.{World}
+use Rattle.inf_flow_dir.specs.Client.{ClientState, Stage, answers, winds}
 use Rattle.inf_message.specs.declared.call_result.CallResult.{CallResult}
-use Rattle.inf_message.specs.declared.event.Event.{Event}
+use Rattle.inf_sched.specs.Scene.{Scene, client_in, is_gone}
 
--- the result is of a call that its client has left after the history, and has no place
-pub record IsLeftOpen (world : World) (h : List Event) (result : CallResult) : Type 0 where
+-- a client once it gave up what it had left, where it did
+abbrev pub left_by : Bool → ClientState → ClientState
+left_by true s = all_given_up s.left s
+left_by false s = s
+
+-- where a client stands after the moves: a call that it gave up has ended
+abbrev pub standing_in : World → Scene → ℕ → ClientState
+standing_in world scene client = left_by (is_gone scene client) (client_in world scene client)
+
+-- no answer has come to the call under way, nor want of memory
+abbrev pub is_open : Stage → Bool
+is_open (winds (answers given place) m ms) = false
+is_open other_stage = true
+
+-- the result is of a call that its client has left, and that nothing has decided
+pub record IsLeftOpen (world : World) (scene : Scene) (result : CallResult) : Type 0 where
   -- the calls left before it
   pub before : ℕ
-  pub numbered : result.call.number ≡ (client_after world result.call.client h).number + before
-  pub left : before < length (client_after world result.call.client h).left
-  pub placeless : result.place ≡ None
+  pub numbered : result.call.number ≡ (standing_in world scene result.call.client).number + before
+  pub left : before < length (standing_in world scene result.call.client).left
+  pub undecided : before ≡ 0 → is_open (standing_in world scene result.call.client).stage ≡ true

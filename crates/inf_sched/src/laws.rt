@@ -52,11 +52,19 @@ pub fn every_order_is_made_without_want_of_memory()
         (results_in world (straight world order (opening world))) }
 {}
 
-/// A call is unanswered only where the order ended before it was decided: its client has it left then.
+/// A call is unanswered only where the order's moves left it so: its client stands before it, and has neither an answer
+/// to it nor wanted memory for it.
 pub fn unanswered_calls_are_left()
     ensures { (world : World) (order : List Move) (h : List Event) (results : List CallResult)
-        → ByOrder world order h results
-        → All (λ result. result.answer ≡ answer.Unanswered → IsLeftOpen world h result) results }
+        → (by : ByOrder world order h results)
+        → All (λ result. result.answer ≡ answer.Unanswered → IsLeftOpen world by.scene result) results }
+{}
+
+/// And each call that they left so is unanswered.
+pub fn calls_left_open_are_unanswered()
+    ensures { (world : World) (order : List Move) (h : List Event) (results : List CallResult)
+        → (by : ByOrder world order h results)
+        → All (λ result. IsLeftOpen world by.scene result → result.answer ≡ answer.Unanswered) results }
 {}
 
 /// A client of a run keeps exactly its trips of the history, the oldest first.

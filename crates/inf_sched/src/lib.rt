@@ -19,10 +19,10 @@ pub use inf_client::Client;
 pub use inf_duty::{ClientStep, Outcome, Results};
 pub use inf_order::{MOST_MOVES, Move, Moves};
 pub use laws::{
-    clients_keep_their_trips, every_order_is_made_without_want_of_memory,
-    kept_asks_show_the_client, one_history_without_want_of_memory,
-    one_outcome_without_want_of_memory, unanswered_calls_are_left,
-    what_an_order_makes_is_an_outcome, what_an_order_makes_is_legal,
+    calls_left_open_are_unanswered, clients_keep_their_trips,
+    every_order_is_made_without_want_of_memory, kept_asks_show_the_client,
+    one_history_without_want_of_memory, one_outcome_without_want_of_memory,
+    unanswered_calls_are_left, what_an_order_makes_is_an_outcome, what_an_order_makes_is_legal,
 };
 pub use limits::MOST_EVENTS;
 pub use posting::Posting;

@@ -9,6 +9,7 @@ use Rattle.inf_duty.specs.Outcome.{Outcome}
 use Rattle.inf_laws_history.specs.Replayed.{decisions}
 use Rattle.inf_duty.specs.World.{World, world_of}
 use Rattle.inf_laws_history.specs.Causes.{IsAgainBecause, IsClashBecause}
+use Rattle.inf_laws_history.specs.Counted.{IsCounted}
 use Rattle.inf_base.specs.declared.answer.Answer.TheVariants as answer
 use Rattle.inf_base.specs.declared.caller.CallRef.{CallRef}
 use Rattle.inf_base.specs.declared.triple.Triple.{Triple}
@@ -40,20 +41,28 @@ whole_text all (Some t) same few =
 
 -- ---- a script was run, and its outcome written
 
--- the laws that say why calls are answered as the plain tree does not answer
+-- the laws that say whose calls results are of, and why they are answered as the plain tree does not answer
+abbrev pub ResultsAreCounted : Type 0
+ResultsAreCounted = (world : World) (h : List Event) (results : List CallResult) → Legal world h → Outcome world h results
+    → All (IsCounted world h results) results
+
 abbrev pub AgainsAreOfChanges : Type 0
 AgainsAreOfChanges = (world : World) (h : List Event) (results : List CallResult) → Legal world h → Outcome world h results
-    → All (λ (result : CallResult). (by : CallRef) → result.answer ≡ answer.Again by → IsAgainBecause world h result by) results
+    → All (λ (result : CallResult). (by : CallRef) → result.answer ≡ answer.Again by → IsAgainBecause world h results result by) results
 
 abbrev pub ClashesAreOfBirths : Type 0
 ClashesAreOfBirths = (world : World) (h : List Event) (results : List CallResult) → Legal world h → Outcome world h results
     → All (λ (result : CallResult). (own kept : Triple) → result.answer ≡ answer.IdClash own kept → IsClashBecause world h result own kept) results
 
 abbrev pub UnansweredAreLeft : Type 0
-UnansweredAreLeft = (world : World) (order : List Move) (h : List Event) (results : List CallResult) → ByOrder world order h results
-    → All (λ (result : CallResult). result.answer ≡ answer.Unanswered → IsLeftOpen world h result) results
+UnansweredAreLeft = (world : World) (order : List Move) (h : List Event) (results : List CallResult) (by : ByOrder world order h results)
+    → All (λ (result : CallResult). result.answer ≡ answer.Unanswered → IsLeftOpen world by.scene result) results
 
-module _ (agains : AgainsAreOfChanges) (clashes : ClashesAreOfBirths) (lefts : UnansweredAreLeft)
+abbrev pub LeftAreUnanswered : Type 0
+LeftAreUnanswered = (world : World) (order : List Move) (h : List Event) (results : List CallResult) (by : ByOrder world order h results)
+    → All (λ (result : CallResult). IsLeftOpen world by.scene result → result.answer ≡ answer.Unanswered) results
+
+module _ (counts : ResultsAreCounted) (agains : AgainsAreOfChanges) (clashes : ClashesAreOfBirths) (lefts : UnansweredAreLeft) (opens : LeftAreUnanswered)
     (script : Script) (events : List Event) (results : List CallResult)
     (valid : IsValid script.setup)
     (legal : Legal (world_of script.setup) (reverse events))
@@ -73,9 +82,11 @@ module _ (agains : AgainsAreOfChanges) (clashes : ClashesAreOfBirths) (lefts : U
     by_order = by_order;
     replays = replays;
     causes = λ k d inside. record {
+      counted = counts (world_of script.setup) (reverse events) results legal outcome k d inside;
       again = λ by is. agains (world_of script.setup) (reverse events) results legal outcome k d inside by is;
       clash = λ own kept is. clashes (world_of script.setup) (reverse events) results legal outcome k d inside own kept is;
       unanswered = λ is. lefts (world_of script.setup) script.order (reverse events) results by_order k d inside is;
+      left_open = λ is. opens (world_of script.setup) script.order (reverse events) results by_order k d inside is;
     };
     told = ap (λ es. report script.setup es results) (sym (reverse-reverse events));
   }

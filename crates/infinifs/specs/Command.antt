@@ -10,6 +10,7 @@ use Rattle.inf_base.specs.declared.setup.Setup.{Setup}
 use Rattle.inf_base.specs.declared.triple.Triple.{Triple}
 use Rattle.inf_base.specs.Setup.{IsValid}
 use Rattle.inf_laws_history.specs.Causes.{IsAgainBecause, IsClashBecause}
+use Rattle.inf_laws_history.specs.Counted.{IsCounted}
 use Rattle.inf_laws_history.specs.Legal.{Legal}
 use Rattle.inf_duty.specs.Outcome.{Outcome}
 use Rattle.inf_laws_history.specs.Replayed.{decisions}
@@ -23,6 +24,7 @@ use Rattle.inf_report.specs.Report.{line, report}
 use Rattle.inf_report.specs.Writing.{AppendsFront}
 use Rattle.inf_sched.specs.Endings.{IsLeftOpen}
 use Rattle.inf_sched.specs.Order.{ByOrder}
+use Rattle.inf_sched.specs.Scene.{Scene}
 use Rattle.inf_script.specs.declared.refusal.ScriptRefusal.{ScriptRefusal}
 use Rattle.inf_script.specs.declared.refusal.Why.{Why}
 use Rattle.inf_script.specs.declared.refusal.Why.TheVariants as why
@@ -61,14 +63,17 @@ refusal_line refusal = line (codes "script " ++ decimal refusal.line ++ codes " 
 
 -- ---- what a text comes to
 
--- why a call was answered as the plain tree does not answer
-pub record HasCause (world : World) (h : List Event) (result : CallResult) : Type 0 where
+-- whose call a result is of, and why it was answered as the plain tree does not answer
+pub record HasCause (world : World) (h : List Event) (results : List CallResult) (scene : Scene) (result : CallResult) : Type 0 where
+  -- it is of a call of the script; where its answer was decided it has a place, and is one of those that replay
+  pub counted : IsCounted world h results result
   -- a change of another client's call was in flight, and touched this call
-  pub again : (by : CallRef) → result.answer ≡ answer.Again by → IsAgainBecause world h result by
+  pub again : (by : CallRef) → result.answer ≡ answer.Again by → IsAgainBecause world h results result by
   -- the directory that it was to make has the identifier of another, of a different birth
   pub clash : (own kept : Triple) → result.answer ≡ answer.IdClash own kept → IsClashBecause world h result own kept
-  -- the order ended before the call was decided
-  pub unanswered : result.answer ≡ answer.Unanswered → IsLeftOpen world h result
+  -- it is unanswered exactly where the order's moves left it undecided
+  pub unanswered : result.answer ≡ answer.Unanswered → IsLeftOpen world scene result
+  pub left_open : IsLeftOpen world scene result → result.answer ≡ answer.Unanswered
 
 -- the text is a script, and the bytes are the report of an outcome that its order makes: a legal history, with the newest
 -- event first, and results that agree with it and whose calls, by place, are answered as on the plain tree
@@ -83,7 +88,7 @@ pub record IsReportOf (text bytes : List ℕ) : Type 0 where
   pub outcome : Outcome (world_of setup) h results
   pub by_order : ByOrder (world_of setup) order h results
   pub replays : Replays opening_tree (decisions (world_of setup) h results)
-  pub causes : All (HasCause (world_of setup) h) results
+  pub causes : All (HasCause (world_of setup) h results by_order.scene) results
   pub told : bytes ≡ report setup (reverse h) results
 
 -- the text is no script, and the bytes are the line of its refusal

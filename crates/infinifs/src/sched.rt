@@ -17,9 +17,11 @@ use crate::status::Status;
 use inf_base::{NoMemory, Setup};
 use inf_duty::Outcome;
 use inf_io::{Sink, Source, write_all};
-use inf_laws_history::{again_names_a_change_in_flight, clashes_are_of_two_births};
+use inf_laws_history::{
+    again_names_a_change_in_flight, answers_are_replayed, clashes_are_of_two_births,
+};
 use inf_report::{ReportFault, write_report};
-use inf_sched::{schedule, unanswered_calls_are_left};
+use inf_sched::{calls_left_open_are_unanswered, schedule, unanswered_calls_are_left};
 use inf_script::{Script, ScriptRefusal, Why};
 use std::alloc::Global;
 
@@ -82,9 +84,11 @@ fn run_script<K: Sink>(alloc: Global, script: &Script, sink: &mut K) -> Status
     ensures { ScriptDid script.now result
         (K.faults sink.old) (K.faults sink.new) (K.held sink.old) (K.held sink.new) }
 {
+    answers_are_replayed();
     again_names_a_change_in_flight();
     clashes_are_of_two_births();
     unanswered_calls_are_left();
+    calls_left_open_are_unanswered();
     match schedule(alloc, &script.setup, script.order.as_slice()) {
         Ok(outcome) => write_outcome(alloc, &script.setup, &outcome, sink),
         Err(NoMemory) => Status::NoMemory,

@@ -17,7 +17,7 @@ returns-in-Ok g c =
     let made = c.in-Ok.outcome in
     let is_made = c.in-Ok.ensures in
     let by_order = subst (λ order. ByOrder (world_of setup) order (reverse made.history) made.results) c.as_slice.ensures is_made.by_order in
-    let did = outcome_did c.again_names_a_change_in_flight.ensures c.clashes_are_of_two_births.ensures c.unanswered_calls_are_left.ensures c.args.script.now made.history made.results c.requires.valid is_made.legal is_made.outcome by_order is_made.replays in
+    let did = outcome_did c.answers_are_replayed.ensures c.again_names_a_change_in_flight.ensures c.clashes_are_of_two_births.ensures c.unanswered_calls_are_left.ensures c.calls_left_open_are_unanswered.ensures c.args.script.now made.history made.results c.requires.valid is_made.legal is_made.outcome by_order is_made.replays in
     did c.write_outcome.result _ _ _ _ c.write_outcome.ensures
 
 pub returns-in-Err : goal.returns-in-Err

@@ -1,0 +1,125 @@
+-- A call with Asks of its own, or a message of a flow to send, has begun: its first Ask is one of the history.
+use Rattle.std.proofs.Common.{◌≡◌, ℕ, suc, ◌<◌, ◌≤◌, true, eqb, List, [], ◌∷◌, length, slice_get, Option, Some, None, is_some, IfSome, refl, arith}
+use Rattle.inf_base.specs.declared.id.Id.{Id}
+use Rattle.inf_base.specs.declared.answer.Answer.{Answer}
+use Rattle.inf_base.specs.declared.answer.Answer.TheVariants as answer
+use Rattle.inf_base.specs.declared.setup.ClientLine.{ClientLine}
+use Rattle.inf_duty.specs.After.{client_after}
+use Rattle.inf_duty.specs.Duty.{asked, begun, given_up_in}
+use Rattle.inf_duty.specs.Start.{starting}
+use Rattle.inf_duty.specs.World.{World}
+use Rattle.inf_duty.proofs.BegunKept.{IsKept, if_both, kept_begun}
+use Rattle.inf_flow_dir.specs.Client.{ClientState, Ending, Sent, Stage, act, answers, compose, ended, first_place, has_place, retries, round, winds, wound}
+use Rattle.inf_flow_dir.specs.Flow.{Who, clean_up}
+use Rattle.inf_flow_dir.specs.Group.{Course, composed_stage, keys_of, next_course}
+use Rattle.inf_flow_dir.specs.Heard.{heard}
+use Rattle.inf_flow_dir.specs.Turn.{Turn, goes_on, recorded, served, turn_at, turned, winds_up}
+use Rattle.inf_laws_history.proofs.ClientSteps.{by_answer}
+use Rattle.inf_message.specs.declared.ask.Ask.{Ask}
+use Rattle.inf_message.specs.declared.event.Event.{Event}
+use Rattle.inf_message.specs.declared.event.Event.TheVariants as event
+use Rattle.inf_message.specs.declared.step.Message.{Message}
+use Rattle.inf_message.specs.History.{Told, told_reply}
+
+-- a message of a flow, or of a clean-up, is next or waited for
+abbrev pub IsInFlow : Stage → Type 0
+IsInFlow (act flow) = Unit {0}
+IsInFlow (winds ending m ms) = Unit {0}
+IsInFlow other_stage = ⊥
+
+pub record IsBegun (most : ℕ) (s : ClientState) : Type 0 where
+  pub within : IfSome s.counts.first (λ first. first ≤ most)
+  pub waits : 0 < length s.sent → is_some s.counts.first ≡ true
+  pub flows : IsInFlow s.stage → is_some s.counts.first ≡ true
+
+module _ (digest : List ℕ → Id) (most : ℕ) where
+  abbrev Is : ClientState → Type 0
+  Is s = IsBegun most s
+
+  ended_is : (given : Answer) (at : Option ℕ) (s : ClientState) → Is (ended given at s)
+  ended_is given at s = record { within = tt; waits = λ some. absurd (omega (arith, some)); flows = λ flows. absurd flows }
+
+  wound_is : (ending : Ending) (more : List Message) (s : ClientState) → is_some s.counts.first ≡ true → Is s → Is (wound ending more s)
+  wound_is (answers given at) [] s some is = ended_is given at s
+  wound_is retries [] s some is = record { within = is.within; waits = λ none. some; flows = λ flows. absurd flows }
+  wound_is ending (m ∷ ms) s some is = record { within = is.within; waits = λ none. some; flows = λ flows. some }
+
+  turned_is : (turn : Turn) (s : ClientState) → is_some s.counts.first ≡ true → Is s → Is (turned turn s)
+  turned_is (goes_on next) s some is = record { within = is.within; waits = λ none. some; flows = λ flows. some }
+  turned_is (winds_up ending more) s some is = wound_is ending more s some is
+
+  given_up_is : (s : ClientState) (stage : Stage) → (IsInFlow stage → is_some s.counts.first ≡ true) → Is s → Is (given_up_in s stage)
+  given_up_is s (act flow) flows is = wound_is (answers answer.NoMemory None) (clean_up s.who flow) s (flows tt) is
+  given_up_is s (winds ending m ms) flows is = is
+  given_up_is s compose flows is = ended_is answer.NoMemory None s
+  given_up_is s (round keys) flows is = ended_is answer.NoMemory None s
+
+  no_flow : (who : Who) (course : Option Course) → IsInFlow (keys_of digest who course) → ⊥
+  no_flow who None flows = flows
+  no_flow who (Some course) flows = flows
+
+  composed_flows : (s : ClientState) (stage : Stage) → (IsInFlow stage → is_some s.counts.first ≡ true) → IsInFlow (composed_stage digest s stage) → is_some s.counts.first ≡ true
+  composed_flows s compose flows now = absurd (no_flow s.who (next_course s.left) now)
+  composed_flows s (round keys) flows now = flows now
+  composed_flows s (act flow) flows now = flows now
+  composed_flows s (winds ending m ms) flows now = flows now
+
+  kept : IsKept digest Is
+  kept = record {
+    composing = λ s is. record { within = is.within; waits = is.waits; flows = composed_flows s s.stage is.flows };
+    giving_up = λ s is. given_up_is s s.stage is.flows is;
+  }
+
+  first_within : (first : Option ℕ) (place : ℕ) → place ≤ most → IfSome first (λ at. at ≤ most) → IfSome (first_place first place) (λ at. at ≤ most)
+  first_within None place now before = now
+  first_within (Some first) place now before = before
+
+  first_some : (first : Option ℕ) (place : ℕ) → is_some (first_place first place) ≡ true
+  first_some None place = refl
+  first_some (Some first) place = refl
+
+  asked_is : (place : ℕ) (ask : Ask) (s : ClientState) → place ≤ most → Is s → Is (asked digest place ask s)
+  asked_is place ask s now is =
+      let t : ClientState = begun digest ask s.sent s in
+      let is_now : Is t = kept_begun digest Is kept ask s.sent s is in
+      record {
+        within = first_within t.counts.first place now is_now.within;
+        waits = λ some. first_some t.counts.first place;
+        flows = λ flows. first_some t.counts.first place;
+      }
+
+  has_some : (place : ℕ) (sent : List Sent) → has_place place sent ≡ true → 0 < length sent
+  has_some place [] here = absurd cc
+  has_some place (x ∷ xs) here = omega arith
+
+  served_is : (place : ℕ) (told : Told) (s : ClientState) → Is s → Is (served digest place told s)
+  served_is place told s is =
+      by_answer digest Is place told s
+      (λ apart. is)
+      (λ here going. record { within = is.within; waits = λ some. is.waits (has_some place s.sent here); flows = is.flows })
+      (λ here over.
+      let some = is.waits (has_some place s.sent here) in
+      turned_is (turn_at digest (recorded place told s) s.stage) (recorded place told s) some
+      (record { within = is.within; waits = λ more. some; flows = is.flows }))
+
+  starting_is : (world : World) (client : ℕ) (line : Option ClientLine) → Is (starting world client line)
+  starting_is world client None = record { within = tt; waits = λ some. absurd (omega (arith, some)); flows = λ flows. absurd flows }
+  starting_is world client (Some line) = record { within = tt; waits = λ some. absurd (omega (arith, some)); flows = λ flows. absurd flows }
+
+more_within : (most : ℕ) (first : Option ℕ) → IfSome first (λ at. at ≤ most) → IfSome first (λ at. at ≤ suc most)
+more_within most None within = tt
+more_within most (Some first) within = omega (arith, within)
+
+one_more : (most : ℕ) (s : ClientState) → IsBegun most s → IsBegun (suc most) s
+one_more most s is = record { within = more_within most s.counts.first is.within; waits = is.waits; flows = is.flows }
+
+-- a call's first Ask is one of the history
+pub begun_after : (world : World) (client : ℕ) (h : List Event) → IsBegun (length h) (client_after world client h)
+begun_after world client [] = starting_is world.digest 0 world client (slice_get world.setup.clients client)
+begun_after world client (event.Ask number ask ∷ h) =
+    let before : IsBegun (suc (length h)) (client_after world client h) = one_more (length h) (client_after world client h) (begun_after world client h) in
+    if_both (IsBegun (suc (length h))) (eqb ask.from.client client) _ _
+    (asked_is world.digest (suc (length h)) (suc (length h)) ask (client_after world client h) (omega arith) before) before
+begun_after world client (event.Serve number ask_place given ∷ h) =
+    served_is world.digest (suc (length h)) ask_place (told_reply (suc (length h)) (heard given)) (client_after world client h)
+    (one_more (length h) (client_after world client h) (begun_after world client h))

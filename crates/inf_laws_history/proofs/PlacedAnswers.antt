@@ -1,0 +1,253 @@
+-- What holds of each answer that a group may come to, with its place, holds of all results that agree with a history.
+use Rattle.std.proofs.Common.{◌≡◌, ℕ, suc, ◌+◌, ◌==◌, eqb, List, [], ◌∷◌, ◌++◌, length, slice_get, Option, None, Some, All, sym, subst, ⊎_elim}
+use Rattle.std.proofs.lemmas.List.Elements.{All-append, All-cons, All-nil, All-push}
+use Rattle.inf_base.specs.declared.id.Id.{Id}
+use Rattle.inf_base.specs.declared.answer.Answer.{Answer}
+use Rattle.inf_base.specs.declared.answer.Answer.TheVariants as answer
+use Rattle.inf_base.specs.declared.call.Call.{Call}
+use Rattle.inf_base.specs.declared.caller.CallRef.{CallRef}
+use Rattle.inf_base.specs.declared.entry.Entry.{Entry}
+use Rattle.inf_base.specs.declared.errno.Errno.{Errno}
+use Rattle.inf_base.specs.declared.file.FileMeta.{FileMeta}
+use Rattle.inf_base.specs.declared.item.Kind.{Kind}
+use Rattle.inf_base.specs.declared.setup.ClientLine.{ClientLine}
+use Rattle.inf_base.specs.declared.triple.Triple.{Triple}
+use Rattle.inf_base.specs.Same.{dir_of}
+use Rattle.inf_duty.specs.After.{client_after}
+use Rattle.inf_duty.specs.Duty.{asked, given_up_in}
+use Rattle.inf_duty.specs.Outcome.{Agrees, OutcomeFrom, all_given_up, results_of, so_far, unanswered}
+use Rattle.inf_duty.specs.Start.{starting}
+use Rattle.inf_duty.specs.World.{World}
+use Rattle.inf_duty.proofs.BegunKept.{IsKept, if_both, kept_all_given_up, kept_begun}
+use Rattle.inf_flow_dir.specs.Client.{ClientState, Ending, Sent, Stage, act, answers, compose, ended, result_of, retries, round, winds, wound}
+use Rattle.inf_flow_dir.specs.Flow.{Flow, Who, birth_of, clean_up, finishes, links, makes, reserves, seals, unlinks}
+use Rattle.inf_flow_dir.specs.Group.{Course, composed_stage, keys_of, next_course}
+use Rattle.inf_flow_dir.specs.Heard.{heard}
+use Rattle.inf_flow_dir.specs.Turn.{Next, Turn, act_turn, after_act, after_make, after_round, by_next, fails, follow, from_root, goes_on, is_busy, links_to, next_entry, recorded, served, steps, stops, told_entry, turn_at, turned, winds_up}
+use Rattle.inf_laws_history.proofs.ClientSteps.{by_answer}
+use Rattle.inf_message.specs.declared.ask.Ask.{Ask}
+use Rattle.inf_message.specs.declared.call_result.CallResult.{CallResult}
+use Rattle.inf_message.specs.declared.event.Event.{Event}
+use Rattle.inf_message.specs.declared.event.Event.TheVariants as event
+use Rattle.inf_message.specs.declared.op.Op.TheVariants as op
+use Rattle.inf_message.specs.declared.reply.Reply.{Reply}
+use Rattle.inf_message.specs.declared.reply.Reply.TheVariants as reply
+use Rattle.inf_message.specs.declared.step.Message.{Message}
+use Rattle.inf_message.specs.History.{Told, told_reply}
+
+-- an answer, and the place that it comes with, if any
+abbrev pub Of : Type 1
+Of = Answer → Option ℕ → Type 0
+
+-- so are the answers of calls: those that a reply brings have its place, and want of memory has none
+pub record IsOfServes (P : Of) : Type 0 where
+  pub done : (place : ℕ) → P answer.Done (Some place)
+  pub stat : (kind : Kind) (meta : FileMeta) (place : ℕ) → P (answer.Stat kind meta) (Some place)
+  pub refused : (error : Errno) (place : ℕ) → P (answer.Refused error) (Some place)
+  pub again : (by : CallRef) (place : ℕ) → P (answer.Again by) (Some place)
+  pub clash : (own kept : Triple) (place : ℕ) → P (answer.IdClash own kept) (Some place)
+  pub wanting : P answer.NoMemory None
+
+abbrev pub EndingIs : Of → Ending → Type 0
+EndingIs P (answers given at) = P given at
+EndingIs P retries = Unit {0}
+
+abbrev pub StageIs : Of → Stage → Type 0
+StageIs P (winds ending m ms) = EndingIs P ending
+StageIs P other_stage = Unit {0}
+
+abbrev TurnIs : Of → Turn → Type 0
+TurnIs P (goes_on next) = StageIs P next
+TurnIs P (winds_up ending more) = EndingIs P ending
+
+abbrev pub ResultIs : Of → CallResult → Type 0
+ResultIs P result = P result.answer result.place
+
+module _ (P : Of) (of : IsOfServes P) where
+  -- ---- after a message of a flow
+
+  fails_is : (who : Who) (flow : Flow) (place : ℕ) (given : Reply) → TurnIs P (fails who flow place given)
+  fails_is who flow place (reply.Busy by at born) = of.again by place
+  fails_is who flow place (reply.Refused error) = of.refused error place
+  fails_is who flow place reply.NoMem = of.wanting
+  fails_is who flow place any_reply = tt
+
+  make_is : (who : Who) (flow : Flow) (own : Triple) (place : ℕ) (given : Reply) → TurnIs P (after_make who flow own place given)
+  make_is who flow own place (reply.Clash kept) = of.clash own kept place
+  make_is who flow own place any_reply = fails_is who flow place any_reply
+
+  act_is : (digest : List ℕ → Id) (who : Who) (flow : Flow) (asked place : ℕ) (given : Reply) → TurnIs P (after_act digest who flow asked place given)
+  act_is digest who (finishes chain (op.Create name mode)) asked place reply.Fine = of.done place
+  act_is digest who (finishes chain (op.Stat name)) asked place (reply.Stat kind meta) = of.stat kind meta place
+  act_is digest who (reserves chain name mode) asked place (reply.Reserved version) = tt
+  act_is digest who (makes chain name mode version id) asked place reply.Fine = tt
+  act_is digest who (makes chain name mode version id) asked place given =
+      make_is who (makes chain name mode version id) (birth_of who chain name version) place given
+  act_is digest who (links chain name mode version dir) asked place reply.Fine = of.done place
+  act_is digest who (seals chain) asked place reply.Fine = tt
+  act_is digest who (unlinks chain) asked place reply.Fine = of.done place
+  act_is digest who flow asked place given = fails_is who flow place given
+
+  told_is : (digest : List ℕ → Id) (who : Who) (flow : Flow) (place : ℕ) (told : Option Told) (xs : List Sent)
+      → TurnIs P (act_turn digest who flow (record { place = place; told = told } ∷ xs))
+  told_is digest who flow place None xs = tt
+  told_is digest who flow place (Some told) xs = act_is digest who flow place told.serve_place told.reply
+
+  flow_is : (digest : List ℕ → Id) (who : Who) (flow : Flow) (sent : List Sent) → TurnIs P (act_turn digest who flow sent)
+  flow_is digest who flow [] = tt
+  flow_is digest who flow (x ∷ xs) = told_is digest who flow x.place x.told xs
+
+  -- ---- after a round
+
+  abbrev NextIs : Next → Type 0
+  NextIs (is_busy given place) = P given (Some place)
+  NextIs other_next = Unit {0}
+
+  reply_is : (before : Entry) (place : ℕ) (given : Reply) → NextIs (next_entry before (Some (record { serve_place = place; reply = given })))
+  reply_is before place (reply.Found k access) = if_both NextIs (links_to (dir_of before.access) k) (steps (told_entry k access place)) stops tt tt
+  reply_is before place (reply.Busy by at born) = if_both NextIs (born == before.access.born) (is_busy (answer.Again by) place) stops (of.again by place) tt
+  reply_is before place any_reply = tt
+
+  next_is : (before : Entry) (told : Option Told) → NextIs (next_entry before told)
+  next_is before None = tt
+  next_is before (Some told) = reply_is before told.serve_place told.reply
+
+  by_next_is : (course : Course) (chain : List Entry) (name : List ℕ) (names : List (List ℕ)) (go : Entry → Turn) (next : Next) → NextIs next
+      → ((e : Entry) → TurnIs P (go e)) → TurnIs P (by_next course chain name names go next)
+  by_next_is course chain name names go (steps e) is goes = goes e
+  by_next_is course chain name names go stops is goes = tt
+  by_next_is course chain name names go (is_busy given place) is goes = is
+
+  follow_is : (course : Course) (chain : List Entry) (before : Entry) (names : List (List ℕ)) (sent : List Sent) → TurnIs P (follow course chain before names sent)
+  follow_is course chain before [] sent = tt
+  follow_is course chain before (name ∷ names) [] = tt
+  follow_is course chain before (name ∷ names) (x ∷ xs) =
+      by_next_is course chain name names (λ e. follow course (chain ++ e ∷ []) e names xs) (next_entry before x.told) (next_is before x.told)
+      (λ e. follow_is course (chain ++ e ∷ []) e names xs)
+
+  root_is : (course : Course) (xs : List Sent) (told : Told) (given : Reply) → TurnIs P (from_root course xs told given)
+  root_is course xs told (reply.Found k access) =
+      follow_is course (told_entry k access told.serve_place ∷ []) (told_entry k access told.serve_place) course.looked xs
+  root_is course xs told (reply.Busy by at born) = of.again by told.serve_place
+  root_is course xs told any_reply = tt
+
+  first_is : (course : Course) (place : ℕ) (told : Option Told) (xs : List Sent)
+      → TurnIs P (after_round (Some course) (record { place = place; told = told } ∷ xs))
+  first_is course place None xs = if_both (TurnIs P) _ (winds_up (answers answer.NoMemory None) []) (winds_up retries []) of.wanting tt
+  first_is course place (Some told) xs =
+      if_both (TurnIs P) _ (winds_up (answers answer.NoMemory None) []) (from_root course xs told told.reply) of.wanting (root_is course xs told told.reply)
+
+  round_is : (course : Option Course) (sent : List Sent) → TurnIs P (after_round course sent)
+  round_is None sent = tt
+  round_is (Some course) [] = tt
+  round_is (Some course) (x ∷ xs) = first_is course x.place x.told xs
+
+  turn_is : (digest : List ℕ → Id) (s : ClientState) (stage : Stage) → StageIs P stage → TurnIs P (turn_at digest s stage)
+  turn_is digest s compose is = tt
+  turn_is digest s (round keys) is = round_is (next_course s.left) s.sent
+  turn_is digest s (act flow) is = flow_is digest s.who flow s.sent
+  turn_is digest s (winds ending m ms) is = is
+
+  -- ---- a client
+
+  pub record AllAre (s : ClientState) : Type 0 where
+    pub results : All (ResultIs P) s.results
+    pub stage : StageIs P s.stage
+
+  ended_are : (given : Answer) (at : Option ℕ) (s : ClientState) → P given at → All (ResultIs P) s.results → AllAre (ended given at s)
+  ended_are given at s is before =
+      record { results = All-push (ResultIs P) s.results (result_of given at s.counts.last s) before is; stage = tt }
+
+  wound_are : (ending : Ending) (more : List Message) (s : ClientState) → EndingIs P ending → All (ResultIs P) s.results → AllAre (wound ending more s)
+  wound_are (answers given at) [] s is before = ended_are given at s is before
+  wound_are retries [] s is before = record { results = before; stage = tt }
+  wound_are ending (m ∷ ms) s is before = record { results = before; stage = is }
+
+  turned_are : (turn : Turn) (s : ClientState) → TurnIs P turn → All (ResultIs P) s.results → AllAre (turned turn s)
+  turned_are (goes_on next) s is before = record { results = before; stage = is }
+  turned_are (winds_up ending more) s is before = wound_are ending more s is before
+
+  given_up_are : (s : ClientState) (stage : Stage) → AllAre s → AllAre (given_up_in s stage)
+  given_up_are s (act flow) before = wound_are (answers answer.NoMemory None) (clean_up s.who flow) s of.wanting before.results
+  given_up_are s (winds ending m ms) before = before
+  given_up_are s compose before = ended_are answer.NoMemory None s of.wanting before.results
+  given_up_are s (round keys) before = ended_are answer.NoMemory None s of.wanting before.results
+
+  keys_are : (digest : List ℕ → Id) (who : Who) (course : Option Course) → StageIs P (keys_of digest who course)
+  keys_are digest who None = tt
+  keys_are digest who (Some course) = tt
+
+  composed_is : (digest : List ℕ → Id) (s : ClientState) (stage : Stage) → StageIs P stage → StageIs P (composed_stage digest s stage)
+  composed_is digest s compose is = keys_are digest s.who (next_course s.left)
+  composed_is digest s (round keys) is = is
+  composed_is digest s (act flow) is = is
+  composed_is digest s (winds ending m ms) is = is
+
+  kept : (digest : List ℕ → Id) → IsKept digest AllAre
+  kept digest = record {
+    composing = λ s before. record { results = before.results; stage = composed_is digest s s.stage before.stage };
+    giving_up = λ s before. given_up_are s s.stage before;
+  }
+
+  served_are : (digest : List ℕ → Id) (ask_place : ℕ) (told : Told) (s : ClientState) → AllAre s → AllAre (served digest ask_place told s)
+  served_are digest ask_place told s before =
+      by_answer digest AllAre ask_place told s
+      (λ apart. before)
+      (λ here going. record { results = before.results; stage = before.stage })
+      (λ here over.
+      turned_are (turn_at digest (recorded ask_place told s) s.stage) (recorded ask_place told s)
+      (turn_is digest (recorded ask_place told s) s.stage before.stage) before.results)
+
+  starting_are : (world : World) (client : ℕ) (line : Option ClientLine) → AllAre (starting world client line)
+  starting_are world client None = record { results = All-nil (ResultIs P); stage = tt }
+  starting_are world client (Some line) = record { results = All-nil (ResultIs P); stage = tt }
+
+  pub answers_after : (world : World) (client : ℕ) (h : List Event) → AllAre (client_after world client h)
+  answers_after world client [] = starting_are world client (slice_get world.setup.clients client)
+  answers_after world client (event.Ask number ask ∷ h) =
+      let s : ClientState = client_after world client h in
+      let now = kept_begun world.digest AllAre (kept world.digest) ask s.sent s (answers_after world client h) in
+      if_both AllAre (eqb ask.from.client client) (asked world.digest (suc (length h)) ask s) s
+      (record { results = now.results; stage = now.stage }) (answers_after world client h)
+  answers_after world client (event.Serve number ask_place given ∷ h) =
+      served_are world.digest ask_place (told_reply (suc (length h)) (heard given)) (client_after world client h) (answers_after world client h)
+
+  pub all_given_up_are : (digest : List ℕ → Id) (s : ClientState) → AllAre s → AllAre (all_given_up s.left s)
+  all_given_up_are digest s are = kept_all_given_up digest AllAre (kept digest) s.left s are
+
+  -- ---- all results
+
+  module _ (open_yet : P answer.Unanswered None) where
+    so_far_is : (stage : Stage) (s : ClientState) → StageIs P stage → ResultIs P (so_far stage s)
+    so_far_is (winds (answers given at) m ms) s is = is
+    so_far_is (winds retries m ms) s is = open_yet
+    so_far_is compose s is = open_yet
+    so_far_is (round keys) s is = open_yet
+    so_far_is (act flow) s is = open_yet
+
+    left_are : (calls : List Call) (s : ClientState) → StageIs P s.stage → All (ResultIs P) (unanswered calls s)
+    left_are [] s is = All-nil (ResultIs P)
+    left_are (call ∷ calls) s is =
+        All-cons (ResultIs P) (so_far s.stage s) (unanswered calls (ended answer.Unanswered None s)) (so_far_is s.stage s is)
+        (left_are calls (ended answer.Unanswered None s) tt)
+
+    results_are : (s : ClientState) → AllAre s → All (ResultIs P) (results_of s)
+    results_are s are = All-append (ResultIs P) s.results (unanswered s.left s) are.results (left_are s.left s are.stage)
+
+    agreeing_are : (digest : List ℕ → Id) (s : ClientState) (mine : List CallResult) → AllAre s → Agrees s mine → All (ResultIs P) mine
+    agreeing_are digest s mine are agrees =
+        ⊎_elim
+        (λ (same : mine ≡ results_of s). subst (All (ResultIs P)) (sym same) (results_are s are))
+        (λ (gave : (s.sent ≡ []) × (mine ≡ results_of (all_given_up s.left s))).
+        subst (All (ResultIs P)) (sym gave.1) (results_are (all_given_up s.left s) (all_given_up_are digest s are)))
+        agrees
+
+    -- the answers of all results, with their places
+    pub outcome_are : (world : World) (h : List Event) (client : ℕ) (lines : List ClientLine) (results : List CallResult)
+        → OutcomeFrom world h client lines results → All (ResultIs P) results
+    outcome_are world h client [] results out = subst (All (ResultIs P)) (sym out) (All-nil (ResultIs P))
+    outcome_are world h client (line ∷ lines) results out =
+        subst (All (ResultIs P)) (sym out.all)
+        (All-append (ResultIs P) out.mine out.others
+        (agreeing_are world.digest (client_after world client h) out.mine (answers_after world client h) out.agrees)
+        (outcome_are world h (client + 1) lines out.others out.later))

@@ -1,0 +1,399 @@
+-- A call that has something in hand at a place began before it, and ends behind it: its result tells so.
+use Rattle.std.proofs.Common.{◌≡◌, ◌≢◌, ◌⊎◌, inl, inr, ℕ, zero, suc, ◌+◌, ◌<◌, ◌≤◌, nat_lt, Bool, true, false, cond, eqb, List, [], ◌∷◌, ◌++◌, length, Option, Some, None, is_some, IfSome, refl, sym, ap, subst, ◌∙◌, ⊎_elim, arith}
+use Rattle.std.specs.List.{Contains}
+use Rattle.std.proofs.lemmas.Bool.{cases_eq}
+use Rattle.std.proofs.lemmas.Bool.Decides.{nat_tests}
+use Rattle.std.proofs.lemmas.List.Elements.{Contains-append_left, Contains-append_right, Contains-push}
+use Rattle.std.proofs.lemmas.Option.{slice_get_within}
+use Rattle.inf_base.specs.declared.id.Id.{Id}
+use Rattle.inf_base.specs.declared.answer.Answer.{Answer}
+use Rattle.inf_base.specs.declared.answer.Answer.TheVariants as answer
+use Rattle.inf_base.specs.declared.call.Call.{Call}
+use Rattle.inf_base.specs.declared.caller.CallRef.{CallRef}
+use Rattle.inf_base.specs.declared.setup.ClientLine.{ClientLine}
+use Rattle.inf_duty.specs.After.{client_after}
+use Rattle.inf_duty.specs.Duty.{asked, begun, given_up_in}
+use Rattle.inf_duty.specs.Outcome.{Agrees, Outcome, OutcomeFrom, all_given_up, are_none, is_free, results_of, so_far, unanswered}
+use Rattle.inf_duty.specs.World.{World}
+use Rattle.inf_duty.proofs.BegunKept.{IsKept, if_both, kept_all_given_up, kept_begun}
+use Rattle.inf_flow_dir.specs.Client.{ClientState, Counts, Ending, Stage, act, answers, call_ref, compose, ended, first_place, placed, result_of, retries, round, winds, wound}
+use Rattle.inf_flow_dir.specs.Flow.{Flow, Who, clean_up, finishes, links, makes, reserves, seals, unlinks}
+use Rattle.inf_flow_dir.specs.Group.{Course, composed_stage, keys_of, next_course}
+use Rattle.inf_flow_dir.specs.Heard.{heard}
+use Rattle.inf_flow_dir.specs.Turn.{Turn, goes_on, later_place, recorded, served, turn_at, turned, winds_up}
+use Rattle.inf_laws_directory.specs.Phases.{Phase, idle}
+use Rattle.inf_laws_history.specs.Causes.{before}
+use Rattle.inf_laws_history.specs.Kept.{Kept}
+use Rattle.inf_laws_history.specs.Phases.{FlowHas, HasPhase}
+use Rattle.inf_laws_history.specs.Counted.{IsOfScript}
+use Rattle.inf_laws_history.specs.UnderWay.{IsAround, WasUnderWay}
+use Rattle.inf_laws_history.proofs.AgainCauses.{under_way}
+use Rattle.inf_laws_history.proofs.Begun.{IsInFlow, begun_after}
+use Rattle.inf_laws_history.proofs.ClientSteps.{Lasts, by_answer, lasts_kept, turned_lasts}
+use Rattle.inf_laws_history.proofs.DrivenFacts.{others_stay}
+use Rattle.inf_laws_history.proofs.Numbered.{IsNumbered, IsUnder, is_of_script, numbered_after, so_far_call, total_of}
+use Rattle.inf_laws_history.proofs.StepFacts.{client_is}
+use Rattle.inf_laws_history.proofs.ToldResults.{before_all, before_stays}
+use Rattle.inf_message.specs.declared.ask.Ask.{Ask}
+use Rattle.inf_message.specs.declared.call_result.CallResult.{CallResult}
+use Rattle.inf_message.specs.declared.event.Event.{Event}
+use Rattle.inf_message.specs.declared.event.Event.TheVariants as event
+use Rattle.inf_message.specs.declared.reply.Reply.{Reply}
+use Rattle.inf_message.specs.declared.step.Message.{Message}
+use Rattle.inf_message.specs.History.{Posted, Told, asked_at, event_at, told_reply}
+use Rattle.inf_message.proofs.HistoryLaws.{event_within}
+
+-- ---- a client from the place on
+
+-- the call is over, and was so around the place
+record IsPast (call : CallRef) (place : ℕ) (s : ClientState) : Type 0 where
+  result : CallResult
+  inside : Contains s.results result
+  own : result.call ≡ call
+  around : IsAround place result
+
+-- the first Ask of the call under way stands before the place
+record BeganBefore (place : ℕ) (counts : Counts) : Type 0 where
+  first : ℕ
+  is : counts.first ≡ Some first
+  less : first < place
+
+-- its last Serve behind it
+record ServedBehind (place : ℕ) (counts : Counts) : Type 0 where
+  last : ℕ
+  is : counts.last ≡ Some last
+  less : place < last
+
+-- the call is under way; it does not end without a Serve more, or had one
+record IsGoing (call : CallRef) (place : ℕ) (s : ClientState) : Type 0 where
+  is : call_ref s ≡ call
+  left : 0 < length s.left
+  began : BeganBefore place s.counts
+  holds : (is_free s.who s.stage ≡ false) ⊎ ServedBehind place s.counts
+
+abbrev IsMet : CallRef → ℕ → ClientState → Type 0
+IsMet call place s = IsPast call place s ⊎ IsGoing call place s
+
+module _ (digest : List ℕ → Id) (call : CallRef) (place : ℕ) where
+  abbrev Met : ClientState → Type 0
+  Met s = IsMet call place s
+
+  later_if : (last : Option ℕ) (at : ℕ) → last ≡ Some at → place < at → IfSome last (λ l. place < l)
+  later_if None at is less = tt
+  later_if (Some other) at is less = let same : other ≡ at = cc in omega (arith, same, less)
+
+  ends_around : (given : Answer) (at : Option ℕ) (s : ClientState) → call_ref s ≡ call → BeganBefore place s.counts → ServedBehind place s.counts → Met (ended given at s)
+  ends_around given at s is began served_it = inl (record {
+    result = result_of given at s.counts.last s;
+    inside = Contains-push s.results (result_of given at s.counts.last s);
+    own = is;
+    around = record { first = began.first; began = began.is; earlier = began.less; later = later_if s.counts.last served_it.last served_it.is served_it.less };
+  })
+
+  past_lasts : Lasts digest (λ s. IsPast call place s)
+  past_lasts = record {
+    composing = λ s is. record { result = is.result; inside = is.inside; own = is.own; around = is.around };
+    ending = λ given at s is. record {
+      result = is.result;
+      inside = Contains-append_left s.results (result_of given at s.counts.last s ∷ []) is.result is.inside;
+      own = is.own;
+      around = is.around;
+    };
+    again = λ s is. record { result = is.result; inside = is.inside; own = is.own; around = is.around };
+    going_on = λ next s is. record { result = is.result; inside = is.inside; own = is.own; around = is.around };
+  }
+
+  -- ---- before a group
+
+  free_keys : (who : Who) (course : Option Course) → is_free who (keys_of digest who course) ≡ true
+  free_keys who None = refl
+  free_keys who (Some course) = refl
+
+  composed_free : (s : ClientState) (stage : Stage) → is_free s.who (composed_stage digest s stage) ≡ is_free s.who stage
+  composed_free s compose = free_keys s.who (next_course s.left)
+  composed_free s (round keys) = refl
+  composed_free s (act flow) = refl
+  composed_free s (winds ending m ms) = refl
+
+  composed_met : (s : ClientState) → Met s → Met (record s { stage = composed_stage digest s s.stage })
+  composed_met s (inl past) = inl (past_lasts.composing s past)
+  composed_met s (inr going) = inr (record {
+    is = going.is;
+    left = going.left;
+    began = going.began;
+    holds = ⊎_elim (λ holds. inl (composed_free s s.stage ∙ holds)) (λ behind. inr behind) going.holds;
+  })
+
+  -- where nothing has to be cleaned up, a Serve came behind the place
+  behind_if : (s : ClientState) (free : Bool) → free ≡ true → (free ≡ false) ⊎ ServedBehind place s.counts → ServedBehind place s.counts
+  behind_if s free is (inl holds) = absurd cc
+  behind_if s free is (inr behind) = behind
+
+  cleans_up : (s : ClientState) (more : List Message) → IsGoing call place s → (are_none more ≡ false) ⊎ ServedBehind place s.counts
+      → Met (wound (answers answer.NoMemory None) more s)
+  cleans_up s [] going holds = ends_around answer.NoMemory None s going.is going.began (behind_if s true refl holds)
+  cleans_up s (m ∷ ms) going holds = inr (record { is = going.is; left = going.left; began = going.began; holds = inl refl })
+
+  given_up_going : (s : ClientState) (stage : Stage) → IsGoing call place s → (is_free s.who stage ≡ false) ⊎ ServedBehind place s.counts → Met (given_up_in s stage)
+  given_up_going s (act flow) going holds = cleans_up s (clean_up s.who flow) going holds
+  given_up_going s (winds ending m ms) going holds = inr going
+  given_up_going s compose going holds = ends_around answer.NoMemory None s going.is going.began (behind_if s true refl holds)
+  given_up_going s (round keys) going holds = ends_around answer.NoMemory None s going.is going.began (behind_if s true refl holds)
+
+  given_up_met : (s : ClientState) → Met s → Met (given_up_in s s.stage)
+  given_up_met s (inl past) = inl ((lasts_kept digest (λ (t : ClientState). IsPast call place t) past_lasts).giving_up s past)
+  given_up_met s (inr going) = given_up_going s s.stage going going.holds
+
+  kept : IsKept digest Met
+  kept = record { composing = composed_met; giving_up = given_up_met }
+
+  began_still : (first : Option ℕ) (at now : ℕ) → first ≡ Some at → first_place first now ≡ Some at
+  began_still None at now is = absurd cc
+  began_still (Some first) at now is = is
+
+  placed_met : (now : ℕ) (s : ClientState) → Met s → Met (placed now s)
+  placed_met now s (inl past) = inl (record { result = past.result; inside = past.inside; own = past.own; around = past.around })
+  placed_met now s (inr going) = inr (record {
+    is = going.is;
+    left = going.left;
+    began = record { first = going.began.first; is = began_still s.counts.first going.began.first now going.began.is; less = going.began.less };
+    holds = ⊎_elim (λ holds. inl holds) (λ behind. inr (record { last = behind.last; is = behind.is; less = behind.less })) going.holds;
+  })
+
+  asked_met : (now : ℕ) (ask : Ask) (s : ClientState) → Met s → Met (asked digest now ask s)
+  asked_met now ask s met = placed_met now (begun digest ask s.sent s) (kept_begun digest Met kept ask s.sent s met)
+
+  -- ---- after a group
+
+  wound_met : (ending : Ending) (more : List Message) (s : ClientState) → call_ref s ≡ call → 0 < length s.left → BeganBefore place s.counts
+      → ServedBehind place s.counts → Met (wound ending more s)
+  wound_met (answers given at) [] s is left began behind = ends_around given at s is began behind
+  wound_met retries [] s is left began behind = inr (record {
+    is = is;
+    left = left;
+    began = record { first = began.first; is = began.is; less = began.less };
+    holds = inr (record { last = behind.last; is = behind.is; less = behind.less });
+  })
+  wound_met ending (m ∷ ms) s is left began behind = inr (record { is = is; left = left; began = began; holds = inl refl })
+
+  turned_met : (turn : Turn) (s : ClientState) → call_ref s ≡ call → 0 < length s.left → BeganBefore place s.counts → ServedBehind place s.counts → Met (turned turn s)
+  turned_met (goes_on next) s is left began behind = inr (record { is = is; left = left; began = began; holds = inr behind })
+  turned_met (winds_up ending more) s is left began behind = wound_met ending more s is left began behind
+
+  later_one : (last : Option ℕ) (at : ℕ) → place < at → (l : ℕ) × (later_place last at ≡ Some l) × (place < l)
+  later_one None at less = (at, refl, less)
+  later_one (Some earlier) at less = by (nat_lt earlier at) refl
+    where
+      by : (b : Bool) → nat_lt earlier at ≡ b → (l : ℕ) × (Some (cond b at earlier) ≡ Some l) × (place < l)
+      by true is = (at, refl, less)
+      by false is = (earlier, refl, grind (arith, nat_tests))
+
+  behind_now : (ask_place : ℕ) (told : Told) (s : ClientState) → place < told.serve_place → ServedBehind place (recorded ask_place told s).counts
+  behind_now ask_place told s less = let one = later_one s.counts.last told.serve_place less in record { last = one.0; is = one.1; less = one.2 }
+
+  served_met : (ask_place : ℕ) (told : Told) (s : ClientState) → place < told.serve_place → Met s → Met (served digest ask_place told s)
+  served_met ask_place told s less (inl past) =
+      by_answer digest Met ask_place told s
+      (λ apart. inl past)
+      (λ here going. inl (record { result = past.result; inside = past.inside; own = past.own; around = past.around }))
+      (λ here over.
+      inl (turned_lasts digest (λ (t : ClientState). IsPast call place t) past_lasts (turn_at digest (recorded ask_place told s) s.stage) (recorded ask_place told s)
+      (record { result = past.result; inside = past.inside; own = past.own; around = past.around })))
+  served_met ask_place told s less (inr going) =
+      let began : BeganBefore place (recorded ask_place told s).counts = record { first = going.began.first; is = going.began.is; less = going.began.less } in
+      by_answer digest Met ask_place told s
+      (λ apart. inr going)
+      (λ here on. inr (record { is = going.is; left = going.left; began = began; holds = inr (behind_now ask_place told s less) }))
+      (λ here over. turned_met (turn_at digest (recorded ask_place told s) s.stage) (recorded ask_place told s) going.is going.left began (behind_now ask_place told s less))
+
+  -- ---- its result
+
+  record HasResult (results : List CallResult) : Type 0 where
+    result : CallResult
+    inside : Contains results result
+    own : result.call ≡ call
+    around : IsAround place result
+
+  so_far_around : (stage : Stage) (s : ClientState) → BeganBefore place s.counts → IsAround place (so_far stage s)
+  so_far_around (winds (answers given at) m ms) s began = record { first = began.first; began = began.is; earlier = began.less; later = tt }
+  so_far_around (winds retries m ms) s began = record { first = began.first; began = began.is; earlier = began.less; later = tt }
+  so_far_around compose s began = record { first = began.first; began = began.is; earlier = began.less; later = tt }
+  so_far_around (round keys) s began = record { first = began.first; began = began.is; earlier = began.less; later = tt }
+  so_far_around (act flow) s began = record { first = began.first; began = began.is; earlier = began.less; later = tt }
+
+  going_result : (left : List Call) (s : ClientState) → 0 < length left → call_ref s ≡ call → BeganBefore place s.counts → HasResult (unanswered left s)
+  going_result [] s some is began = absurd (omega (arith, some))
+  going_result (next ∷ calls) s some is began = record {
+    result = so_far s.stage s;
+    inside = (zero, omega arith, refl);
+    own = so_far_call s.stage s ∙ is;
+    around = so_far_around s.stage s began;
+  }
+
+  results_have : (s : ClientState) → Met s → HasResult (results_of s)
+  results_have s (inl past) =
+      record { result = past.result; inside = Contains-append_left s.results (unanswered s.left s) past.result past.inside; own = past.own; around = past.around }
+  results_have s (inr going) =
+      let one = going_result s.left s going.left going.is going.began in
+      record { result = one.result; inside = Contains-append_right s.results (unanswered s.left s) one.result one.inside; own = one.own; around = one.around }
+
+  agreeing_have : (s : ClientState) (mine : List CallResult) → Met s → Agrees s mine → HasResult mine
+  agreeing_have s mine met agrees =
+      ⊎_elim
+      (λ (same : mine ≡ results_of s). subst HasResult (sym same) (results_have s met))
+      (λ (gave : (s.sent ≡ []) × (mine ≡ results_of (all_given_up s.left s))).
+      subst HasResult (sym gave.1) (results_have (all_given_up s.left s) (kept_all_given_up digest Met kept s.left s met)))
+      agrees
+
+  in_first : (first later : List CallResult) → HasResult first → HasResult (first ++ later)
+  in_first first later has = record { result = has.result; inside = Contains-append_left first later has.result has.inside; own = has.own; around = has.around }
+
+  in_later : (first later : List CallResult) → HasResult later → HasResult (first ++ later)
+  in_later first later has = record { result = has.result; inside = Contains-append_right first later has.result has.inside; own = has.own; around = has.around }
+
+  outcome_has : (world : World) (h : List Event) (client at : ℕ) (lines : List ClientLine) (results : List CallResult) → OutcomeFrom world h at lines results
+      → at ≤ client → client < at + length lines → Met (client_after world client h) → HasResult results
+  outcome_has world h client at [] results out from within met = absurd (omega (arith, from, within))
+  outcome_has world h client at (line ∷ lines) results out from within met =
+      subst HasResult (sym out.all)
+      (⊎_elim
+      (λ (same : client ≡ at). in_first out.mine out.others (agreeing_have (client_after world at h) out.mine (subst (λ c. Met (client_after world c h)) same met) out.agrees))
+      (λ (unlike : client ≢ at).
+      in_later out.mine out.others (outcome_has world h client (at + 1) lines out.others out.later (omega (arith, from, unlike)) (omega (arith, within)) met))
+      (cases_eq client at))
+
+-- ---- histories
+
+before_shorter : (place : ℕ) (h : List Event) → 1 ≤ place → length (before place h) < place
+before_shorter place [] counted = counted
+before_shorter place (e ∷ h) counted = by (nat_lt (suc (length h)) place) refl (before_shorter place h counted)
+  where
+    by : (b : Bool) → nat_lt (suc (length h)) place ≡ b → length (before place h) < place → length (cond b (e ∷ h) (before place h)) < place
+    by true is shorter = grind (arith, nat_tests)
+    by false is shorter = shorter
+
+module _ (world : World) (call : CallRef) (place number ask_place : ℕ) (given : Reply) (posted : Posted) (unlike : posted.ask.from.client ≢ call.client) where
+  abbrev IsAt : List Event → Type 0
+  IsAt h = event_at place h ≡ Some (event.Serve number ask_place given)
+
+  one_more : (e : Event) (h : List Event) → place ≤ length h → IsMet call place (client_after world call.client h)
+      → IsMet call place (client_after world call.client (e ∷ h))
+  one_more (event.Ask n ask) h within met =
+      if_both (IsMet call place) (eqb ask.from.client call.client) _ _ (asked_met world.digest call place (suc (length h)) ask (client_after world call.client h) met) met
+  one_more (event.Serve n p r) h within met =
+      served_met world.digest call place p (told_reply (suc (length h)) (heard r)) (client_after world call.client h) (omega (arith, within)) met
+
+  newest : (e : Event) (h : List Event) → IsAt (e ∷ h) → place ≡ suc (length h) → e ≡ event.Serve number ask_place given
+  newest e h at same = by (eqb place (suc (length h))) (grind (arith, nat_tests, same)) at
+    where
+      by : (b : Bool) → b ≡ true → cond b (Some e) (event_at place h) ≡ Some (event.Serve number ask_place given) → e ≡ event.Serve number ask_place given
+      by true is found = cc
+      by false is found = absurd cc
+
+  -- a client that is met just before the place is met from then on
+  met_after : (h : List Event) → 1 ≤ place → IsAt h → asked_at ask_place (before place h) ≡ Some posted
+      → IsMet call place (client_after world call.client (before place h)) → IsMet call place (client_after world call.client h)
+  met_after [] counted at asked_it met = absurd cc
+  met_after (e ∷ h) counted at asked_it met =
+      ⊎_elim
+      (λ (same : place ≡ suc (length h)).
+      let is : e ≡ event.Serve number ask_place given = newest e h at same in
+      let all : before place (e ∷ h) ≡ h = before_stays place e h (omega (arith, same)) ∙ before_all place h (omega (arith, same)) in
+      let there : asked_at ask_place h ≡ Some posted = subst (λ g. asked_at ask_place g ≡ Some posted) all asked_it in
+      subst (λ (x : Event). IsMet call place (client_after world call.client (x ∷ h))) (sym is)
+      (subst (IsMet call place) (sym (others_stay world h call.client number ask_place given posted there unlike))
+      (subst (λ g. IsMet call place (client_after world call.client g)) all met)))
+      (λ (apart : place ≢ suc (length h)).
+      let within = (event_within place (event.Serve number ask_place given) (e ∷ h) at).within in
+      let less : place ≤ length h = omega (arith, within, apart) in
+      let stays : before place (e ∷ h) ≡ before place h = before_stays place e h (omega (arith, less)) in
+      one_more e h less
+      (met_after h counted (older e h at apart) (subst (λ g. asked_at ask_place g ≡ Some posted) stays asked_it)
+      (subst (λ g. IsMet call place (client_after world call.client g)) stays met)))
+      (cases_eq place (suc (length h)))
+    where
+      older : (e : Event) (h : List Event) → IsAt (e ∷ h) → place ≢ suc (length h) → IsAt h
+      older e h at apart = by (eqb place (suc (length h))) (grind (arith, nat_tests, apart)) at
+        where
+          by : (b : Bool) → b ≡ false → cond b (Some e) (event_at place h) ≡ Some (event.Serve number ask_place given) → IsAt h
+          by true is found = cc
+          by false is found = found
+
+-- ---- a call that has something in hand
+
+flow_holds : (who : Who) (flow : Flow) (phase : Phase) → FlowHas who flow phase → phase ≢ idle → are_none (clean_up who flow) ≡ false
+flow_holds who (finishes chain what) phase has acts = absurd (acts has)
+flow_holds who (reserves chain name mode) phase has acts = absurd (acts has)
+flow_holds who (makes chain name mode version id) phase has acts = refl
+flow_holds who (links chain name mode version dir) phase has acts = refl
+flow_holds who (seals chain) phase has acts = absurd (acts has)
+flow_holds who (unlinks chain) phase has acts = refl
+
+holds_at : (digest : List ℕ → Id) (who : Who) (stage : Stage) (phase : Phase) → HasPhase digest who stage phase → phase ≢ idle → is_free who stage ≡ false
+holds_at digest who compose phase has acts = absurd (acts has)
+holds_at digest who (round keys) phase has acts = absurd (acts has)
+holds_at digest who (act flow) phase has acts = flow_holds who flow phase has.0 acts
+holds_at digest who (winds ending m ms) phase has acts = refl
+
+flows_at : (who : Who) (stage : Stage) → is_free who stage ≡ false → IsInFlow stage
+flows_at who compose holds = absurd cc
+flows_at who (round keys) holds = absurd cc
+flows_at who (act flow) holds = tt
+flows_at who (winds ending m ms) holds = tt
+
+under_in : (left : List Call) (stage : Stage) → IsInFlow stage → IsUnder left stage → 0 < length left
+under_in left compose flows under = absurd flows
+under_in left (round keys) flows under = absurd flows
+under_in left (act flow) flows under = under
+under_in left (winds ending m ms) flows under = under
+
+began_within : (first : Option ℕ) (most place : ℕ) → IfSome first (λ at. at ≤ most) → is_some first ≡ true → most < place → (at : ℕ) × (first ≡ Some at) × (at < place)
+began_within None most place within some less = absurd cc
+began_within (Some first) most place within some less = (first, refl, omega (arith, within, less))
+
+module _ (world : World) (h : List Event) (kept : Kept world h) (by : CallRef) (acts : kept.phases by ≢ idle) (place : ℕ) (less : length h < place) where
+  abbrev s : ClientState
+  s = client_after world by.client h
+
+  number_is : by.number ≡ s.number
+  number_is = under_way world h kept by acts
+
+  ref_is : call_ref s ≡ by
+  ref_is =
+      let number : ℕ = s.number in
+      subst (λ n. record { client = s.who.client; number = n } ≡ by) number_is
+      (ap (λ c. record { client = c; number = by.number }) (client_is world h by.client))
+
+  holds : is_free s.who s.stage ≡ false
+  holds = holds_at world.digest s.who s.stage (kept.phases (call_ref s)) (kept.clients by.client).phase (subst (λ (c : CallRef). kept.phases c ≢ idle) (sym ref_is) acts)
+
+  numbered : IsNumbered by.client (total_of world by.client) s
+  numbered = numbered_after world by.client h
+
+  left : 0 < length s.left
+  left = under_in s.left s.stage (flows_at s.who s.stage holds) numbered.under
+
+  began : BeganBefore place s.counts
+  began =
+      let begun_it = begun_after world by.client h in
+      let first = began_within s.counts.first (length h) place begun_it.within (begun_it.flows (flows_at s.who s.stage holds)) less in
+      record { first = first.0; is = first.1; less = first.2 }
+
+  is_met : IsMet by place (client_after world by.client h)
+  is_met = inr (record { is = ref_is; left = left; began = began; holds = inl holds })
+
+  acts_of_script : IsOfScript world by
+  acts_of_script = is_of_script world by (omega (arith, number_is, numbered.counted)) (omega (arith, number_is, numbered.all, left))
+
+-- a call that has something in hand just before a place, at which another client is answered, was under way there
+pub was_under_way : (world : World) (h : List Event) (results : List CallResult) → Outcome world h results → (place number ask_place : ℕ) (given : Reply) (posted : Posted) (by : CallRef)
+    → event_at place h ≡ Some (event.Serve number ask_place given) → asked_at ask_place (before place h) ≡ Some posted → posted.ask.from.client ≢ by.client
+    → (kept : Kept world (before place h)) → kept.phases by ≢ idle → WasUnderWay world results place by
+was_under_way world h results out place number ask_place given posted by at asked_it unlike kept acts =
+    let counted = (event_within place (event.Serve number ask_place given) h at).counted in
+    let less = before_shorter place h counted in
+    let script = acts_of_script world (before place h) kept by acts place less in
+    let met = met_after world by place number ask_place given posted unlike h counted at asked_it (is_met world (before place h) kept by acts place less) in
+    let within = slice_get_within world.setup.clients by.client script.line script.client in
+    let has = outcome_has world.digest by place world h by.client 0 world.setup.clients results out (omega arith) (omega (arith, within)) met in
+    record { of_script = script; result = has.result; told = has.inside; own = has.own; around = has.around }
