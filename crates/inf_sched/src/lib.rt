@@ -4,6 +4,7 @@
 mod ending;
 mod examples;
 mod laws;
+mod limit_examples;
 mod limits;
 mod moving;
 mod opening;
@@ -24,6 +25,7 @@ pub use laws::{
     one_history_without_want_of_memory, one_outcome_without_want_of_memory,
     unanswered_calls_are_left, what_an_order_makes_is_an_outcome, what_an_order_makes_is_legal,
 };
+pub use limit_examples::limit_of_a_move;
 pub use limits::MOST_EVENTS;
 pub use posting::Posting;
 pub use queue::Queue;

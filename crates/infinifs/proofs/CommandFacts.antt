@@ -14,7 +14,7 @@ use Rattle.inf_base.specs.declared.answer.Answer.TheVariants as answer
 use Rattle.inf_base.specs.declared.caller.CallRef.{CallRef}
 use Rattle.inf_base.specs.declared.triple.Triple.{Triple}
 use Rattle.inf_order.specs.declared.moves.Move.{Move}
-use Rattle.inf_io.specs.Faults.{Rose}
+use Rattle.inf_io.specs.Faults.{Rose, Stays}
 use Rattle.inf_message.specs.declared.call_result.CallResult.{CallResult}
 use Rattle.inf_message.specs.declared.event.Event.{Event}
 use Rattle.inf_report.specs.Report.{report}
@@ -108,7 +108,7 @@ module _ (counts : ResultsAreCounted) (agains : AgainsAreOfChanges) (clashes : C
   outcome_did status.ReadFault before after old new did = absurd (cc)
   outcome_did status.ScriptRefused before after old new did = absurd (cc)
   outcome_did status.WriteFault before after old new did = (did.0, report_front old new did.1)
-  outcome_did status.NoMemory before after old new did = inr (report_front old new did)
+  outcome_did status.NoMemory before after old new did = (did.0, inr (report_front old new did.1))
 
 -- what holds of each text that is the script holds of the text that was read
 of_the_text : (text : Option (List ℕ)) (script : Script) (P : List ℕ → Type 0) → IfSome text (λ t. meaning t ≡ Ok script)
@@ -123,16 +123,20 @@ broke_off text script old new read (inl kept) = inl kept
 broke_off text script old new read (inr part) = inr (of_the_text text script (λ t. PartWritten t old new) read part)
 
 -- a script was read and run
-pub sched_ran : (run : Run) (script : Script) (s : Status) → IfSome run.text (λ t. meaning t ≡ Ok script)
+pub sched_ran : (run : Run) (script : Script) (s : Status) → Stays run.source_before run.source_after → IfSome run.text (λ t. meaning t ≡ Ok script)
     → ScriptDid script s run.sink_before run.sink_after run.held_before run.held_after → SchedDid s run
-sched_ran run script status.Done read did =
+sched_ran run script status.Done source read did =
     of_the_text run.text script (λ t. Reported t run.held_before run.held_after) read did
-sched_ran run script status.WordsRefused read did = absurd did
-sched_ran run script status.ReadFault read did = absurd did
-sched_ran run script status.ScriptRefused read did = absurd did
-sched_ran run script status.WriteFault read did =
+sched_ran run script status.WordsRefused source read did = absurd did
+sched_ran run script status.ReadFault source read did = absurd did
+sched_ran run script status.ScriptRefused source read did = absurd did
+sched_ran run script status.WriteFault source read did =
     (did.0, broke_off run.text script run.held_before run.held_after read (inr did.1))
-sched_ran run script status.NoMemory read did = broke_off run.text script run.held_before run.held_after read did
+sched_ran run script status.NoMemory source read did = record {
+  source = source;
+  sink = did.0;
+  broke_off = broke_off run.text script run.held_before run.held_after read did.1;
+}
 
 -- ---- no script was read, and the line of its refusal written
 
@@ -151,17 +155,20 @@ refusal_front None refusal old new read front = tt
 refusal_front (Some t) refusal old new read front =
     record { bytes = refusal_line refusal; is_output = inr (refusal_of t refusal read); front = front }
 
-pub sched_refused : (run : Run) (refusal : ScriptRefusal) (s : Status)
+pub sched_refused : (run : Run) (refusal : ScriptRefusal) (s : Status) → Stays run.source_before run.source_after
     → IfSome run.text (λ t. meaning t ≡ Err refusal)
     → WriteDid status.ScriptRefused (refusal_line refusal) s run.sink_before run.sink_after run.held_before run.held_after → SchedDid s run
-sched_refused run refusal status.Done read did = absurd (cc)
-sched_refused run refusal status.WordsRefused read did = absurd (cc)
-sched_refused run refusal status.ReadFault read did = absurd (cc)
-sched_refused run refusal status.ScriptRefused read did = refused_script run.text refusal run.held_before run.held_after read did.1
-sched_refused run refusal status.WriteFault read did =
+sched_refused run refusal status.Done source read did = absurd (cc)
+sched_refused run refusal status.WordsRefused source read did = absurd (cc)
+sched_refused run refusal status.ReadFault source read did = absurd (cc)
+sched_refused run refusal status.ScriptRefused source read did = refused_script run.text refusal run.held_before run.held_after read did.1
+sched_refused run refusal status.WriteFault source read did =
     (did.0, inr (refusal_front run.text refusal run.held_before run.held_after read did.1))
-sched_refused run refusal status.NoMemory read did =
-    inr (refusal_front run.text refusal run.held_before run.held_after read did)
+sched_refused run refusal status.NoMemory source read did = record {
+  source = source;
+  sink = did.0;
+  broke_off = inr (refusal_front run.text refusal run.held_before run.held_after read did.1);
+}
 
 -- ---- what is left without a fault
 

@@ -15,7 +15,7 @@ use Rattle.inf_laws_history.specs.Legal.{Legal}
 use Rattle.inf_duty.specs.Outcome.{Outcome}
 use Rattle.inf_laws_history.specs.Replayed.{decisions}
 use Rattle.inf_duty.specs.World.{World, world_of}
-use Rattle.inf_io.specs.Faults.{Rose}
+use Rattle.inf_io.specs.Faults.{Rose, Stays}
 use Rattle.inf_message.specs.declared.call_result.CallResult.{CallResult}
 use Rattle.inf_message.specs.declared.event.Event.{Event}
 use Rattle.inf_order.specs.declared.moves.Move.{Move}
@@ -124,10 +124,10 @@ BreaksOff text old new = Keeps old new ⊎ IfSome text (λ t. PartWritten t old 
 -- what reading the source did: it gave as much of the text as a script may have, and whether there is more
 abbrev pub TextDid : Result Text InputFault → Option (List ℕ) → ℕ → ℕ → Type 0
 TextDid (Ok read) text before after =
-    IfSome text (λ t. (read.bytes.items ≡ take MOST_SCRIPT_BYTES t) × (read.more ≡ nat_lt MOST_SCRIPT_BYTES (length t))) × (read.more ≡ true → MOST_SCRIPT_BYTES ≤ length read.bytes.items)
+    Stays before after × IfSome text (λ t. (read.bytes.items ≡ take MOST_SCRIPT_BYTES t) × (read.more ≡ nat_lt MOST_SCRIPT_BYTES (length t))) × (read.more ≡ true → MOST_SCRIPT_BYTES ≤ length read.bytes.items)
 TextDid (Err fault.Read) text before after = Rose before after
 TextDid (Err (fault.Refused refusal)) text before after = ⊥
-TextDid (Err fault.NoMemory) text before after = Unit {0}
+TextDid (Err fault.NoMemory) text before after = Stays before after
 
 -- the script is what the text says, and may be run
 pub record IsScriptOf (text : Option (List ℕ)) (script : Script) : Type 0 where
@@ -137,10 +137,10 @@ pub record IsScriptOf (text : Option (List ℕ)) (script : Script) : Type 0 wher
 
 -- what reading the script did: it gave the script that the text is, or a refusal, or the source failed
 abbrev pub InputDid : Result Script InputFault → Option (List ℕ) → ℕ → ℕ → Type 0
-InputDid (Ok script) text before after = IsScriptOf text script
+InputDid (Ok script) text before after = Stays before after × IsScriptOf text script
 InputDid (Err fault.Read) text before after = Rose before after
-InputDid (Err (fault.Refused refusal)) text before after = IfSome text (λ t. meaning t ≡ Err refusal)
-InputDid (Err fault.NoMemory) text before after = Unit {0}
+InputDid (Err (fault.Refused refusal)) text before after = Stays before after × IfSome text (λ t. meaning t ≡ Err refusal)
+InputDid (Err fault.NoMemory) text before after = Stays before after
 
 -- the statuses that say that a text was written whole
 abbrev pub WritesWhole : Status → Type 0
@@ -154,7 +154,7 @@ WritesWhole status.NoMemory = ⊥
 -- what writing a text did: it was written whole, which ends with the status `whole`, or a front of it was
 abbrev pub WriteDid : Status → List ℕ → Status → ℕ → ℕ → Option (List ℕ) → Option (List ℕ) → Type 0
 WriteDid whole text status.WriteFault before after old new = Rose before after × AppendsFront old new text
-WriteDid whole text status.NoMemory before after old new = AppendsFront old new text
+WriteDid whole text status.NoMemory before after old new = Stays before after × AppendsFront old new text
 WriteDid whole text status before after old new = (status ≡ whole) × Appends old new text
 
 -- what running a script did, whatever text it was read from
@@ -166,7 +166,7 @@ ScriptDid script status.ScriptRefused before after old new = ⊥
 ScriptDid script status.WriteFault before after old new =
     Rose before after × ((text : List ℕ) → meaning text ≡ Ok script → PartWritten text old new)
 ScriptDid script status.NoMemory before after old new =
-    Keeps old new ⊎ ((text : List ℕ) → meaning text ≡ Ok script → PartWritten text old new)
+    Stays before after × (Keeps old new ⊎ ((text : List ℕ) → meaning text ≡ Ok script → PartWritten text old new))
 
 -- the bytes that the source had left, the counts of faults of source and sink, and the bytes that the sink held
 pub record Run : Type 0 where
@@ -178,6 +178,12 @@ pub record Run : Type 0 where
   pub held_before : Option (List ℕ)
   pub held_after : Option (List ℕ)
 
+-- memory was wanting, and neither the source nor the sink failed
+pub record WantedMemory (run : Run) : Type 0 where
+  pub source : Stays run.source_before run.source_after
+  pub sink : Stays run.sink_before run.sink_after
+  pub broke_off : BreaksOff run.text run.held_before run.held_after
+
 -- what `sched` did, by the status that it ends with
 abbrev pub SchedDid : Status → Run → Type 0
 SchedDid status.Done run = IfSome run.text (λ text. Reported text run.held_before run.held_after)
@@ -185,7 +191,7 @@ SchedDid status.WordsRefused run = ⊥
 SchedDid status.ReadFault run = Rose run.source_before run.source_after × Keeps run.held_before run.held_after
 SchedDid status.ScriptRefused run = IfSome run.text (λ text. RefusedScript text run.held_before run.held_after)
 SchedDid status.WriteFault run = Rose run.sink_before run.sink_after × BreaksOff run.text run.held_before run.held_after
-SchedDid status.NoMemory run = BreaksOff run.text run.held_before run.held_after
+SchedDid status.NoMemory run = WantedMemory run
 
 abbrev pub code_of : Status → ℕ
 code_of status.Done = 0

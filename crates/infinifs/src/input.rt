@@ -1,7 +1,7 @@
 //! The script of a run, from the bytes of a source.
 
 ghost use Rattle.std.specs.Prelude.{◌≡◌, ◌≤◌, ◌<◌, length, take, nat_lt, IsTrue, IfOk, IfErr, IfSome};
-ghost use Rattle.inf_io.specs.Faults.{Rose};
+ghost use Rattle.inf_io.specs.Faults.{Rose, Stays};
 ghost use Rattle.inf_script.specs.declared.script.TheConstants.{MOST_SCRIPT_BYTES};
 ghost use Rattle.infinifs.specs.Command.{InputDid, TextDid};
 

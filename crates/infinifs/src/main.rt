@@ -8,6 +8,8 @@ mod crossing_tests;
 #[cfg(test)]
 mod directory_tests;
 mod input;
+#[cfg(test)]
+mod largest_tests;
 mod sched;
 mod status;
 #[cfg(test)]

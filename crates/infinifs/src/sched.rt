@@ -5,7 +5,7 @@ ghost use Rattle.std.specs.List.{list_all};
 ghost use Rattle.std.specs.Io.KnownBytes.{Keeps};
 ghost use Rattle.inf_base.specs.Setup.{IsValid};
 ghost use Rattle.inf_duty.specs.Places.{HaveOwnPlaces};
-ghost use Rattle.inf_io.specs.Faults.{Rose};
+ghost use Rattle.inf_io.specs.Faults.{Rose, Stays};
 ghost use Rattle.inf_order.specs.Order.{is_move_of};
 ghost use Rattle.inf_report.specs.Report.{report};
 ghost use Rattle.inf_script.specs.Reading.{meaning};
@@ -46,6 +46,10 @@ pub fn sched_command<S: Source, K: Sink>(alloc: Global, source: &mut S, sink: &m
     ensures sink_failed { result ≡ 4 → Rose (K.faults sink.old) (K.faults sink.new) }
     ensures part_written { Contains (4 ∷ 5 ∷ []) result →
         BreaksOff (S.left source.old) (K.held sink.old) (K.held sink.new) }
+
+    // Want of memory is told only where neither of them failed.
+    ensures source_calm { result ≡ 5 → Stays (S.faults source.old) (S.faults source.new) }
+    ensures sink_calm { result ≡ 5 → Stays (K.faults sink.old) (K.faults sink.new) }
 
     // Without a fault a script is reported and a text that is none is refused, or memory was wanting.
     ensures complete { ¬ Rose (S.faults source.old) (S.faults source.new) →

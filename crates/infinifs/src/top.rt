@@ -2,7 +2,7 @@
 
 ghost use Rattle.std.specs.Prelude.{◌≡◌, Contains, true, false, [], ◌∷◌, ◌≤◌, map, string_bytes, IfSome, OnErr, OnOk};
 ghost use Rattle.std.specs.Io.KnownBytes.{Appends, Keeps};
-ghost use Rattle.inf_io.specs.Faults.{Rose};
+ghost use Rattle.inf_io.specs.Faults.{Rose, Stays};
 ghost use Rattle.inf_report.specs.Writing.{AppendsFront};
 ghost use Rattle.inf_script.specs.Reading.{meaning};
 ghost use Rattle.infinifs.specs.Command.{BreaksOff, Reported, RefusedScript, are_accepted, usage_line};
@@ -56,6 +56,10 @@ pub fn infinifs<S: Source, K: Sink>(
     ensures part_of_usage { Contains (4 ∷ 5 ∷ []) result →
         are_accepted (map string_bytes words.now) ≡ false →
         AppendsFront (K.held sink.old) (K.held sink.new) usage_line }
+
+    // Want of memory is told only where neither of them failed.
+    ensures source_calm { result ≡ 5 → Stays (S.faults source.old) (S.faults source.new) }
+    ensures sink_calm { result ≡ 5 → Stays (K.faults sink.old) (K.faults sink.new) }
 
     // Without a fault a script is reported and a text that is none is refused, or memory was wanting.
     ensures complete { are_accepted (map string_bytes words.now) ≡ true →

@@ -1,4 +1,4 @@
-use Rattle.std.proofs.Common.{inl, reverse, subst}
+use Rattle.std.proofs.Common.{inl, refl, reverse, subst}
 use Rattle.std.proofs.KnownBytes.{Keeps-refl}
 use Rattle.inf_duty.specs.World.{world_of}
 use Rattle.inf_sched.specs.Order.{ByOrder}
@@ -21,4 +21,4 @@ returns-in-Ok g c =
     did c.write_outcome.result _ _ _ _ c.write_outcome.ensures
 
 pub returns-in-Err : goal.returns-in-Err
-returns-in-Err g c = inl (Keeps-refl _)
+returns-in-Err g c = (refl, inl (Keeps-refl _))
