@@ -121,8 +121,7 @@ fn script_of_the_most(alloc: Global) -> Result<Vec<u8>, Fail> {
 
 /// Each call looks up the root, and asks for the file.
 fn report_of_the_most(alloc: Global) -> Result<Vec<u8>, Fail> {
-    let mut text =
-        b"infinifs report 1\nservers 64\ndigest-bytes 32\ncache 256\n".to_vec(alloc)?;
+    let mut text = b"infinifs report 1\nservers 64\ndigest-bytes 32\ncache 256\n".to_vec(alloc)?;
     for client in 0..64 {
         let line = format!(in alloc; "client c{client} 0 0\n")?;
         text.extend_from_slice(line.as_bytes())?;
@@ -136,7 +135,9 @@ fn report_of_the_most(alloc: Global) -> Result<Vec<u8>, Fail> {
             let last = before.saturating_add(4);
             let call = format!(in alloc; "{last} c{client}.{number} stat /f = refused ENOENT")?;
             text.extend_from_slice(call.as_bytes())?;
-            let counts = format!(in alloc; " first {first} last {last} attempts 1 rounds 1 messages 2\n")?;
+            let counts = format!(in alloc;
+                " first {first} last {last} attempts 1 rounds 1 messages 2\n"
+            )?;
             text.extend_from_slice(counts.as_bytes())?;
             before = last;
         }
