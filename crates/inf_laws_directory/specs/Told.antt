@@ -6,7 +6,6 @@ use Rattle.inf_base.specs.declared.directory.DirRef.{DirRef}
 use Rattle.inf_base.specs.declared.entry.Entry.{Entry}
 use Rattle.inf_base.specs.declared.key.Key.{Key}
 use Rattle.inf_base.specs.declared.key.Key.TheVariants as key
-use Rattle.inf_base.specs.Content.{TopAccess}
 use Rattle.inf_base.specs.Same.{dir_of}
 use Rattle.inf_laws_directory.specs.Objects.{Objects, Service, content_in, directories_of}
 use Rattle.inf_laws_directory.specs.Owned.{Links}
@@ -51,7 +50,3 @@ pub record IsUnborn (service : Service) (objects : Objects) (place : ℕ) : Type
   pub contents : (dir : DirRef) → dir.born ≡ place → content_in service objects dir ≡ None
   pub links : (parent : DirRef) (name : List ℕ) (access : Access)
       → Links (directories_of service objects) parent name access → access.born ≡ place → ⊥
-
--- whichever server keeps the root's access object keeps this one
-abbrev pub RootStandsAt : Service → Objects → Access → Type 0
-RootStandsAt service objects root = (number : ℕ) (top : TopAccess) → (objects number).top ≡ Some top → top.access ≡ root
