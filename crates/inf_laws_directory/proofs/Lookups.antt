@@ -13,7 +13,7 @@ use Rattle.inf_message.specs.declared.reply.Reply.TheVariants as reply
 use Rattle.inf_server.specs.Lookups.{told_of}
 use Rattle.inf_server.specs.State.{Site, State, is_here}
 use Rattle.inf_laws_server.specs.CameTo.{IsDone}
-use Rattle.inf_laws_directory.specs.Objects.{Objects, Service, directories_of, site_in}
+use Rattle.inf_laws_directory.specs.Objects.{Objects, Service, content_in, site_in}
 use Rattle.inf_laws_directory.specs.Owned.{Links}
 use Rattle.inf_laws_directory.specs.Phases.{Phases}
 use Rattle.inf_laws_directory.specs.Root.{RootStands}
@@ -44,7 +44,7 @@ found_in dir name (Some (directory kept (Some hold))) told access is = cc
 -- the root's access object under the root's key, and any other where it stands
 abbrev pub IsThere : Service → Objects → Access → Key → Access → Type 0
 IsThere service objects root key.Top access = access ≡ root
-IsThere service objects root (key.At dir name) access = Links (directories_of service objects) dir name access
+IsThere service objects root (key.At dir name) access = Links (content_in service objects) dir name access
 
 -- a lookup that was done tells of what is there
 module _ (service : Service) (objects : Objects) (number place : ℕ) (root : Access) (ask : Ask) (told : Key) (access : Access) (given : Reply) (new : State)
