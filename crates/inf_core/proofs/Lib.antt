@@ -1,4 +1,5 @@
 pub mod ByIndex
 pub mod CoreFacts
+pub mod KnownFlows
 pub mod Posted
 pub mod Replayed

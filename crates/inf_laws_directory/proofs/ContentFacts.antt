@@ -15,10 +15,9 @@ use Rattle.std.proofs.lemmas.Slice.Eq.{bytes_eq-Decides}
 use Rattle.inf_base.specs.declared.caller.CallRef.{CallRef}
 use Rattle.inf_base.specs.declared.directory.DirRef.{DirRef}
 use Rattle.inf_base.specs.declared.id.Id.{Id}
-use Rattle.inf_base.specs.declared.triple.Triple.{Triple}
 use Rattle.inf_base.specs.Content.{Content, Slot}
 use Rattle.inf_base.specs.Same.{is_same_dir, is_same_id}
-use Rattle.inf_content.specs.Contents.{changed_at, content_at, content_of_id, dropped_at, empty_content, id_cmp, if_born, made_at, may_drop, placed, slots_at, slots_found, with_new, with_slots_at}
+use Rattle.inf_content.specs.Contents.{changed_at, content_at, content_of_id, dropped_at, id_cmp, if_born, may_drop, placed, slots_at, slots_found}
 use Rattle.inf_content.specs.Order.{IdentifiersRise}
 use Rattle.inf_renames.proofs.RenamesFacts.{same_id}
 use Rattle.inf_laws_directory.proofs.SlotFacts.{AreSorted}
@@ -110,39 +109,6 @@ module _ (dir : DirRef) (change : Content → Content) (keeps : (c : Content) �
 abbrev pub with_changed : (List (List ℕ × Slot) → List (List ℕ × Slot)) → Content → Content
 with_changed change c = record c { slots = change c.slots }
 
--- one directory's slots changed, where the change makes nothing of none unless the directory is there
-pub slots_changed : (dir other : DirRef) (change : List (List ℕ × Slot) → List (List ℕ × Slot)) (contents : List Content)
-    → (content_at dir contents ≡ None → change [] ≡ [])
-    → slots_at other (with_slots_at dir change contents) ≡ cond (is_same_dir dir other) (change (slots_at other contents)) (slots_at other contents)
-slots_changed dir other change contents nothing = by (is_same_dir dir other) refl
-  where
-    here : (found : Option Content) → (found ≡ None → change [] ≡ []) → slots_found (option_map (with_changed change) found) ≡ change (slots_found found)
-    here None nothing = sym (nothing refl)
-    here (Some c) nothing = refl
-
-    by : (b : Bool) → is_same_dir dir other ≡ b
-        → slots_at other (with_slots_at dir change contents) ≡ cond b (change (slots_at other contents)) (slots_at other contents)
-    by true same =
-        subst (λ (d : DirRef). slots_at d (with_slots_at dir change contents) ≡ change (slots_at d contents)) (same_dir dir other same)
-        (ap slots_found (changed_here dir (with_changed change) (λ c. refl) contents) ∙ here (content_at dir contents) nothing)
-    by false apart = ap slots_found (changed_apart dir (with_changed change) (λ c. refl) other contents apart)
-
--- a change that leaves the slots
-pub slots_kept : (dir other : DirRef) (change : Content → Content) (contents : List Content)
-    → ((c : Content) → (change c).dir ≡ c.dir) → ((c : Content) → (change c).slots ≡ c.slots)
-    → slots_at other (changed_at dir change contents) ≡ slots_at other contents
-slots_kept dir other change contents keeps leaves = by (is_same_dir dir other) refl
-  where
-    here : (found : Option Content) → slots_found (option_map change found) ≡ slots_found found
-    here None = refl
-    here (Some c) = leaves c
-
-    by : (b : Bool) → is_same_dir dir other ≡ b → slots_at other (changed_at dir change contents) ≡ slots_at other contents
-    by true same =
-        subst (λ (d : DirRef). slots_at d (changed_at dir change contents) ≡ slots_at d contents) (same_dir dir other same)
-        (ap slots_found (changed_here dir change keeps contents) ∙ here (content_at dir contents))
-    by false apart = ap slots_found (changed_apart dir change keeps other contents apart)
-
 -- one more content object
 module _ (content : Content) where
   pub placed_here : (cs : List Content) → content_of_id content.dir.id (placed content cs) ≡ Some content
@@ -166,32 +132,6 @@ module _ (content : Content) where
           let here : is_same_id id c.dir.id ≡ false = subst (λ (x : Id). is_same_id id x ≡ false) (same_id content.dir.id c.dir.id test) apart in
           rw (apart, here) refl
       by Greater test later = ap (λ (o : Option Content). cond (is_same_id id c.dir.id) (Some c) o) later
-
-  -- with no slots, nothing stands there, as before
-  slots_placed : (other : DirRef) (contents : List Content) → content.slots ≡ [] → content_of_id content.dir.id contents ≡ None
-      → slots_at other (placed content contents) ≡ slots_at other contents
-  slots_placed other contents empty none = by (is_same_id other.id content.dir.id) refl
-    where
-      no_slots : (b : Bool) → slots_found (cond b (Some content) None) ≡ []
-      no_slots true = empty
-      no_slots false = refl
-
-      by : (b : Bool) → is_same_id other.id content.dir.id ≡ b → slots_at other (placed content contents) ≡ slots_at other contents
-      by true same =
-          let is : content.dir.id ≡ other.id = sym (same_id other.id content.dir.id same) in
-          let new : content_of_id other.id (placed content contents) ≡ Some content = subst (λ (x : Id). content_of_id x (placed content contents) ≡ Some content) is (placed_here contents) in
-          let old : content_of_id other.id contents ≡ None = subst (λ (x : Id). content_of_id x contents ≡ None) is none in
-          rw (new, old) (no_slots (content.dir.born == other.born))
-      by false apart = ap (λ (o : Option Content). slots_found (if_born other.born o)) (placed_apart other.id contents apart)
-
-pub slots_made : (id : Id) (born : ℕ) (asked : Triple) (by : CallRef) (other : DirRef) (contents : List Content)
-    → slots_at other (made_at id born asked by contents) ≡ slots_at other contents
-slots_made id born asked by other contents = by_kept (content_of_id id contents) refl
-  where
-    by_kept : (kept : Option Content) → content_of_id id contents ≡ kept
-        → slots_at other (with_new (empty_content id born asked by) kept contents) ≡ slots_at other contents
-    by_kept None none = slots_placed (empty_content id born asked by) other contents refl none
-    by_kept (Some kept) is = refl
 
 -- a directory dropped, where no two have one identifier
 abbrev pub bytes_of : List Content → List (List ℕ)

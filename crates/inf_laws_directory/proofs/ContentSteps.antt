@@ -1,7 +1,6 @@
 -- All stays owned where the content object of one directory comes, goes or changes, and the slots of all stay.
 use Rattle.std.proofs.Common.{◌≡◌, ℕ, true, false, List, inl, inr, Option, Some, is_some, refl, sym, ap, ◌∙◌, subst}
 use Rattle.std.proofs.lemmas.Bool.{both_ways}
-use mathlib.Core.Path.{fun_ext}
 use Rattle.inf_base.specs.declared.access.Access.{Access}
 use Rattle.inf_base.specs.declared.caller.CallRef.{CallRef}
 use Rattle.inf_base.specs.declared.directory.DirRef.{DirRef}
@@ -12,22 +11,33 @@ use Rattle.inf_base.specs.Content.{Content}
 use Rattle.inf_base.specs.Same.{dir_of, is_same_dir}
 use Rattle.inf_content.specs.Contents.{slots_found}
 use Rattle.inf_content.specs.Slots.{slot_in}
-use Rattle.inf_laws_directory.specs.Objects.{Objects, Service, content_in, directories_of}
+use Rattle.inf_laws_directory.specs.Objects.{Objects, Service, content_in, slots_kept}
 use Rattle.inf_content.specs.Order.{AreInOrder}
 use Rattle.inf_laws_directory.specs.Owned.{AreOwned, Has, HasPlace, IsUnlinked, KeepsName, KeepsSealed, Links}
 use Rattle.inf_laws_directory.specs.Phases.{IsLoose, IsReserving, IsSealing, Phase, Phases, has_made, has_reserved, has_sealed, has_unlinked, idle, with_phase}
-use Rattle.inf_laws_directory.specs.Things.{Directories}
+use Rattle.inf_laws_directory.specs.Things.{thing_in}
 use Rattle.inf_laws_directory.specs.Told.{IsGone, IsToldAs}
 use Rattle.inf_laws_directory.proofs.CallFacts.{each_call, phase_apart, phase_here}
 use Rattle.inf_laws_directory.proofs.ContentFacts.{same_dir_self}
-use Rattle.inf_laws_directory.proofs.Kept.{Becomes, each_dir}
+use Rattle.inf_laws_directory.proofs.Kept.{Becomes, Slots, each_dir}
 
 -- the same slots stand in all directories, where they do in the one that changed
-pub same_directories : (service : Service) (old new : Objects) (dir : DirRef) (now : Option Content) → Becomes service old new dir now
-    → slots_found now ≡ slots_found (content_in service old dir) → directories_of service new ≡ directories_of service old
-same_directories service old new dir now becomes same =
-    fun_ext (each_dir dir (λ (d : DirRef). directories_of service new d ≡ directories_of service old d)
-    (ap slots_found becomes.here ∙ same) (λ d apart. ap slots_found (becomes.others d apart)))
+module _ (service : Service) (old new : Objects) (dir : DirRef) (now : Option Content) (becomes : Becomes service old new dir now)
+    (same : slots_found now ≡ slots_found (content_in service old dir)) where
+  pub same_slot : (d : DirRef) (n : List ℕ) → slot_in n (slots_kept service new d) ≡ slot_in n (slots_kept service old d)
+  same_slot d n =
+      ap (λ (slots : Slots). slot_in n slots)
+      (each_dir dir (λ (d : DirRef). slots_kept service new d ≡ slots_kept service old d)
+      (ap slots_found becomes.here ∙ same) (λ d apart. ap slots_found (becomes.others d apart)) d)
+
+  pub link_was : (d : DirRef) (n : List ℕ) (access : Access) → Links (content_in service new) d n access → Links (content_in service old) d n access
+  link_was d n access linked = sym (ap thing_in (same_slot d n)) ∙ linked
+
+  pub link_stays : (d : DirRef) (n : List ℕ) (access : Access) → Links (content_in service old) d n access → Links (content_in service new) d n access
+  link_stays d n access linked = ap thing_in (same_slot d n) ∙ linked
+
+  pub still_unlinked : (d : DirRef) → IsUnlinked (content_in service old) d → IsUnlinked (content_in service new) d
+  still_unlinked d unlinked parent n access linked = unlinked parent n access (link_was parent n access linked)
 
 -- what the phases have to say of the change
 pub record MayBecome (service : Service) (old new : Objects) (root : Access) (phases : Phases) (by : CallRef) (phase : Phase)
@@ -41,8 +51,8 @@ pub record MayBecome (service : Service) (old new : Objects) (root : Access) (ph
   -- the directory may be so
   pub seals : (content : Content) (call : CallRef) → now ≡ Some content → content.seal ≡ Some call → IsSealing (with_phase by phase phases call) dir
   pub root_kept : dir ≡ dir_of root → is_some now ≡ true
-  pub linked_kept : (parent : DirRef) (name : List ℕ) (access : Access) → Links (directories_of service old) parent name access → dir_of access ≡ dir → is_some now ≡ true
-  pub placed : is_some now ≡ true → HasPlace (directories_of service old) root (with_phase by phase phases) dir
+  pub linked_kept : (parent : DirRef) (name : List ℕ) (access : Access) → Links (content_in service old) parent name access → dir_of access ≡ dir → is_some now ≡ true
+  pub placed : is_some now ≡ true → HasPlace (content_in service old) root (with_phase by phase phases) dir
   -- the call has what its new phase says, and the new phase says all that the call has beside
   pub has : Has service new by phase
   pub reserving : (other : DirRef) (name : List ℕ) → IsReserving (phases by) other name → IsReserving phase other name
@@ -54,20 +64,20 @@ pub record MayBecome (service : Service) (old new : Objects) (root : Access) (ph
 module _ (service : Service) (old new : Objects) (root : Access) (phases : Phases) (by : CallRef) (phase : Phase)
     (dir : DirRef) (now : Option Content) (owned : AreOwned service old root phases)
     (may : MayBecome service old new root phases by phase dir now) where
-  same_dirs : directories_of service new ≡ directories_of service old
-  same_dirs = same_directories service old new dir now may.becomes may.same_slots
-
   abbrev after : Phases
   after = with_phase by phase phases
 
-  same_slot : (d : DirRef) (n : List ℕ) → slot_in n (directories_of service new d) ≡ slot_in n (directories_of service old d)
-  same_slot d n = ap (λ (dirs : Directories). slot_in n (dirs d)) same_dirs
+  was_slot : (d : DirRef) (n : List ℕ) → slot_in n (slots_kept service new d) ≡ slot_in n (slots_kept service old d)
+  was_slot = same_slot service old new dir now may.becomes may.same_slots
 
-  same_links : (d : DirRef) (n : List ℕ) (access : Access) → Links (directories_of service new) d n access → Links (directories_of service old) d n access
-  same_links d n access linked = subst (λ (dirs : Directories). Links dirs d n access) same_dirs linked
+  same_links : (d : DirRef) (n : List ℕ) (access : Access) → Links (content_in service new) d n access → Links (content_in service old) d n access
+  same_links = link_was service old new dir now may.becomes may.same_slots
 
-  same_unlinked : (d : DirRef) → IsUnlinked (directories_of service old) d → IsUnlinked (directories_of service new) d
-  same_unlinked d unlinked parent name access linked = unlinked parent name access (same_links parent name access linked)
+  links_stay : (d : DirRef) (n : List ℕ) (access : Access) → Links (content_in service old) d n access → Links (content_in service new) d n access
+  links_stay = link_stays service old new dir now may.becomes may.same_slots
+
+  same_unlinked : (d : DirRef) → IsUnlinked (content_in service old) d → IsUnlinked (content_in service new) d
+  same_unlinked = still_unlinked service old new dir now may.becomes may.same_slots
 
   content_stays : (other : DirRef) → (other ≡ dir → ⊥) → content_in service new other ≡ content_in service old other
   content_stays = each_dir dir (λ (d : DirRef). (d ≡ dir → ⊥) → content_in service new d ≡ content_in service old d)
@@ -83,7 +93,7 @@ module _ (service : Service) (old new : Objects) (root : Access) (phases : Phase
   -- what another call has
   module _ (call : CallRef) (apart : call ≡ by → ⊥) where
     name_stays : (parent : DirRef) (n : List ℕ) (birth : Triple) → KeepsName service old call parent n birth → KeepsName service new call parent n birth
-    name_stays parent n birth kept = record { access = kept.access; slot = same_slot parent n ∙ kept.slot; birth_kept = kept.birth_kept }
+    name_stays parent n birth kept = record { access = kept.access; slot = was_slot parent n ∙ kept.slot; birth_kept = kept.birth_kept }
 
     sealed_stays : (target : DirRef) → IsSealing (phases call) target → KeepsSealed service old call target → KeepsSealed service new call target
     sealed_stays target sealing kept = record {
@@ -105,7 +115,7 @@ module _ (service : Service) (old new : Objects) (root : Access) (phases : Phase
         )
     has_stays (has_sealed parent n target) is has = (
       sealed_stays target (subst (λ (p : Phase). IsSealing p target) (sym is) refl) has.0,
-      record { access = has.1.access; linked = subst (λ (dirs : Directories). Links dirs parent n has.1.access) (sym same_dirs) has.1.linked; same = has.1.same },
+      record { access = has.1.access; linked = links_stay parent n has.1.access has.1.linked; same = has.1.same },
     )
     has_stays (has_unlinked target) is has =
         (sealed_stays target (subst (λ (p : Phase). IsSealing p target) (sym is) refl) has.0, same_unlinked target has.1)
@@ -120,32 +130,38 @@ module _ (service : Service) (old new : Objects) (root : Access) (phases : Phase
   stays_kept = each_apart (λ (d : DirRef). (d ≡ dir → is_some now ≡ true) → is_some (content_in service old d) ≡ true → is_some (content_in service new d) ≡ true)
       (λ kept was. ap is_some may.becomes.here ∙ kept refl) (λ d not_dir kept was. ap is_some (content_stays d not_dir) ∙ was)
 
-  place_stays : (d : DirRef) → (d ≡ dir → ⊥) → HasPlace (directories_of service old) root phases d → HasPlace (directories_of service old) root after d
+  place_stays : (d : DirRef) → (d ≡ dir → ⊥) → HasPlace (content_in service old) root phases d → HasPlace (content_in service old) root after d
   place_stays d not_dir (inl is) = inl is
   place_stays d not_dir (inr (inl linked)) = inr (inl linked)
   place_stays d not_dir (inr (inr l)) =
-      each_call by phase phases (λ (c : CallRef) (p : Phase). IsLoose (phases c) d → HasPlace (directories_of service old) root after d)
+      each_call by phase phases (λ (c : CallRef) (p : Phase). IsLoose (phases c) d → HasPlace (content_in service old) root after d)
       (λ loose. inr (inr (record { call = by; loose = subst (λ (p : Phase). IsLoose p d) (sym (phase_here by phase phases)) (may.loose d not_dir loose) })))
       (λ c apart loose. inr (inr (record { call = c; loose = subst (λ (p : Phase). IsLoose p d) (sym (phase_apart by phase phases c apart)) loose })))
       l.call l.loose
 
-  stays_placed : (d : DirRef) → is_some (content_in service new d) ≡ true → HasPlace (directories_of service old) root after d
-  stays_placed = each_apart (λ (d : DirRef). is_some (content_in service new d) ≡ true → HasPlace (directories_of service old) root after d)
+  stays_placed : (d : DirRef) → is_some (content_in service new d) ≡ true → HasPlace (content_in service old) root after d
+  stays_placed = each_apart (λ (d : DirRef). is_some (content_in service new d) ≡ true → HasPlace (content_in service old) root after d)
       (λ there. may.placed (sym (ap is_some may.becomes.here) ∙ there))
       (λ d not_dir there. place_stays d not_dir (owned.placed d (sym (ap is_some (content_stays d not_dir)) ∙ there)))
+
+  has_place : (d : DirRef) → HasPlace (content_in service old) root after d → HasPlace (content_in service new) root after d
+  has_place d (inl is) = inl is
+  has_place d (inr (inl at)) =
+      inr (inl (record { parent = at.parent; name = at.name; access = at.access; linked = links_stay at.parent at.name at.access at.linked; same = at.same }))
+  has_place d (inr (inr loose)) = inr (inr loose)
 
   pub content_step_owned : AreOwned service new root after
   content_step_owned = record {
     order = may.order;
     has = each_call by phase phases (λ (c : CallRef) (p : Phase). Has service new c p) may.has (λ c apart. has_stays c apart (phases c) refl (owned.has c));
     reservations = λ d n call access is. each_call by phase phases (λ (c : CallRef) (p : Phase). IsReserving (phases c) d n → IsReserving p d n)
-        (may.reserving d n) (λ c apart reserving. reserving) call (owned.reservations d n call access (sym (same_slot d n) ∙ is));
+        (may.reserving d n) (λ c apart reserving. reserving) call (owned.reservations d n call access (sym (was_slot d n) ∙ is));
     seals = stays_sealing;
-    holds = λ d n slot is. owned.holds d n slot (sym (same_slot d n) ∙ is);
+    holds = λ d n slot is. owned.holds d n slot (sym (was_slot d n) ∙ is);
     root_kept = stays_kept (dir_of root) (λ same. may.root_kept (sym same)) owned.root_kept;
     linked_kept = λ parent n access linked. let was = same_links parent n access linked in
         stays_kept (dir_of access) (may.linked_kept parent n access was) (owned.linked_kept parent n access was);
-    placed = λ d there. subst (λ (dirs : Directories). HasPlace dirs root after d) (sym same_dirs) (stays_placed d there);
+    placed = λ d there. has_place d (stays_placed d there);
     once = λ parent other n second access same linked also. owned.once parent other n second access same (same_links parent n access linked) (same_links other second same also);
     root_free = same_unlinked (dir_of root) owned.root_free;
     root_apart = each_call by phase phases (λ (c : CallRef) (p : Phase). IsLoose p (dir_of root) → ⊥) may.root_apart (λ c apart. owned.root_apart c);
@@ -167,6 +183,6 @@ module _ (service : Service) (old new : Objects) (root : Access) (phases : Phase
   pub content_step_told : (k : Key) (access : Access) → (IsGone service old phases dir → dir_of access ≡ dir → IsGone service new after dir)
       → IsToldAs service old root phases k access → IsToldAs service new root after k access
   content_step_told key.Top access goes is = is
-  content_step_told (key.At d n) access goes (inl linked) = inl (subst (λ (dirs : Directories). Links dirs d n access) (sym same_dirs) linked)
+  content_step_told (key.At d n) access goes (inl linked) = inl (links_stay d n access linked)
   content_step_told (key.At d n) access goes (inr gone) =
       inr (gone_stays (dir_of access) (λ same. subst (λ (d : DirRef). IsGone service new after d) (sym same) (goes (subst (λ (d : DirRef). IsGone service old phases d) same gone) same)) gone)

@@ -12,10 +12,10 @@ use Rattle.inf_base.specs.declared.file.FileMeta.{FileMeta}
 use Rattle.inf_base.specs.Same.{dir_of, is_same_dir}
 use Rattle.inf_tree.specs.Tree.{DirMeta, Entries, IsTree, Node, changed, cut, dir, file, found, hung, names_of, none, placed, without}
 use Rattle.inf_tree.proofs.Lookups.{found-placed, found-without}
-use Rattle.inf_laws_directory.specs.Changes.{IsEmpty, IsNew, IsUnreached, Puts, Takes, is_at}
+use Rattle.inf_laws_directory.specs.Changes.{AllStay, IsEmpty, IsNew, IsUnreached, Puts, Takes, is_at}
 use Rattle.inf_laws_directory.specs.Stands.{Shows, Stands, child, meta_of, node_at, shown_node, shown_thing}
-use Rattle.inf_laws_directory.specs.Things.{Directories, Reaches, Thing, a_dir, a_file, thing_at, thing_under}
-use Rattle.inf_laws_directory.proofs.Leaves.{ChangesLeaf, HasNothingBehind, leaf_once, leaf_shows}
+use Rattle.inf_laws_directory.specs.Things.{Directories, HasContent, Reaches, Thing, a_dir, a_file, thing_at, thing_under}
+use Rattle.inf_laws_directory.proofs.Leaves.{ChangesLeaf, HasNothingBehind, leaf_once, leaf_shows, leaf_there}
 use Rattle.inf_laws_directory.proofs.ContentFacts.{same_dir}
 use Rattle.inf_laws_directory.proofs.Nodes.{IfTree, IsDirOf, IsTree-node_at, cases_name, dir_from_shown, own_name, seen, shows_from}
 
@@ -64,25 +64,30 @@ module _ (old new : Directories) (root access : Access) (tree : Node) (path : Li
   shows_on : Shows old access (dir (meta_of access) standing)
   shows_on = shows_from old root access tree (dir (meta_of access) standing) path stands.shows reached here.is
 
+  -- a directory that comes stood nowhere, and is there
+  abbrev Comes : Access → Type 0
+  Comes made = IsUnreached old root (dir_of made) × HasContent new (dir_of made)
+
   -- the directories and the tree change alike
   edit_stands : (change : Node → Node) (after : Entries) → ChangesLeaf old new (dir_of access) name → change (dir (meta_of access) standing) ≡ dir (meta_of access) after
       → DiffersAt name (meta_of access) standing after
       → option_map shown_node (found name after) ≡ option_map shown_thing (thing_under name (dir_of access) new)
-      → ((made : Access) → thing_under name (dir_of access) new ≡ Some (a_dir made) → IsUnreached old root (dir_of made))
+      → AllStay old new → ((made : Access) → thing_under name (dir_of access) new ≡ Some (a_dir made) → Comes made)
       → Stands new root (changed change path tree)
-  edit_stands change after leaf changed_is differs alike fresh = record {
+  edit_stands change after leaf changed_is differs alike stay comes = record {
     shows = leaf_shows old new root access path name stands.once reached leaf tree (dir (meta_of access) standing) change stands.shows here.is (rw changed_is record {
       here = alike;
       others = seen_elsewhere name (meta_of access) standing after differs;
     });
-    once = leaf_once old new root access path name stands.once reached leaf fresh;
+    once = leaf_once old new root access path name stands.once reached leaf (λ made is. (comes made is).0);
+    there = leaf_there old new root access path name stands.once reached leaf stands.there stay (λ made is. (comes made is).1);
   }
 
   put_stands : (node : Node) (thing : Thing) → Puts old new (dir_of access) name thing
       → HasNothingBehind new (Some thing) → ((next : List ℕ) → child next node ≡ None) → shown_node node ≡ shown_thing thing
-      → ((made : Access) → thing ≡ a_dir made → IsUnreached old root (dir_of made))
+      → ((made : Access) → thing ≡ a_dir made → Comes made)
       → Stands new root (changed (hung name node) path tree)
-  put_stands node thing puts nothing leaf alike fresh =
+  put_stands node thing puts nothing leaf alike comes =
       edit_stands (hung name node) (placed name node standing)
       (record { before = λ next rest. ap (thing_at new (next ∷ rest)) puts.free; after = λ next rest. ap (thing_at new (next ∷ rest)) puts.here ∙ nothing next rest; others = puts.others })
       refl
@@ -94,7 +99,7 @@ module _ (old new : Directories) (root access : Access) (tree : Node) (path : Li
             ∙ ap (λ (o : Option Node). option_map shown_node (node_at rest o)) (leaf next);
       })
       (ap (option_map shown_node) (placed_here name standing node) ∙ ap Some alike ∙ sym (ap (option_map shown_thing) puts.here))
-      (λ made is. fresh made (let both : Some thing ≡ Some (a_dir made) = sym puts.here ∙ is in cc))
+      puts.stay (λ made is. comes made (let both : Some thing ≡ Some (a_dir made) = sym puts.here ∙ is in cc))
 
   pub file_stands : (meta : FileMeta) → Puts old new (dir_of access) name (a_file meta) → Stands new root (changed (hung name (file meta)) path tree)
   file_stands meta puts = put_stands (file meta) (a_file meta) puts (λ next rest. refl) (λ next. refl) refl (λ made is. absurd (cc))
@@ -105,7 +110,7 @@ module _ (old new : Directories) (root access : Access) (tree : Node) (path : Li
       put_stands (dir (meta_of made) none) (a_dir made) puts
       (λ next rest. ap (thing_at new rest) (puts.others (dir_of made) next (and_left _ _ apart) ∙ fresh.empty next))
       (λ next. refl) refl
-      (λ other is. subst (λ (a : Access). IsUnreached old root (dir_of a)) (let same : made ≡ other = cc in same) fresh.unreached)
+      (λ other is. subst Comes (let same : made ≡ other = cc in same) (fresh.unreached, puts.stay (dir_of made) fresh.there))
     where
       apart : is_same_dir (dir_of access) (dir_of made) ≡ false
       apart = false_from_ne_true _ (λ same. fresh.unreached path access reached (same_dir (dir_of access) (dir_of made) same))
@@ -125,7 +130,7 @@ module _ (old new : Directories) (root access : Access) (tree : Node) (path : Li
         nothing_after = λ next rest. ap (λ (o : Option Node). option_map shown_node (node_at (next ∷ rest) o)) (without_here name standing sorted);
       })
       (ap (option_map shown_node) (without_here name standing sorted) ∙ sym (ap (option_map shown_thing) takes.gone))
-      (λ made is. absurd (let both : None ≡ Some (a_dir made) = sym takes.gone ∙ is in cc))
+      takes.stay (λ made is. absurd (let both : None ≡ Some (a_dir made) = sym takes.gone ∙ is in cc))
     where
       sorted : IsStrictlySortedBy (slice_cmp nat_cmp) (names_of standing)
       sorted = (subst IfTree here.is (IsTree-node_at path (Some tree) trees)).0

@@ -10,16 +10,24 @@ use Rattle.inf_base.specs.declared.caller.CallRef.{CallRef}
 use Rattle.inf_base.specs.declared.directory.DirRef.{DirRef}
 use Rattle.inf_base.specs.declared.id.Id.{Id}
 use Rattle.inf_base.specs.declared.triple.Triple.{Triple}
-use Rattle.inf_base.specs.Content.{Content}
+use Rattle.inf_base.specs.Content.{Content, Slot}
 use Rattle.inf_base.specs.Identity.{server_of}
 use Rattle.inf_base.specs.Same.{is_same_dir, is_same_id}
-use Rattle.inf_content.specs.Contents.{changed_at, content_at, content_of_id, dropped_at, empty_content, if_born, made_at, may_drop, may_drop_found, placed, with_new}
-use Rattle.inf_server.specs.State.{State, is_here}
+use Rattle.inf_content.specs.Contents.{changed_at, content_at, content_of_id, dropped_at, empty_content, if_born, made_at, may_drop, may_drop_found, placed, with_new, with_slots_at}
+use Rattle.inf_server.specs.State.{Site, State, is_here}
 use Rattle.inf_laws_directory.specs.Objects.{Objects, Service, content_in, site_in, with_state}
 use Rattle.inf_content.specs.Order.{AreInOrder, IdentifiersRise}
 use Rattle.inf_laws_directory.proofs.ContentFacts.{absent_id, bytes_of, changed_apart, changed_here, dropped_apart, placed_apart, placed_here, same_dir, same_id_self, with_changed}
 use Rattle.inf_renames.proofs.RenamesFacts.{same_id}
-use Rattle.inf_laws_directory.proofs.ServiceFacts.{HasChanged, Slots}
+
+abbrev pub Slots : Type 0
+Slots = List (List ℕ × Slot)
+
+-- a request changed the slots of one directory that is kept here
+pub record HasChanged (site : Site) (old new : State) (dir : DirRef) (change : Slots → Slots) : Type 0 where
+  pub here : is_here site dir.id ≡ true
+  pub nothing : content_at dir old.contents ≡ None → change [] ≡ []
+  pub contents : new.contents ≡ with_slots_at dir change old.contents
 
 -- the content object of one directory is this now, and those of all others are as before
 pub record Becomes (service : Service) (old new : Objects) (dir : DirRef) (now : Option Content) : Type 0 where

@@ -7,9 +7,9 @@ use Rattle.inf_base.specs.declared.access.Access.{Access}
 use Rattle.inf_base.specs.declared.directory.DirRef.{DirRef}
 use Rattle.inf_base.specs.Same.{dir_of}
 use Rattle.inf_tree.specs.Tree.{Node, changed}
-use Rattle.inf_laws_directory.specs.Changes.{IsUnreached, is_at}
-use Rattle.inf_laws_directory.specs.Stands.{Shown, Shows, child, node_at, shown_node, shown_thing}
-use Rattle.inf_laws_directory.specs.Things.{Directories, Reaches, StandOnce, Thing, a_dir, thing_at, thing_under}
+use Rattle.inf_laws_directory.specs.Changes.{AllStay, IsUnreached, is_at}
+use Rattle.inf_laws_directory.specs.Stands.{AreThere, Shown, Shows, child, node_at, shown_node, shown_thing}
+use Rattle.inf_laws_directory.specs.Things.{Directories, HasContent, Reaches, StandOnce, Thing, a_dir, thing_at, thing_under}
 use Rattle.inf_laws_directory.proofs.ContentFacts.{same_dir}
 use Rattle.inf_laws_directory.proofs.Nodes.{cases_path, changed_elsewhere, changed_here, node_at-here, seen}
 use Rattle.inf_laws_directory.proofs.Ways.{same_at, thing_at-next}
@@ -84,3 +84,12 @@ module _ (old new : Directories) (root access : Access) (path : List (List ℕ))
       by (inl same) (inr apart) = absurd (made_at first one same at second another (sym (same_elsewhere second apart) ∙ other_at) (sym is))
       by (inr apart) (inl same) = absurd (made_at second another same other_at first one (sym (same_elsewhere first apart) ∙ at) is)
       by (inr apart) (inr too) = once first second one another (sym (same_elsewhere first apart) ∙ at) (sym (same_elsewhere second too) ∙ other_at) is
+
+  -- each directory that a path leads to is there, where the one that comes is
+  pub leaf_there : AreThere old root → AllStay old new
+      → ((made : Access) → thing_under name (dir_of access) new ≡ Some (a_dir made) → HasContent new (dir_of made)) → AreThere new root
+  leaf_there there stay comes other seen at = by (cases_path other (path ++ name ∷ []))
+    where
+      by : (other ≡ path ++ name ∷ []) ⊎ (other ≡ path ++ name ∷ [] → ⊥) → HasContent new (dir_of seen)
+      by (inl same) = comes seen (sym new_here ∙ subst (λ (p : List (List ℕ)). Reaches new root p seen) same at)
+      by (inr apart) = stay (dir_of seen) (there other seen (sym (same_elsewhere other apart) ∙ at))

@@ -13,6 +13,7 @@ pub mod Leaves
 pub mod Lookups
 pub mod Nodes
 pub mod OpenDirectories
+pub mod Opened
 pub mod Owing
 pub mod OwnSlots
 pub mod OwnedFacts

@@ -20,7 +20,7 @@ use Rattle.inf_laws_server.specs.Denied.{Denies}
 use Rattle.inf_laws_server.specs.Replies.{Fails, Succeeds}
 use Rattle.inf_laws_server.proofs.Came.{Came, failed}
 use Rattle.inf_laws_directory.specs.Fits.{next_phase}
-use Rattle.inf_laws_directory.specs.Objects.{Objects, Service, directories_of, site_in, with_state}
+use Rattle.inf_laws_directory.specs.Objects.{Objects, Service, content_in, site_in, with_state}
 use Rattle.inf_laws_directory.specs.Owes.{Goes, Moment, Owes}
 use Rattle.inf_laws_directory.specs.Phases.{Phase, Phases, with_phase}
 use Rattle.inf_laws_directory.specs.Replays.{IsRefused}
@@ -100,7 +100,7 @@ was_served service objects number place ask other_reply new serves = inr serves
 
 module _ (service : Service) (objects : Objects) (number place : ℕ) (root : Access) (tree : Node) (phases : Phases) (ask : Ask) (given : Reply) (new : State)
     (standing : IsStanding service objects root tree phases)
-    (unseen : new.contents ≡ (objects number).contents → Stands (directories_of service (with_state number new objects)) root tree) where
+    (unseen : new.contents ≡ (objects number).contents → Stands (content_in service (with_state number new objects)) root tree) where
   abbrev pub IsOwed : Phase → Request → Call → Reply → Type 0
   IsOwed phase requested asked given = Owes (record {
     service = service;

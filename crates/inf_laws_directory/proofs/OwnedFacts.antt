@@ -12,7 +12,7 @@ use Rattle.inf_content.specs.Contents.{bearer, bearer_or, seal_of, slots_found}
 use Rattle.inf_content.specs.Slots.{slot_in}
 use Rattle.inf_server.specs.Chains.{last_of}
 use Rattle.inf_laws_directory.specs.Leads.{Leads, LeadsFrom}
-use Rattle.inf_laws_directory.specs.Objects.{Objects, Service, content_in, directories_of}
+use Rattle.inf_laws_directory.specs.Objects.{Objects, Service, content_in, slots_kept}
 use Rattle.inf_laws_directory.specs.Owned.{AreOwned, Has, IsLinkedSomewhere, IsUnlinked}
 use Rattle.inf_laws_directory.specs.Phases.{IsLoose, IsSealing, Phase, Phases, has_made, has_reserved, has_sealed, has_unlinked, idle}
 use Rattle.inf_laws_directory.proofs.CallFacts.{none_not_some}
@@ -26,7 +26,7 @@ pub record IsInHands (service : Service) (objects : Objects) (call : CallRef) (d
 
 pub record IsLooseIn (service : Service) (objects : Objects) (call : CallRef) (dir : DirRef) : Type 0 where
   pub hands : IsInHands service objects call dir
-  pub unlinked : IsUnlinked (directories_of service objects) dir
+  pub unlinked : IsUnlinked (content_in service objects) dir
 
 in_sealed_hands : (service : Service) (objects : Objects) (call : CallRef) (dir : DirRef) (content : Content)
     → content_in service objects dir ≡ Some content → content.seal ≡ Some call → content.slots ≡ [] → IsInHands service objects call dir
@@ -87,36 +87,36 @@ module _ (service : Service) (objects : Objects) (root : Access) (phases : Phase
   one_loose call other dir here loose = one_bearer call other dir here (loose_in other dir loose).hands
 
   -- a directory in which a slot stands is in no call's hands
-  pub full_not_loose : (dir : DirRef) (name : List ℕ) (slot : Slot) → slot_in name (directories_of service objects dir) ≡ Some slot
+  pub full_not_loose : (dir : DirRef) (name : List ℕ) (slot : Slot) → slot_in name (slots_kept service objects dir) ≡ Some slot
       → (call : CallRef) → IsLoose (phases call) dir → ⊥
   full_not_loose dir name slot is call loose =
       none_not_some _ slot (ap (λ (slots : List (List ℕ × Slot)). slot_in name slots) (loose_in call dir loose).hands.empty) is
 
-  pub full_not_sealed : (dir : DirRef) (name : List ℕ) (slot : Slot) → slot_in name (directories_of service objects dir) ≡ Some slot
+  pub full_not_sealed : (dir : DirRef) (name : List ℕ) (slot : Slot) → slot_in name (slots_kept service objects dir) ≡ Some slot
       → (call : CallRef) → IsSealing (phases call) dir → ⊥
   full_not_sealed dir name slot is call sealing =
       none_not_some _ slot (ap (λ (slots : List (List ℕ × Slot)). slot_in name slots) (sealing_in call dir sealing).empty) is
 
   -- the directory that a chain leads to is the root or stands somewhere, so that it is in no call's hands as one that does not
-  led_place : (path : List (List ℕ)) (first last : Entry) (chain : List Entry) → LeadsFrom (directories_of service objects) first.access path chain
-      → last_of (first ∷ chain) ≡ Some last → (last ≡ first) ⊎ IsLinkedSomewhere (directories_of service objects) (dir_of last.access)
+  led_place : (path : List (List ℕ)) (first last : Entry) (chain : List Entry) → LeadsFrom (content_in service objects) first.access path chain
+      → last_of (first ∷ chain) ≡ Some last → (last ≡ first) ⊎ IsLinkedSomewhere (content_in service objects) (dir_of last.access)
   led_place [] first last [] leads is = let same : Some last ≡ Some first = sym is ∙ last_of-one first in inl cc
   led_place [] first last (e ∷ chain) leads is = absurd leads
   led_place (name ∷ path) first last [] leads is = absurd leads
   led_place (name ∷ path) first last (e ∷ chain) leads is = by (led_place path e last chain leads.1 (sym (last_of-next first e chain) ∙ is))
     where
-      by : (last ≡ e) ⊎ IsLinkedSomewhere (directories_of service objects) (dir_of last.access)
-          → (last ≡ first) ⊎ IsLinkedSomewhere (directories_of service objects) (dir_of last.access)
+      by : (last ≡ e) ⊎ IsLinkedSomewhere (content_in service objects) (dir_of last.access)
+          → (last ≡ first) ⊎ IsLinkedSomewhere (content_in service objects) (dir_of last.access)
       by (inl same) = inr (record { parent = dir_of first.access; name = name; access = e.access; linked = leads.0; same = ap (λ (x : Entry). dir_of x.access) (sym same) })
       by (inr linked) = inr linked
 
-  pub led_not_loose : (path : List (List ℕ)) (chain : List Entry) (last : Entry) → Leads (directories_of service objects) root path chain → last_of chain ≡ Some last
+  pub led_not_loose : (path : List (List ℕ)) (chain : List Entry) (last : Entry) → Leads (content_in service objects) root path chain → last_of chain ≡ Some last
       → (call : CallRef) → IsLoose (phases call) (dir_of last.access) → ⊥
   led_not_loose path [] last leads is call loose = absurd leads
   led_not_loose path (e ∷ chain) last leads is call loose =
-      by (led_place path e last chain (subst (λ (access : Access). LeadsFrom (directories_of service objects) access path chain) (sym leads.0) leads.1) is)
+      by (led_place path e last chain (subst (λ (access : Access). LeadsFrom (content_in service objects) access path chain) (sym leads.0) leads.1) is)
     where
-      by : (last ≡ e) ⊎ IsLinkedSomewhere (directories_of service objects) (dir_of last.access) → ⊥
+      by : (last ≡ e) ⊎ IsLinkedSomewhere (content_in service objects) (dir_of last.access) → ⊥
       by (inl same) = owned.root_apart call
           (subst (λ (d : DirRef). IsLoose (phases call) d) (ap (λ (x : Entry). dir_of x.access) same ∙ ap dir_of leads.0) loose)
       by (inr linked) = (loose_in call (dir_of last.access) loose).unlinked linked.parent linked.name linked.access linked.linked linked.same

@@ -36,7 +36,7 @@ use Rattle.inf_tree.specs.Apply.{Applied, apply, changes, looks}
 use Rattle.inf_tree.specs.Tree.{DirMeta, Node}
 use Rattle.inf_laws_directory.specs.Answers.{IsCallOn, if_free, permitted, told_along}
 use Rattle.inf_laws_directory.specs.Changes.{IsNew, Puts}
-use Rattle.inf_laws_directory.specs.Objects.{Objects, Service, directories_of, site_in}
+use Rattle.inf_laws_directory.specs.Objects.{Objects, Service, content_in, site_in}
 use Rattle.inf_laws_directory.specs.Replays.{Answers, IsAt, IsRefused, MayWrite}
 use Rattle.inf_laws_directory.specs.Things.{Directories, Thing, a_dir, a_file, thing_in, thing_under}
 use Rattle.inf_laws_directory.specs.Stands.{Stands, meta_of}
@@ -91,7 +91,7 @@ answers_so tree caller asked_call given root new after is stands = record {
 }
 
 module _ (service : Service) (objects : Objects) (number : ℕ) (root : Access) (tree : Node) (ask : Ask) (path : List (List ℕ)) (chain : List Entry) (last : Entry)
-    (at : IsAt (directories_of service objects) root tree path chain last) where
+    (at : IsAt (content_in service objects) root tree path chain last) where
   abbrev site : Site
   site = site_in service number
 
@@ -99,7 +99,7 @@ module _ (service : Service) (objects : Objects) (number : ℕ) (root : Access) 
   state = objects number
 
   abbrev dirs : Directories
-  dirs = directories_of service objects
+  dirs = content_in service objects
 
   abbrev passes : Bool
   passes = list_all (lets ask.caller want.Search) chain

@@ -21,7 +21,7 @@ use Rattle.inf_server.specs.State.{Site, State}
 use Rattle.inf_tree.specs.Apply.{changes}
 use Rattle.inf_tree.specs.Tree.{Node, changed, cut}
 use Rattle.inf_laws_directory.specs.Changes.{IsEmpty, Takes}
-use Rattle.inf_laws_directory.specs.Objects.{Objects, Service, directories_of, site_in}
+use Rattle.inf_laws_directory.specs.Objects.{Objects, Service, content_in, site_in}
 use Rattle.inf_content.specs.Order.{AreInOrder}
 use Rattle.inf_laws_directory.specs.Replays.{Answers, IsAt, IsRefused, MayWrite}
 use Rattle.inf_laws_directory.specs.Things.{Directories, Reaches, Thing, a_dir, a_file, thing_in, thing_under}
@@ -71,8 +71,8 @@ free_stands slots sorted some =
 
 module _ (service : Service) (objects : Objects) (number : ℕ) (root : Access) (tree : Node) (ask : Ask) (text : List ℕ) (path : List (List ℕ)) (name : List ℕ)
     (chain : List Entry) (parent target : Entry)
-    (above : IsAt (directories_of service objects) root tree path (before_last chain) parent)
-    (at : IsAt (directories_of service objects) root tree (path ++ name ∷ []) chain target)
+    (above : IsAt (content_in service objects) root tree path (before_last chain) parent)
+    (at : IsAt (content_in service objects) root tree (path ++ name ∷ []) chain target)
     (names : path_of text ≡ Ok (path ++ name ∷ [])) where
   abbrev site : Site
   site = site_in service number
@@ -81,7 +81,7 @@ module _ (service : Service) (objects : Objects) (number : ℕ) (root : Access) 
   state = objects number
 
   abbrev dirs : Directories
-  dirs = directories_of service objects
+  dirs = content_in service objects
 
   abbrev passes : Bool
   passes = list_all (lets ask.caller want.Search) (before_last chain)

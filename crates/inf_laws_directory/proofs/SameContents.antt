@@ -8,10 +8,10 @@ use Rattle.inf_base.specs.declared.key.Key.TheVariants as key
 use Rattle.inf_base.specs.declared.triple.Triple.{Triple}
 use Rattle.inf_base.specs.Content.{Content}
 use Rattle.inf_base.specs.Same.{dir_of}
-use Rattle.inf_content.specs.Contents.{content_at, slots_at, slots_found}
+use Rattle.inf_content.specs.Contents.{content_at, slots_found}
 use Rattle.inf_content.specs.Slots.{slot_in}
 use Rattle.inf_server.specs.State.{State}
-use Rattle.inf_laws_directory.specs.Objects.{Objects, Service, content_in, directories_of, with_state}
+use Rattle.inf_laws_directory.specs.Objects.{Objects, Service, content_in, slots_kept, with_state}
 use Rattle.inf_content.specs.Order.{AreInOrder}
 use Rattle.inf_laws_directory.specs.Owned.{AreOwned, Has, HasPlace, IsUnlinked, KeepsName, KeepsSealed, Links}
 use Rattle.inf_laws_directory.specs.Phases.{Phase, Phases, has_made, has_reserved, has_sealed, has_unlinked, idle}
@@ -21,23 +21,23 @@ use Rattle.inf_laws_directory.specs.Things.{thing_in}
 use Rattle.inf_laws_directory.specs.Told.{IsToldAs}
 use Rattle.inf_laws_directory.proofs.Kept.{each_content}
 use Rattle.inf_laws_directory.proofs.ServedSlots.{orders_after}
-use Rattle.inf_laws_directory.proofs.ServiceFacts.{unseen_where_same}
+use Rattle.inf_laws_directory.proofs.ServiceFacts.{looks_as_found}
 
 module _ (service : Service) (old new : Objects) (root : Access) (phases : Phases) (owned : AreOwned service old root phases)
     (same : (dir : DirRef) → content_in service new dir ≡ content_in service old dir) (order : (number : ℕ) → AreInOrder (new number).contents) where
-  slot_was : (dir : DirRef) (name : List ℕ) → slot_in name (directories_of service old dir) ≡ slot_in name (directories_of service new dir)
+  slot_was : (dir : DirRef) (name : List ℕ) → slot_in name (slots_kept service old dir) ≡ slot_in name (slots_kept service new dir)
   slot_was dir name = sym (ap (λ (o : Option Content). slot_in name (slots_found o)) (same dir))
 
-  link_was : (parent : DirRef) (name : List ℕ) (access : Access) → Links (directories_of service new) parent name access → Links (directories_of service old) parent name access
+  link_was : (parent : DirRef) (name : List ℕ) (access : Access) → Links (content_in service new) parent name access → Links (content_in service old) parent name access
   link_was parent name access linked = ap thing_in (slot_was parent name) ∙ linked
 
-  link_stays : (parent : DirRef) (name : List ℕ) (access : Access) → Links (directories_of service old) parent name access → Links (directories_of service new) parent name access
+  link_stays : (parent : DirRef) (name : List ℕ) (access : Access) → Links (content_in service old) parent name access → Links (content_in service new) parent name access
   link_stays parent name access linked = sym (ap thing_in (slot_was parent name)) ∙ linked
 
   there_was : (dir : DirRef) → is_some (content_in service old dir) ≡ is_some (content_in service new dir)
   there_was dir = sym (ap is_some (same dir))
 
-  unlinked_stays : (target : DirRef) → IsUnlinked (directories_of service old) target → IsUnlinked (directories_of service new) target
+  unlinked_stays : (target : DirRef) → IsUnlinked (content_in service old) target → IsUnlinked (content_in service new) target
   unlinked_stays target unlinked parent name access linked = unlinked parent name access (link_was parent name access linked)
 
   name_stays : (call : CallRef) (parent : DirRef) (name : List ℕ) (birth : Triple) → KeepsName service old call parent name birth → KeepsName service new call parent name birth
@@ -54,7 +54,7 @@ module _ (service : Service) (old new : Objects) (root : Access) (phases : Phase
       (sealed_stays call target has.0, record { access = has.1.access; linked = link_stays parent name has.1.access has.1.linked; same = has.1.same })
   has_stays call (has_unlinked target) has = (sealed_stays call target has.0, unlinked_stays target has.1)
 
-  place_stays : (dir : DirRef) → HasPlace (directories_of service old) root phases dir → HasPlace (directories_of service new) root phases dir
+  place_stays : (dir : DirRef) → HasPlace (content_in service old) root phases dir → HasPlace (content_in service new) root phases dir
   place_stays dir (inl is_root) = inl is_root
   place_stays dir (inr (inl at)) = inr (inl (record { parent = at.parent; name = at.name; access = at.access; linked = link_stays at.parent at.name at.access at.linked; same = at.same }))
   place_stays dir (inr (inr loose)) = inr (inr loose)
@@ -86,11 +86,15 @@ module _ (service : Service) (old new : Objects) (root : Access) (phases : Phase
 
 -- a server that keeps its content objects as they are
 module _ (service : Service) (objects : Objects) (number : ℕ) (state : State) (same : state.contents ≡ (objects number).contents) where
-  pub nothing_seen : IsUnseen (directories_of service objects) (directories_of service (with_state number state objects))
-  nothing_seen = unseen_where_same service objects number state (λ dir. ap (λ (cs : List Content). slots_at dir cs) same)
+  same_contents : (dir : DirRef) → content_in service (with_state number state objects) dir ≡ content_in service objects dir
+  same_contents dir =
+      each_content service objects number state (λ (old now : Option Content). now ≡ old) dir (λ here. ap (content_at dir) same) (λ elsewhere. refl)
+
+  pub nothing_seen : IsUnseen (content_in service objects) (content_in service (with_state number state objects))
+  nothing_seen dir = looks_as_found (content_in service objects) (content_in service (with_state number state objects)) dir (same_contents dir)
 
   pub kept_stay : (root : Access) (phases : Phases) → AreOwned service objects root phases → Keeps service objects (with_state number state objects) root phases phases
   kept_stay root phases owned =
       all_stay service objects (with_state number state objects) root phases owned
-      (λ dir. each_content service objects number state (λ (old now : Option Content). now ≡ old) dir (λ here. ap (content_at dir) same) (λ elsewhere. refl))
+      same_contents
       (orders_after objects number state owned.order (subst AreInOrder (sym same) (owned.order number)))

@@ -30,7 +30,7 @@ use Rattle.inf_laws_server.proofs.Files.{create_comes, stat_comes}
 use Rattle.inf_laws_server.proofs.Removals.{drop_comes, forget_comes, seal_comes, unlink_comes, unseal_comes}
 use Rattle.inf_laws_directory.specs.Serves.{StandsAs}
 use Rattle.inf_laws_directory.specs.Things.{thing_in}
-use Rattle.inf_laws_directory.proofs.ServiceFacts.{HasChanged}
+use Rattle.inf_laws_directory.proofs.Kept.{HasChanged}
 
 -- the place of the Ask counts for a Make alone
 module _ (site : Site) (state : State) (ask : Ask) (end : Response) where

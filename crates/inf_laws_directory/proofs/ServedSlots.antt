@@ -10,8 +10,7 @@ use Rattle.inf_server.specs.State.{State}
 use Rattle.inf_laws_directory.specs.Objects.{Objects, Service, content_in, kept_with, site_in, with_state}
 use Rattle.inf_content.specs.Order.{AreInOrder}
 use Rattle.inf_laws_directory.proofs.ContentFacts.{slots_sorted, with_changed}
-use Rattle.inf_laws_directory.proofs.Kept.{slots_become}
-use Rattle.inf_laws_directory.proofs.ServiceFacts.{HasChanged, Slots}
+use Rattle.inf_laws_directory.proofs.Kept.{HasChanged, Slots, slots_become}
 use Rattle.inf_laws_directory.proofs.SlotFacts.{AreSorted}
 use Rattle.inf_laws_directory.proofs.SlotSteps.{SlotChanges}
 

@@ -12,7 +12,7 @@ use Rattle.inf_base.specs.Same.{dir_of, is_same_dir}
 use Rattle.inf_content.specs.Contents.{seal_of, slots_found}
 use Rattle.inf_content.specs.Slots.{slot_in}
 use Rattle.inf_laws_directory.specs.Changes.{is_at}
-use Rattle.inf_laws_directory.specs.Objects.{Objects, Service, content_in, directories_of}
+use Rattle.inf_laws_directory.specs.Objects.{Objects, Service, content_in, slots_kept}
 use Rattle.inf_content.specs.Order.{AreInOrder}
 use Rattle.inf_laws_directory.specs.Owned.{AreOwned, Has, HasPlace, IsUnheld, IsUnlinked, KeepsName, KeepsSealed, Links}
 use Rattle.inf_laws_directory.specs.Phases.{IsLoose, IsReserving, IsSealing, Phase, Phases, has_made, has_reserved, has_sealed, has_unlinked, idle, with_phase}
@@ -21,8 +21,7 @@ use Rattle.inf_laws_directory.specs.Things.{a_dir, thing_in}
 use Rattle.inf_laws_directory.specs.Told.{IsGone, IsToldAs}
 use Rattle.inf_laws_directory.proofs.CallFacts.{each_call, none_not_some, phase_apart, phase_here}
 use Rattle.inf_laws_directory.proofs.ContentFacts.{same_dir, same_dir_self}
-use Rattle.inf_laws_directory.proofs.Kept.{each_dir}
-use Rattle.inf_laws_directory.proofs.ServiceFacts.{Slots}
+use Rattle.inf_laws_directory.proofs.Kept.{Slots, each_dir}
 use Rattle.inf_laws_directory.proofs.SlotFacts.{same_name, same_self}
 
 -- the slot under one name of a directory that is there changed, and nothing else
@@ -40,7 +39,7 @@ pub record SlotChanges (service : Service) (old new : Objects) (dir : DirRef) (n
 -- a directory may come to stand somewhere by a call: it is there, stands nowhere, is not the root, and no other call's
 pub record MayStand (service : Service) (objects : Objects) (root : Access) (phases : Phases) (by : CallRef) (dir : DirRef) : Type 0 where
   pub present : is_some (content_in service objects dir) ≡ true
-  pub unlinked : IsUnlinked (directories_of service objects) dir
+  pub unlinked : IsUnlinked (content_in service objects) dir
   pub not_root : dir ≡ dir_of root → ⊥
   pub others : (call : CallRef) → (call ≡ by → ⊥) → IsLoose (phases call) dir → ⊥
 
@@ -95,16 +94,16 @@ module _ (service : Service) (old new : Objects) (root : Access) (phases : Phase
     (dir : DirRef) (name : List ℕ) (was now : Option Slot)
     (owned : AreOwned service old root phases) (changes : SlotChanges service old new dir name was now)
     (may : MayChange service old new root phases by phase dir name was now) where
-  slot_was : slot_in name (directories_of service old dir) ≡ was
+  slot_was : slot_in name (slots_kept service old dir) ≡ was
   slot_was = ap (λ (o : Option Content). slot_in name (slots_found o)) changes.there ∙ changes.slot_before
 
-  slot_now : slot_in name (directories_of service new dir) ≡ now
+  slot_now : slot_in name (slots_kept service new dir) ≡ now
   slot_now = ap (λ (o : Option Content). slot_in name (slots_found o)) changes.here ∙ changes.slot_after
 
   slots_stay : (other_dir : DirRef) (other : List ℕ) → is_at dir name other_dir other ≡ false
-      → slot_in other (directories_of service new other_dir) ≡ slot_in other (directories_of service old other_dir)
+      → slot_in other (slots_kept service new other_dir) ≡ slot_in other (slots_kept service old other_dir)
   slots_stay other_dir other =
-      each_dir dir (λ (d : DirRef). is_at dir name d other ≡ false → slot_in other (directories_of service new d) ≡ slot_in other (directories_of service old d))
+      each_dir dir (λ (d : DirRef). is_at dir name d other ≡ false → slot_in other (slots_kept service new d) ≡ slot_in other (slots_kept service old d))
       (λ apart. ap (λ (o : Option Content). slot_in other (slots_found o)) changes.here
       ∙ changes.other_slots other (let same = same_dir_self dir in rw same at apart)
       ∙ sym (ap (λ (o : Option Content). slot_in other (slots_found o)) changes.there))
@@ -123,25 +122,25 @@ module _ (service : Service) (old new : Objects) (root : Access) (phases : Phase
       (λ not. absurd (not refl)) (λ d apart not. changes.others d apart)
 
   -- links stay, and the only one that may come is the one under the name
-  link_stays : (parent : DirRef) (other : List ℕ) (access : Access) → Links (directories_of service old) parent other access → Links (directories_of service new) parent other access
+  link_stays : (parent : DirRef) (other : List ℕ) (access : Access) → Links (content_in service old) parent other access → Links (content_in service new) parent other access
   link_stays parent other access =
-      each_name dir name (λ (d : DirRef) (n : List ℕ). Links (directories_of service old) d n access → Links (directories_of service new) d n access)
+      each_name dir name (λ (d : DirRef) (n : List ℕ). Links (content_in service old) d n access → Links (content_in service new) d n access)
       (λ linked. none_not_some (thing_in was) (a_dir access) may.unseen (sym (ap thing_in slot_was) ∙ linked))
       (λ d n apart linked. ap thing_in (slots_stay d n apart) ∙ linked) parent other
 
-  link_was : (parent : DirRef) (other : List ℕ) (access : Access) → Links (directories_of service new) parent other access
-      → Links (directories_of service old) parent other access ⊎ ((parent ≡ dir) × (other ≡ name) × (thing_in now ≡ Some (a_dir access)))
+  link_was : (parent : DirRef) (other : List ℕ) (access : Access) → Links (content_in service new) parent other access
+      → Links (content_in service old) parent other access ⊎ ((parent ≡ dir) × (other ≡ name) × (thing_in now ≡ Some (a_dir access)))
   link_was parent other access =
-      each_name dir name (λ (d : DirRef) (n : List ℕ). Links (directories_of service new) d n access
-      → Links (directories_of service old) d n access ⊎ ((d ≡ dir) × (n ≡ name) × (thing_in now ≡ Some (a_dir access))))
+      each_name dir name (λ (d : DirRef) (n : List ℕ). Links (content_in service new) d n access
+      → Links (content_in service old) d n access ⊎ ((d ≡ dir) × (n ≡ name) × (thing_in now ≡ Some (a_dir access))))
       (λ linked. inr (refl, refl, sym (ap thing_in slot_now) ∙ linked))
       (λ d n apart linked. inl (sym (ap thing_in (slots_stay d n apart)) ∙ linked)) parent other
 
   unlinked_stays : (target : DirRef) → ((access : Access) → thing_in now ≡ Some (a_dir access) → dir_of access ≡ target → ⊥)
-      → IsUnlinked (directories_of service old) target → IsUnlinked (directories_of service new) target
+      → IsUnlinked (content_in service old) target → IsUnlinked (content_in service new) target
   unlinked_stays target never unlinked parent other access linked same = by_link (link_was parent other access linked)
     where
-      by_link : Links (directories_of service old) parent other access ⊎ ((parent ≡ dir) × (other ≡ name) × (thing_in now ≡ Some (a_dir access))) → ⊥
+      by_link : Links (content_in service old) parent other access ⊎ ((parent ≡ dir) × (other ≡ name) × (thing_in now ≡ Some (a_dir access))) → ⊥
       by_link (inl stood) = unlinked parent other access stood same
       by_link (inr comes) = never access comes.2 same
 
@@ -151,7 +150,7 @@ module _ (service : Service) (old new : Objects) (root : Access) (phases : Phase
     name_stays parent n birth kept = record {
       access = kept.access;
       slot = each_name dir name
-          (λ (d : DirRef) (m : List ℕ). slot_in m (directories_of service old d) ≡ Some (reserved call kept.access) → slot_in m (directories_of service new d) ≡ Some (reserved call kept.access))
+          (λ (d : DirRef) (m : List ℕ). slot_in m (slots_kept service old d) ≡ Some (reserved call kept.access) → slot_in m (slots_kept service new d) ≡ Some (reserved call kept.access))
           (λ is. absurd (apart (may.own call kept.access (sym slot_was ∙ is)))) (λ d m names is. slots_stay d m names ∙ is) parent n kept.slot;
       birth_kept = kept.birth_kept;
     }
@@ -164,7 +163,7 @@ module _ (service : Service) (old new : Objects) (root : Access) (phases : Phase
       slots = kept.slots;
     }
 
-    loose_stays : (target : DirRef) → IsLoose (phases call) target → IsUnlinked (directories_of service old) target → IsUnlinked (directories_of service new) target
+    loose_stays : (target : DirRef) → IsLoose (phases call) target → IsUnlinked (content_in service old) target → IsUnlinked (content_in service new) target
     loose_stays target loose = unlinked_stays target
         (λ access comes same. (may.stands access comes).others call apart (subst (λ (d : DirRef). IsLoose (phases call) d) (sym same) loose))
 
@@ -191,9 +190,9 @@ module _ (service : Service) (old new : Objects) (root : Access) (phases : Phase
   after = with_phase by phase phases
 
   stays_reserving : (d : DirRef) (n : List ℕ) (call : CallRef) (access : Access)
-      → slot_in n (directories_of service new d) ≡ Some (reserved call access) → IsReserving (after call) d n
+      → slot_in n (slots_kept service new d) ≡ Some (reserved call access) → IsReserving (after call) d n
   stays_reserving d n call access =
-      each_name dir name (λ (d : DirRef) (n : List ℕ). slot_in n (directories_of service new d) ≡ Some (reserved call access) → IsReserving (after call) d n)
+      each_name dir name (λ (d : DirRef) (n : List ℕ). slot_in n (slots_kept service new d) ≡ Some (reserved call access) → IsReserving (after call) d n)
       (λ is. let (same, reserving) = may.reserves call access (sym slot_now ∙ is) in
       subst (λ (c : CallRef). IsReserving (after c) dir name) (sym same) (subst (λ (p : Phase). IsReserving p dir name) (sym (phase_here by phase phases)) reserving))
       (λ d n apart is. each_call by phase phases (λ (c : CallRef) (p : Phase). IsReserving (phases c) d n → IsReserving p d n)
@@ -205,36 +204,36 @@ module _ (service : Service) (old new : Objects) (root : Access) (phases : Phase
       (λ c was_there sealed. each_call by phase phases (λ (c : CallRef) (p : Phase). IsSealing (phases c) d → IsSealing p d)
       (λ sealing. absurd (may.sealing d sealing)) (λ c not_by sealing. sealing) call (owned.seals d c call was_there sealed))
 
-  stays_placed : (d : DirRef) → HasPlace (directories_of service old) root phases d → HasPlace (directories_of service new) root after d
+  stays_placed : (d : DirRef) → HasPlace (content_in service old) root phases d → HasPlace (content_in service new) root after d
   stays_placed d (inl is) = inl is
   stays_placed d (inr (inl l)) = inr (inl (record { parent = l.parent; name = l.name; access = l.access; linked = link_stays l.parent l.name l.access l.linked; same = l.same }))
   stays_placed d (inr (inr l)) =
-      each_call by phase phases (λ (c : CallRef) (p : Phase). IsLoose (phases c) d → HasPlace (directories_of service new) root after d)
+      each_call by phase phases (λ (c : CallRef) (p : Phase). IsLoose (phases c) d → HasPlace (content_in service new) root after d)
       (λ loose. by_loose (may.loose d loose))
       (λ c apart loose. inr (inr (record { call = c; loose = subst (λ (p : Phase). IsLoose p d) (sym (phase_apart by phase phases c apart)) loose })))
       l.call l.loose
     where
-      by_loose : IsLoose phase d ⊎ ((access : Access) × (thing_in now ≡ Some (a_dir access)) × (dir_of access ≡ d)) → HasPlace (directories_of service new) root after d
+      by_loose : IsLoose phase d ⊎ ((access : Access) × (thing_in now ≡ Some (a_dir access)) × (dir_of access ≡ d)) → HasPlace (content_in service new) root after d
       by_loose (inl loose) = inr (inr (record { call = by; loose = subst (λ (p : Phase). IsLoose p d) (sym (phase_here by phase phases)) loose }))
       by_loose (inr comes) = inr (inl (record { parent = dir; name = name; access = comes.0; linked = ap thing_in slot_now ∙ comes.1; same = comes.2 }))
 
   stays_once : (parent other : DirRef) (n second : List ℕ) (access same : Access)
-      → Links (directories_of service new) parent n access → Links (directories_of service new) other second same
+      → Links (content_in service new) parent n access → Links (content_in service new) other second same
       → dir_of access ≡ dir_of same → (parent ≡ other) × (n ≡ second)
   stays_once parent other n second access same linked also is = by_links (link_was parent n access linked) (link_was other second same also)
     where
-      by_links : Links (directories_of service old) parent n access ⊎ ((parent ≡ dir) × (n ≡ name) × (thing_in now ≡ Some (a_dir access)))
-          → Links (directories_of service old) other second same ⊎ ((other ≡ dir) × (second ≡ name) × (thing_in now ≡ Some (a_dir same)))
+      by_links : Links (content_in service old) parent n access ⊎ ((parent ≡ dir) × (n ≡ name) × (thing_in now ≡ Some (a_dir access)))
+          → Links (content_in service old) other second same ⊎ ((other ≡ dir) × (second ≡ name) × (thing_in now ≡ Some (a_dir same)))
           → (parent ≡ other) × (n ≡ second)
       by_links (inl first) (inl then) = owned.once parent other n second access same first then is
       by_links (inl first) (inr comes) = absurd ((may.stands same comes.2).unlinked parent n access first is)
       by_links (inr comes) (inl then) = absurd ((may.stands access comes.2).unlinked other second same then (sym is))
       by_links (inr first) (inr then) = (first.0 ∙ sym then.0, first.1 ∙ sym then.1)
 
-  stays_kept : (parent : DirRef) (n : List ℕ) (access : Access) → Links (directories_of service new) parent n access → is_some (content_in service new (dir_of access)) ≡ true
+  stays_kept : (parent : DirRef) (n : List ℕ) (access : Access) → Links (content_in service new) parent n access → is_some (content_in service new (dir_of access)) ≡ true
   stays_kept parent n access linked = there_stays (dir_of access) ∙ by_link (link_was parent n access linked)
     where
-      by_link : Links (directories_of service old) parent n access ⊎ ((parent ≡ dir) × (n ≡ name) × (thing_in now ≡ Some (a_dir access)))
+      by_link : Links (content_in service old) parent n access ⊎ ((parent ≡ dir) × (n ≡ name) × (thing_in now ≡ Some (a_dir access)))
           → is_some (content_in service old (dir_of access)) ≡ true
       by_link (inl stood) = owned.linked_kept parent n access stood
       by_link (inr comes) = (may.stands access comes.2).present
@@ -245,7 +244,7 @@ module _ (service : Service) (old new : Objects) (root : Access) (phases : Phase
     has = each_call by phase phases (λ (c : CallRef) (p : Phase). Has service new c p) may.has (λ c apart. has_stays c apart (phases c) refl (owned.has c));
     reservations = stays_reserving;
     seals = stays_sealing;
-    holds = λ d n slot. each_name dir name (λ (d : DirRef) (n : List ℕ). slot_in n (directories_of service new d) ≡ Some slot → IsUnheld slot)
+    holds = λ d n slot. each_name dir name (λ (d : DirRef) (n : List ℕ). slot_in n (slots_kept service new d) ≡ Some slot → IsUnheld slot)
         (λ is. may.unheld slot (sym slot_now ∙ is)) (λ d n apart is. owned.holds d n slot (sym (slots_stay d n apart) ∙ is)) d n;
     root_kept = there_stays (dir_of root) ∙ owned.root_kept;
     linked_kept = stays_kept;

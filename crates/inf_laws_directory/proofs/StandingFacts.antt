@@ -14,7 +14,7 @@ use Rattle.inf_tree.specs.Tree.{IsTree, Node}
 use Rattle.inf_tree.proofs.Sorted.{IsTree-apply}
 use Rattle.inf_laws_server.specs.Passed.{IsAsked}
 use Rattle.inf_laws_directory.specs.Leads.{Leads}
-use Rattle.inf_laws_directory.specs.Objects.{Objects, Service, directories_of, site_in}
+use Rattle.inf_laws_directory.specs.Objects.{Objects, Service, content_in, site_in, slots_kept}
 use Rattle.inf_laws_directory.specs.Owned.{AreOwned, Has, KeepsSealed}
 use Rattle.inf_laws_directory.specs.Phases.{IsLoose, Phase, Phases, has_sealed, has_unlinked, idle}
 use Rattle.inf_laws_directory.specs.Replays.{Answers, IsAt}
@@ -35,7 +35,7 @@ use Rattle.inf_laws_directory.proofs.Unreached.{unreached}
 
 module _ (service : Service) (objects next : Objects) (root : Access) (tree : Node) (phases after : Phases) where
   -- a step that keeps all owned decides a call where what stands then stands for the tree after it
-  pub decides : (caller : Caller) (asked : Call) (given : Answer) → IsTree tree → Answers tree caller asked given root (directories_of service next)
+  pub decides : (caller : Caller) (asked : Call) (given : Answer) → IsTree tree → Answers tree caller asked given root (content_in service next)
       → Keeps service objects next root phases after → Decides service objects next root tree phases after caller asked given
   decides caller asked given sorted answers keeps = record {
     answered = answers.answered;
@@ -46,19 +46,19 @@ module _ (service : Service) (objects next : Objects) (root : Access) (tree : No
   }
 
   -- and one that nothing sees leaves the tree
-  pub goes_on_unseen : IsTree tree → Stands (directories_of service next) root tree → Keeps service objects next root phases after
+  pub goes_on_unseen : IsTree tree → Stands (content_in service next) root tree → Keeps service objects next root phases after
       → GoesOn service objects next root tree phases after
   goes_on_unseen sorted stands keeps = record { standing = record { sorted = sorted; stands = stands; owned = keeps.owned }; keeps = keeps }
 
 -- what is seen of no directory is seen on no path
-pub looks_same : (service : Service) (objects next : Objects) (root : Access) → IsUnseen (directories_of service objects) (directories_of service next)
-    → LooksSame (directories_of service objects) (directories_of service next) root
-looks_same service objects next root unseen path access reaches name = unseen (dir_of access) name
+pub looks_same : (service : Service) (objects next : Objects) (root : Access) → IsUnseen (content_in service objects) (content_in service next)
+    → LooksSame (content_in service objects) (content_in service next) root
+looks_same service objects next root unseen path access reaches = unseen (dir_of access)
 
 -- what changes in one directory alone is seen on no path, where none leads to it
-pub looks_same_beside : (service : Service) (objects next : Objects) (root : Access) (dir : DirRef) → IsUnreached (directories_of service objects) root dir
-    → IsUnseenBeside dir (directories_of service objects) (directories_of service next) → LooksSame (directories_of service objects) (directories_of service next) root
-looks_same_beside service objects next root dir never unseen path access reaches name = unseen (dir_of access) name (by (is_same_dir dir (dir_of access)) refl)
+pub looks_same_beside : (service : Service) (objects next : Objects) (root : Access) (dir : DirRef) → IsUnreached (content_in service objects) root dir
+    → IsUnseenBeside dir (content_in service objects) (content_in service next) → LooksSame (content_in service objects) (content_in service next) root
+looks_same_beside service objects next root dir never unseen path access reaches = unseen (dir_of access) (by (is_same_dir dir (dir_of access)) refl)
   where
     by : (b : Bool) → is_same_dir dir (dir_of access) ≡ b → is_same_dir dir (dir_of access) ≡ false
     by true is = absurd (never path access reaches (sym (same_dir dir (dir_of access) is)))
@@ -66,16 +66,16 @@ looks_same_beside service objects next root dir never unseen path access reaches
 
 -- no path leads to what is loose in a call's hands
 pub loose_unreached : (service : Service) (objects : Objects) (root : Access) (phases : Phases) → AreOwned service objects root phases
-    → (call : CallRef) (dir : DirRef) → IsLoose (phases call) dir → IsUnreached (directories_of service objects) root dir
+    → (call : CallRef) (dir : DirRef) → IsLoose (phases call) dir → IsUnreached (content_in service objects) root dir
 loose_unreached service objects root phases owned call dir loose =
-    unreached (directories_of service objects) root dir
+    unreached (content_in service objects) root dir
     (λ same. owned.root_apart call (subst (λ (d : DirRef). IsLoose (phases call) d) (sym same) loose))
     (loose_in service objects root phases owned call dir loose).unlinked
 
 -- the entry that ends a chain which leads
 pub is_at : (service : Service) (objects : Objects) (root : Access) (tree : Node) (phases : Phases) (path : List (List ℕ)) (chain : List Entry) (last : Entry)
-    → IsStanding service objects root tree phases → Leads (directories_of service objects) root path chain → last_of chain ≡ Some last
-    → IsAt (directories_of service objects) root tree path chain last
+    → IsStanding service objects root tree phases → Leads (content_in service objects) root path chain → last_of chain ≡ Some last
+    → IsAt (content_in service objects) root tree path chain last
 is_at service objects root tree phases path chain last standing leads ends = record { sorted = standing.sorted; stands = standing.stands; leads = leads; ends = ends }
 
 -- a call with nothing in hand has unlinked nothing
@@ -85,14 +85,14 @@ idle_apart phase dir at_idle unlinked = cc (at_idle, unlinked)
 -- a chain that was told to a call with nothing in hand leads to the directory asked
 pub asked_at : (service : Service) (objects : Objects) (number : ℕ) (root : Access) (tree : Node) (phases : Phases) (by : CallRef) (path : List (List ℕ)) (chain : List Entry) (last : Entry)
     → IsStanding service objects root tree phases → phases by ≡ idle → IsToldAlong service objects root phases path chain
-    → IsAsked (site_in service number) (objects number) by (last_of chain) last → IsAt (directories_of service objects) root tree path chain last
+    → IsAsked (site_in service number) (objects number) by (last_of chain) last → IsAt (content_in service objects) root tree path chain last
 asked_at service objects number root tree phases by path chain last standing at_idle told asked =
     let it_is_open = is_open service objects number by chain last asked in
     is_at service objects root tree phases path chain last standing
     (chain_is_true service objects root phases by standing.owned path chain last told.told told.links it_is_open (idle_apart (phases by) (dir_of last.access) at_idle)) it_is_open.last
 
 -- nothing stands where there are no slots
-pub nothing_stands : (service : Service) (objects : Objects) (dir : DirRef) → directories_of service objects dir ≡ [] → IsEmpty (directories_of service objects) dir
+pub nothing_stands : (service : Service) (objects : Objects) (dir : DirRef) → slots_kept service objects dir ≡ [] → IsEmpty (content_in service objects) dir
 nothing_stands service objects dir none name = ap (λ (slots : List (List ℕ × Slot)). thing_in (slot_in name slots)) none
 
 -- a chain that was told, and ends in a directory that the call sealed, leads to it
@@ -103,7 +103,7 @@ module _ (service : Service) (objects : Objects) (root : Access) (tree : Node) (
   has_it_sealed : Has service objects by (has_sealed (dir_of parent.access) kept (dir_of target.access))
   has_it_sealed = subst (λ (phase : Phase). Has service objects by phase) at_sealed (standing.owned.has by)
 
-  pub sealed_leads : Leads (directories_of service objects) root (path ++ name ∷ []) chain
+  pub sealed_leads : Leads (content_in service objects) root (path ++ name ∷ []) chain
   sealed_leads =
       let sealed : KeepsSealed service objects by (dir_of target.access) = has_it_sealed.0 in
       chain_is_true service objects root phases by standing.owned (path ++ name ∷ []) chain target told.told told.links
@@ -115,4 +115,4 @@ module _ (service : Service) (objects : Objects) (root : Access) (tree : Node) (
   sealed_by_name at_parent =
       let under = has_it_sealed.1 in
       (standing.owned.once (dir_of parent.access) (dir_of parent.access) kept name under.access target.access under.linked
-      (last_links (directories_of service objects) name target parent root path chain sealed_leads at_last at_parent) under.same).1
+      (last_links (content_in service objects) name target parent root path chain sealed_leads at_last at_parent) under.same).1

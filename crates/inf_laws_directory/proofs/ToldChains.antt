@@ -12,7 +12,7 @@ use Rattle.inf_content.specs.Contents.{seal_of, slots_found}
 use Rattle.inf_content.specs.Slots.{slot_in}
 use Rattle.inf_server.specs.Chains.{last_of}
 use Rattle.inf_laws_directory.specs.Leads.{Leads, LeadsFrom}
-use Rattle.inf_laws_directory.specs.Objects.{Objects, Service, content_in, directories_of}
+use Rattle.inf_laws_directory.specs.Objects.{Objects, Service, content_in}
 use Rattle.inf_laws_directory.specs.Owned.{AreOwned, Has, KeepsSealed, Links}
 use Rattle.inf_laws_directory.specs.Phases.{Phase, Phases, has_unlinked}
 use Rattle.inf_laws_directory.specs.Things.{Thing, thing_in, thing_under}
@@ -32,7 +32,7 @@ module _ (service : Service) (objects : Objects) (root : Access) (phases : Phase
   nothing_there found name none is = (let at = ap (λ (slots : List (List ℕ × Slot)). thing_in (slot_in name slots)) none in cc)
 
   -- a directory in which something stands is not gone
-  full_stays : {thing : Thing} (dir : DirRef) (name : List ℕ) → thing_under name dir (directories_of service objects) ≡ Some thing → HasGone dir → ⊥
+  full_stays : {thing : Thing} (dir : DirRef) (name : List ℕ) → thing_under name dir (content_in service objects) ≡ Some thing → HasGone dir → ⊥
   full_stays dir name is (inl none) = nothing_there (content_in service objects dir) name (ap slots_found none) is
   full_stays dir name is (inr unlinked) =
       let sealed = kept_sealed unlinked.call dir unlinked.unlinked in
@@ -49,15 +49,15 @@ module _ (service : Service) (objects : Objects) (root : Access) (phases : Phase
 
   -- so that what was told of it is true
   true_now : (asked : Key) (dir : DirRef) (name : List ℕ) (access : Access) → asked ≡ key.At dir name → IsToldAs service objects root phases asked access
-      → (HasGone (dir_of access) → ⊥) → Links (directories_of service objects) dir name access
+      → (HasGone (dir_of access) → ⊥) → Links (content_in service objects) dir name access
   true_now asked dir name access is told stays = by_told (subst (λ (k : Key). IsToldAs service objects root phases k access) is told)
     where
-      by_told : Links (directories_of service objects) dir name access ⊎ HasGone (dir_of access) → Links (directories_of service objects) dir name access
+      by_told : Links (content_in service objects) dir name access ⊎ HasGone (dir_of access) → Links (content_in service objects) dir name access
       by_told (inl linked) = linked
       by_told (inr gone) = absurd (stays gone)
 
   record LeadsOn (first : Entry) (path : List (List ℕ)) (chain : List Entry) : Type 0 where
-    leads : LeadsFrom (directories_of service objects) first.access path chain
+    leads : LeadsFrom (content_in service objects) first.access path chain
     stays : HasGone (dir_of first.access) → ⊥
 
   leads_on : (path : List (List ℕ)) (first last : Entry) (chain : List Entry) → AreTold service objects root phases chain → LinkFrom first.access path chain
@@ -74,9 +74,9 @@ module _ (service : Service) (objects : Objects) (root : Access) (phases : Phase
 
   pub chain_is_true : (path : List (List ℕ)) (chain : List Entry) (last : Entry) → AreTold service objects root phases chain → LinkAlong path chain
       → IsOpen service objects by chain last → (phases by ≡ has_unlinked (dir_of last.access) → ⊥)
-      → Leads (directories_of service objects) root path chain
+      → Leads (content_in service objects) root path chain
   chain_is_true path [] last told link is_open not_own = absurd link
   chain_is_true path (e ∷ chain) last told link is_open not_own =
       let top : e.access ≡ root = subst (λ (k : Key). IsToldAs service objects root phases k e.access) link.0 told.0 in
       let on = leads_on path e last chain told.1 link.1 is_open.last (open_stays (e ∷ chain) last is_open not_own) in
-      (top, subst (λ (access : Access). LeadsFrom (directories_of service objects) access path chain) top on.leads)
+      (top, subst (λ (access : Access). LeadsFrom (content_in service objects) access path chain) top on.leads)

@@ -12,7 +12,7 @@ use Rattle.inf_base.specs.Same.{dir_of}
 use Rattle.inf_content.specs.Contents.{seal_of, slots_found}
 use Rattle.inf_content.specs.Slots.{slot_in}
 use Rattle.inf_laws_directory.specs.Changes.{is_at}
-use Rattle.inf_laws_directory.specs.Objects.{Objects, Service, content_in, directories_of}
+use Rattle.inf_laws_directory.specs.Objects.{Objects, Service, content_in, slots_kept}
 use Rattle.inf_laws_directory.specs.Owned.{AreOwned, Has, HasPlace, IsUnlinked, KeepsName, KeepsSealed, Links, StandsUnder}
 use Rattle.inf_laws_directory.specs.Phases.{IsLoose, IsReserving, IsSealing, Phase, Phases, has_made, has_reserved, has_sealed, has_unlinked, idle, with_phase}
 use Rattle.inf_laws_directory.specs.Steps.{Keeps}
@@ -36,16 +36,16 @@ module _ (service : Service) (old new : Objects) (root : Access) (phases : Phase
   stands = has_it.1
 
   -- the slots and the content objects that stay
-  slot_was : slot_in name (directories_of service old dir) ≡ Some was
+  slot_was : slot_in name (slots_kept service old dir) ≡ Some was
   slot_was = ap (λ (o : Option Content). slot_in name (slots_found o)) changes.there ∙ changes.slot_before
 
-  slot_now : slot_in name (directories_of service new dir) ≡ None
+  slot_now : slot_in name (slots_kept service new dir) ≡ None
   slot_now = ap (λ (o : Option Content). slot_in name (slots_found o)) changes.here ∙ changes.slot_after
 
   slots_stay : (other_dir : DirRef) (other : List ℕ) → is_at dir name other_dir other ≡ false
-      → slot_in other (directories_of service new other_dir) ≡ slot_in other (directories_of service old other_dir)
+      → slot_in other (slots_kept service new other_dir) ≡ slot_in other (slots_kept service old other_dir)
   slots_stay other_dir other =
-      each_dir dir (λ (d : DirRef). is_at dir name d other ≡ false → slot_in other (directories_of service new d) ≡ slot_in other (directories_of service old d))
+      each_dir dir (λ (d : DirRef). is_at dir name d other ≡ false → slot_in other (slots_kept service new d) ≡ slot_in other (slots_kept service old d))
       (λ apart. ap (λ (o : Option Content). slot_in other (slots_found o)) changes.here
       ∙ changes.other_slots other (let same = same_dir_self dir in rw same at apart)
       ∙ sym (ap (λ (o : Option Content). slot_in other (slots_found o)) changes.there))
@@ -60,33 +60,33 @@ module _ (service : Service) (old new : Objects) (root : Access) (phases : Phase
       (λ never. absurd (never refl)) (λ d apart never. changes.others d apart)
 
   -- what stands under each name stood there, and stands there still but for the directory that is unlinked
-  slot_before : (d : DirRef) (n : List ℕ) (slot : Slot) → slot_in n (directories_of service new d) ≡ Some slot → slot_in n (directories_of service old d) ≡ Some slot
+  slot_before : (d : DirRef) (n : List ℕ) (slot : Slot) → slot_in n (slots_kept service new d) ≡ Some slot → slot_in n (slots_kept service old d) ≡ Some slot
   slot_before d n slot = each_name dir name
-      (λ (d : DirRef) (n : List ℕ). slot_in n (directories_of service new d) ≡ Some slot → slot_in n (directories_of service old d) ≡ Some slot)
+      (λ (d : DirRef) (n : List ℕ). slot_in n (slots_kept service new d) ≡ Some slot → slot_in n (slots_kept service old d) ≡ Some slot)
       (λ is. none_not_some _ slot slot_now is) (λ d n apart is. sym (slots_stay d n apart) ∙ is) d n
 
-  link_was : (parent : DirRef) (n : List ℕ) (access : Access) → Links (directories_of service new) parent n access → Links (directories_of service old) parent n access
+  link_was : (parent : DirRef) (n : List ℕ) (access : Access) → Links (content_in service new) parent n access → Links (content_in service old) parent n access
   link_was parent n access = each_name dir name
-      (λ (d : DirRef) (n : List ℕ). Links (directories_of service new) d n access → Links (directories_of service old) d n access)
+      (λ (d : DirRef) (n : List ℕ). Links (content_in service new) d n access → Links (content_in service old) d n access)
       (λ linked. none_not_some _ (a_dir access) (ap thing_in slot_now) linked) (λ d n apart linked. sym (ap thing_in (slots_stay d n apart)) ∙ linked) parent n
 
-  link_stays : (parent : DirRef) (n : List ℕ) (access : Access) → Links (directories_of service old) parent n access
-      → Links (directories_of service new) parent n access ⊎ (dir_of access ≡ target)
+  link_stays : (parent : DirRef) (n : List ℕ) (access : Access) → Links (content_in service old) parent n access
+      → Links (content_in service new) parent n access ⊎ (dir_of access ≡ target)
   link_stays parent n access = each_name dir name
-      (λ (d : DirRef) (n : List ℕ). Links (directories_of service old) d n access → Links (directories_of service new) d n access ⊎ (dir_of access ≡ target))
+      (λ (d : DirRef) (n : List ℕ). Links (content_in service old) d n access → Links (content_in service new) d n access ⊎ (dir_of access ≡ target))
       (λ linked.
       let both : Some (a_dir access) ≡ Some (a_dir stands.access) = sym linked ∙ stands.linked in
       let same : access ≡ stands.access = cc both in
       inr (ap dir_of same ∙ stands.same))
       (λ d n apart linked. inl (ap thing_in (slots_stay d n apart) ∙ linked)) parent n
 
-  unlinked_stays : (other : DirRef) → IsUnlinked (directories_of service old) other → IsUnlinked (directories_of service new) other
+  unlinked_stays : (other : DirRef) → IsUnlinked (content_in service old) other → IsUnlinked (content_in service new) other
   unlinked_stays other unlinked parent n access linked = unlinked parent n access (link_was parent n access linked)
 
   -- it stood under that name alone
-  target_unlinked : IsUnlinked (directories_of service new) target
+  target_unlinked : IsUnlinked (content_in service new) target
   target_unlinked parent n access = each_name dir name
-      (λ (d : DirRef) (n : List ℕ). Links (directories_of service new) d n access → dir_of access ≡ target → ⊥)
+      (λ (d : DirRef) (n : List ℕ). Links (content_in service new) d n access → dir_of access ≡ target → ⊥)
       (λ linked is. none_not_some _ (a_dir access) (ap thing_in slot_now) linked)
       (λ d n apart linked is.
       let place = owned.once dir d name n stands.access access stands.linked (link_was d n access linked) (stands.same ∙ sym is) in
@@ -113,7 +113,7 @@ module _ (service : Service) (old new : Objects) (root : Access) (phases : Phase
     name_stays parent n birth keeps = record {
       access = keeps.access;
       slot = each_name dir name
-          (λ (d : DirRef) (m : List ℕ). slot_in m (directories_of service old d) ≡ Some (reserved call keeps.access) → slot_in m (directories_of service new d) ≡ Some (reserved call keeps.access))
+          (λ (d : DirRef) (m : List ℕ). slot_in m (slots_kept service old d) ≡ Some (reserved call keeps.access) → slot_in m (slots_kept service new d) ≡ Some (reserved call keeps.access))
           (λ is. none_not_some _ (a_dir stands.access) (ap thing_in is) stands.linked) (λ d m names is. slots_stay d m names ∙ is) parent n keeps.slot;
       birth_kept = keeps.birth_kept;
     }
@@ -121,7 +121,7 @@ module _ (service : Service) (old new : Objects) (root : Access) (phases : Phase
     stands_still : (parent : DirRef) (n : List ℕ) (sealed : DirRef) → IsSealing (phases call) sealed → StandsUnder service old parent n sealed → StandsUnder service new parent n sealed
     stands_still parent n sealed sealing at = by_link (link_stays parent n at.access at.linked)
       where
-        by_link : Links (directories_of service new) parent n at.access ⊎ (dir_of at.access ≡ target) → StandsUnder service new parent n sealed
+        by_link : Links (content_in service new) parent n at.access ⊎ (dir_of at.access ≡ target) → StandsUnder service new parent n sealed
         by_link (inl linked) = record { access = at.access; linked = linked; same = at.same }
         by_link (inr same) =
             let own = subst (λ (d : DirRef). IsSealing (phases call) d) (sym at.same ∙ same) sealing in
@@ -157,11 +157,11 @@ module _ (service : Service) (old new : Objects) (root : Access) (phases : Phase
       (λ is. owned.seals dir changes.content call changes.there (ap seal_of (sym changes.here ∙ is) ∙ sealed))
       (λ d apart is. owned.seals d content call (sym (changes.others d apart) ∙ is) sealed)
 
-  place_stays : (d : DirRef) → HasPlace (directories_of service old) root phases d → HasPlace (directories_of service new) root after d
+  place_stays : (d : DirRef) → HasPlace (content_in service old) root phases d → HasPlace (content_in service new) root after d
   place_stays d (inl is_root) = inl is_root
   place_stays d (inr (inl at)) = by_link (link_stays at.parent at.name at.access at.linked)
     where
-      by_link : Links (directories_of service new) at.parent at.name at.access ⊎ (dir_of at.access ≡ target) → HasPlace (directories_of service new) root after d
+      by_link : Links (content_in service new) at.parent at.name at.access ⊎ (dir_of at.access ≡ target) → HasPlace (content_in service new) root after d
       by_link (inl linked) = inr (inl (record { parent = at.parent; name = at.name; access = at.access; linked = linked; same = at.same }))
       by_link (inr same) = inr (inr (record { call = by; loose = subst (λ (p : Phase). IsLoose p d) (sym unlinked_by) (sym same ∙ at.same) }))
   place_stays d (inr (inr loose)) =
@@ -192,7 +192,7 @@ module _ (service : Service) (old new : Objects) (root : Access) (phases : Phase
   told_stays key.Top access told = told
   told_stays (key.At parent n) access (inl linked) = by_link (link_stays parent n access linked)
     where
-      by_link : Links (directories_of service new) parent n access ⊎ (dir_of access ≡ target) → IsToldAs service new root after (key.At parent n) access
+      by_link : Links (content_in service new) parent n access ⊎ (dir_of access ≡ target) → IsToldAs service new root after (key.At parent n) access
       by_link (inl linked) = inl linked
       by_link (inr same) = inr (inr (record { call = by; unlinked = unlinked_by ∙ ap has_unlinked (sym same) }))
   told_stays (key.At parent n) access (inr (inl none)) = inr (inl (none_stays _ _ (there_stays (dir_of access)) none))

@@ -40,4 +40,4 @@ module _ (old new : Directories) (root : Access) where
   same_at path alike = same_from path [] path (Some (a_dir root)) alike refl refl
 
   pub looks_same_at : LooksSame old new root → (path : List (List ℕ)) → thing_at new path (Some (a_dir root)) ≡ thing_at old path (Some (a_dir root))
-  looks_same_at looks path = same_at path (λ before rest name access split at. ap (thing_at new rest) (looks before access at name))
+  looks_same_at looks path = same_at path (λ before rest name access split at. ap (thing_at new rest) ((looks before access at).things name))

@@ -4,16 +4,24 @@ use Rattle.std.specs.Str.{bytes_eq}
 use Rattle.inf_base.specs.declared.access.Access.{Access}
 use Rattle.inf_base.specs.declared.directory.DirRef.{DirRef}
 use Rattle.inf_base.specs.Same.{dir_of, is_same_dir}
-use Rattle.inf_laws_directory.specs.Things.{Directories, Reaches, Thing, thing_under}
+use Rattle.inf_laws_directory.specs.Things.{Directories, HasContent, Reaches, Thing, thing_under}
 
 -- whether it is this name of this directory
 abbrev pub is_at : DirRef → List ℕ → DirRef → List ℕ → Bool
 is_at dir name other_dir other = is_same_dir dir other_dir && bytes_eq name other
 
--- each directory that a path leads to has the same things
+-- the directory has the same things, and its content object where it had one
+pub record LooksAsBefore (old new : Directories) (dir : DirRef) : Type 0 where
+  pub things : (name : List ℕ) → thing_under name dir new ≡ thing_under name dir old
+  pub stays : HasContent old dir → HasContent new dir
+
+-- each directory that a path leads to looks as before
 abbrev pub LooksSame : Directories → Directories → Access → Type 0
-LooksSame old new root = (path : List (List ℕ)) (access : Access) → Reaches old root path access
-    → (name : List ℕ) → thing_under name (dir_of access) new ≡ thing_under name (dir_of access) old
+LooksSame old new root = (path : List (List ℕ)) (access : Access) → Reaches old root path access → LooksAsBefore old new (dir_of access)
+
+-- no content object goes
+abbrev pub AllStay : Directories → Directories → Type 0
+AllStay old new = (dir : DirRef) → HasContent old dir → HasContent new dir
 
 -- nothing stands in the directory
 abbrev pub IsEmpty : Directories → DirRef → Type 0
@@ -29,14 +37,17 @@ pub record Puts (old new : Directories) (dir : DirRef) (name : List ℕ) (thing 
   pub here : thing_under name dir new ≡ Some thing
   pub others : (other_dir : DirRef) (other : List ℕ) → is_at dir name other_dir other ≡ false
       → thing_under other other_dir new ≡ thing_under other other_dir old
+  pub stay : AllStay old new
 
 -- the thing under a name of a directory goes, and all others stay
 pub record Takes (old new : Directories) (dir : DirRef) (name : List ℕ) : Type 0 where
   pub gone : thing_under name dir new ≡ None
   pub others : (other_dir : DirRef) (other : List ℕ) → is_at dir name other_dir other ≡ false
       → thing_under other other_dir new ≡ thing_under other other_dir old
+  pub stay : AllStay old new
 
--- a directory that may come: no path leads to it, and nothing stands in it
+-- a directory that may come: no path leads to it, and it has a content object in which nothing stands
 pub record IsNew (dirs : Directories) (root : Access) (dir : DirRef) : Type 0 where
   pub unreached : IsUnreached dirs root dir
+  pub there : HasContent dirs dir
   pub empty : IsEmpty dirs dir

@@ -9,6 +9,7 @@ pub mod Owes
 pub mod Owned
 pub mod Phases
 pub mod Replays
+pub mod Root
 pub mod Serves
 pub mod Standing
 pub mod Stands

@@ -1,11 +1,12 @@
--- The directories of a service: what the servers keep, taken together.
+-- The directories of a service: what the servers keep, taken together, and what shows of it.
 use Rattle.std.specs.Prelude.{ℕ, ◌==◌, if◌then◌else◌, List, Option}
 use Rattle.inf_base.specs.declared.directory.DirRef.{DirRef}
 use Rattle.inf_base.specs.declared.id.Id.{Id}
-use Rattle.inf_base.specs.Content.{Content}
+use Rattle.inf_base.specs.Content.{Content, Slot}
 use Rattle.inf_base.specs.Identity.{server_of}
-use Rattle.inf_content.specs.Contents.{content_at, slots_at}
+use Rattle.inf_content.specs.Contents.{content_at, slots_found}
 use Rattle.inf_server.specs.State.{Site, State}
+use Rattle.inf_laws_directory.specs.Phases.{Phases}
 use Rattle.inf_laws_directory.specs.Things.{Directories}
 
 -- how many servers there are beside the coordinator, and the digest of identifiers
@@ -24,12 +25,17 @@ Objects = ℕ → State
 abbrev pub kept_with : Service → Objects → Id → List Content
 kept_with service objects id = (objects (server_of id service.servers)).contents
 
+-- the directories as they are kept
 abbrev pub content_in : Service → Objects → DirRef → Option Content
 content_in service objects dir = content_at dir (kept_with service objects dir.id)
 
--- the slots of each directory
-abbrev pub directories_of : Service → Objects → Directories
-directories_of service objects dir = slots_at dir (kept_with service objects dir.id)
+-- the slots of a directory as they are kept
+abbrev pub slots_kept : Service → Objects → DirRef → List (List ℕ × Slot)
+slots_kept service objects dir = slots_found (content_in service objects dir)
+
+-- the directories as they show while calls are in these phases: as they are kept
+abbrev pub shown_of : Service → Objects → Phases → Directories
+shown_of service objects phases dir = content_in service objects dir
 
 -- the states once one server's has changed
 abbrev pub with_state : ℕ → State → Objects → Objects

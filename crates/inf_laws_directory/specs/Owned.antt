@@ -9,7 +9,7 @@ use Rattle.inf_base.specs.Identity.{identity}
 use Rattle.inf_base.specs.Same.{dir_of}
 use Rattle.inf_content.specs.Contents.{empty_content}
 use Rattle.inf_content.specs.Slots.{slot_in}
-use Rattle.inf_laws_directory.specs.Objects.{Objects, Service, content_in, directories_of}
+use Rattle.inf_laws_directory.specs.Objects.{Objects, Service, content_in, slots_kept}
 use Rattle.inf_content.specs.Order.{AreInOrder}
 use Rattle.inf_laws_directory.specs.Phases.{IsLoose, IsReserving, IsSealing, Phase, Phases, idle, has_made, has_reserved, has_sealed, has_unlinked}
 use Rattle.inf_laws_directory.specs.Things.{Directories, a_dir, thing_under}
@@ -25,7 +25,7 @@ IsUnlinked dirs dir = (parent : DirRef) (name : List ℕ) (access : Access) → 
 -- the name is kept for the call, with the access object of a directory of this birth
 pub record KeepsName (service : Service) (objects : Objects) (call : CallRef) (parent : DirRef) (name : List ℕ) (birth : Triple) : Type 0 where
   pub access : Access
-  pub slot : slot_in name (directories_of service objects parent) ≡ Some (reserved call access)
+  pub slot : slot_in name (slots_kept service objects parent) ≡ Some (reserved call access)
   pub birth_kept : access.birth ≡ birth
 
 -- the content object is there, sealed by the call, with nothing in it
@@ -38,7 +38,7 @@ pub record KeepsSealed (service : Service) (objects : Objects) (call : CallRef) 
 -- the directory stands under this name
 pub record StandsUnder (service : Service) (objects : Objects) (parent : DirRef) (name : List ℕ) (target : DirRef) : Type 0 where
   pub access : Access
-  pub linked : Links (directories_of service objects) parent name access
+  pub linked : Links (content_in service objects) parent name access
   pub same : dir_of access ≡ target
 
 -- what a call in this phase has
@@ -49,11 +49,11 @@ Has service objects call (has_made parent name birth made) =
     KeepsName service objects call parent name birth
     × (content_in service objects made ≡ Some (empty_content made.id made.born birth call))
     × (made.id ≡ identity service.digest birth)
-    × IsUnlinked (directories_of service objects) made
+    × IsUnlinked (content_in service objects) made
 Has service objects call (has_sealed parent name target) =
     KeepsSealed service objects call target × StandsUnder service objects parent name target
 Has service objects call (has_unlinked target) =
-    KeepsSealed service objects call target × IsUnlinked (directories_of service objects) target
+    KeepsSealed service objects call target × IsUnlinked (content_in service objects) target
 
 abbrev pub IsUnheld : Slot → Type 0
 IsUnheld (reserved by access) = Unit {0}
@@ -82,21 +82,21 @@ pub record AreOwned (service : Service) (objects : Objects) (root : Access) (pha
   pub has : (call : CallRef) → Has service objects call (phases call)
   -- each reservation and each seal belongs to a call in such a phase, and nothing is held
   pub reservations : (dir : DirRef) (name : List ℕ) (by : CallRef) (access : Access)
-      → slot_in name (directories_of service objects dir) ≡ Some (reserved by access) → IsReserving (phases by) dir name
+      → slot_in name (slots_kept service objects dir) ≡ Some (reserved by access) → IsReserving (phases by) dir name
   pub seals : (dir : DirRef) (content : Content) (by : CallRef)
       → content_in service objects dir ≡ Some content → content.seal ≡ Some by → IsSealing (phases by) dir
   pub holds : (dir : DirRef) (name : List ℕ) (slot : Slot)
-      → slot_in name (directories_of service objects dir) ≡ Some slot → IsUnheld slot
+      → slot_in name (slots_kept service objects dir) ≡ Some slot → IsUnheld slot
   -- the root, and each directory that stands somewhere, has its content object
   pub root_kept : is_some (content_in service objects (dir_of root)) ≡ true
   pub linked_kept : (parent : DirRef) (name : List ℕ) (access : Access)
-      → Links (directories_of service objects) parent name access → is_some (content_in service objects (dir_of access)) ≡ true
+      → Links (content_in service objects) parent name access → is_some (content_in service objects (dir_of access)) ≡ true
   pub placed : (dir : DirRef) → is_some (content_in service objects dir) ≡ true
-      → HasPlace (directories_of service objects) root phases dir
+      → HasPlace (content_in service objects) root phases dir
   -- a directory stands at one place at most, and the root stands at none
   pub once : (parent other : DirRef) (name second : List ℕ) (access same : Access)
-      → Links (directories_of service objects) parent name access → Links (directories_of service objects) other second same
+      → Links (content_in service objects) parent name access → Links (content_in service objects) other second same
       → dir_of access ≡ dir_of same → (parent ≡ other) × (name ≡ second)
-  pub root_free : IsUnlinked (directories_of service objects) (dir_of root)
+  pub root_free : IsUnlinked (content_in service objects) (dir_of root)
   -- and is loose in no call's hands
   pub root_apart : (call : CallRef) → IsLoose (phases call) (dir_of root) → ⊥

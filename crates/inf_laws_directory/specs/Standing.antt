@@ -7,7 +7,7 @@ use Rattle.inf_base.specs.declared.caller.Caller.{Caller}
 use Rattle.inf_base.specs.declared.entry.Entry.{Entry}
 use Rattle.inf_tree.specs.Apply.{apply}
 use Rattle.inf_tree.specs.Tree.{IsTree, Node}
-use Rattle.inf_laws_directory.specs.Objects.{Objects, Service, directories_of}
+use Rattle.inf_laws_directory.specs.Objects.{Objects, Service, shown_of}
 use Rattle.inf_laws_directory.specs.Owned.{AreOwned}
 use Rattle.inf_laws_directory.specs.Phases.{Phases}
 use Rattle.inf_laws_directory.specs.Stands.{Stands}
@@ -16,7 +16,7 @@ use Rattle.inf_laws_directory.specs.Told.{AreTold, LinkAlong}
 
 pub record IsStanding (service : Service) (objects : Objects) (root : Access) (tree : Node) (phases : Phases) : Type 0 where
   pub sorted : IsTree tree
-  pub stands : Stands (directories_of service objects) root tree
+  pub stands : Stands (shown_of service objects phases) root tree
   pub owned : AreOwned service objects root phases
 
 -- a chain whose entries were told, and that links along these names

@@ -1,10 +1,12 @@
--- The directories of the servers stand for a plain tree: each path shows the same in both.
+-- The directories of the servers stand for a plain tree: each path shows the same in both, and each directory
+-- on it is there.
 use Rattle.std.specs.Prelude.{◌≡◌, ℕ, List, [], ◌∷◌, Option, Some, None}
 use Rattle.std.specs.Option.{option_map}
 use Rattle.inf_base.specs.declared.access.Access.{Access}
 use Rattle.inf_base.specs.declared.file.FileMeta.{FileMeta}
+use Rattle.inf_base.specs.Same.{dir_of}
 use Rattle.inf_tree.specs.Tree.{DirMeta, Node, file, dir, found}
-use Rattle.inf_laws_directory.specs.Things.{Directories, StandOnce, Thing, a_file, a_dir, thing_at}
+use Rattle.inf_laws_directory.specs.Things.{Directories, HasContent, Reaches, StandOnce, Thing, a_file, a_dir, thing_at}
 
 -- what is seen at a path
 pub data Shown : Type 0 where
@@ -39,6 +41,11 @@ abbrev pub Shows : Directories → Access → Node → Type 0
 Shows dirs root tree = (path : List (List ℕ))
     → option_map shown_thing (thing_at dirs path (Some (a_dir root))) ≡ option_map shown_node (node_at path (Some tree))
 
+-- each directory that a path leads to has its content object: one without shows as an empty one does, but is none
+abbrev pub AreThere : Directories → Access → Type 0
+AreThere dirs root = (path : List (List ℕ)) (access : Access) → Reaches dirs root path access → HasContent dirs (dir_of access)
+
 pub record Stands (dirs : Directories) (root : Access) (tree : Node) : Type 0 where
   pub shows : Shows dirs root tree
   pub once : StandOnce dirs root
+  pub there : AreThere dirs root

@@ -1,15 +1,19 @@
 -- What stands in the directories that servers keep, and what a path comes to there.
-use Rattle.std.specs.Prelude.{◌≡◌, ℕ, if◌then◌else◌, List, [], ◌∷◌, Option, Some, None}
+use Rattle.std.specs.Prelude.{◌≡◌, ℕ, true, List, [], ◌∷◌, Option, Some, None, is_some}
 use Rattle.inf_base.specs.declared.access.Access.{Access}
 use Rattle.inf_base.specs.declared.directory.DirRef.{DirRef}
 use Rattle.inf_base.specs.declared.file.FileMeta.{FileMeta}
-use Rattle.inf_base.specs.Content.{Slot, reserved, file, directory}
-use Rattle.inf_base.specs.Same.{dir_of, is_same_dir}
+use Rattle.inf_base.specs.Content.{Content, Slot, reserved, file, directory}
+use Rattle.inf_base.specs.Same.{dir_of}
+use Rattle.inf_content.specs.Contents.{slots_found}
 use Rattle.inf_content.specs.Slots.{slot_in}
 
--- the slots of each directory, wherever it is kept; none where it is not there
+-- the content object of each directory that has one
 abbrev pub Directories : Type 0
-Directories = DirRef → List (List ℕ × Slot)
+Directories = DirRef → Option Content
+
+abbrev pub HasContent : Directories → DirRef → Type 0
+HasContent dirs dir = is_some (dirs dir) ≡ true
 
 -- what stands under a name: a file, or a directory by its access object
 pub data Thing : Type 0 where
@@ -23,9 +27,9 @@ thing_in (Some (reserved by access)) = None
 thing_in (Some (file meta held)) = Some (a_file meta)
 thing_in (Some (directory access held)) = Some (a_dir access)
 
--- what stands under a name of a directory
+-- what stands under a name of a directory; nothing does where it has no content object
 abbrev pub thing_under : List ℕ → DirRef → Directories → Option Thing
-thing_under name dir dirs = thing_in (slot_in name (dirs dir))
+thing_under name dir dirs = thing_in (slot_in name (slots_found (dirs dir)))
 
 -- what stands under a name of what stands here; nothing stands in a file
 abbrev pub inside : Directories → List ℕ → Thing → Option Thing
@@ -46,7 +50,3 @@ Reaches dirs root path access = thing_at dirs path (Some (a_dir root)) ≡ Some 
 abbrev pub StandOnce : Directories → Access → Type 0
 StandOnce dirs root = (path other : List (List ℕ)) (access same : Access)
     → Reaches dirs root path access → Reaches dirs root other same → dir_of access ≡ dir_of same → path ≡ other
-
--- the directories with the slots of one changed
-abbrev pub with_slots : DirRef → (List (List ℕ × Slot) → List (List ℕ × Slot)) → Directories → Directories
-with_slots dir change dirs other = if is_same_dir dir other then change (dirs other) else dirs other

@@ -6,9 +6,8 @@ use Rattle.inf_base.specs.declared.directory.DirRef.{DirRef}
 use Rattle.inf_base.specs.declared.entry.Entry.{Entry}
 use Rattle.inf_base.specs.declared.key.Key.{Key}
 use Rattle.inf_base.specs.declared.key.Key.TheVariants as key
-use Rattle.inf_base.specs.Content.{TopAccess}
 use Rattle.inf_base.specs.Same.{dir_of}
-use Rattle.inf_laws_directory.specs.Objects.{Objects, Service, content_in, directories_of}
+use Rattle.inf_laws_directory.specs.Objects.{Objects, Service, content_in, shown_of}
 use Rattle.inf_laws_directory.specs.Owned.{Links}
 use Rattle.inf_laws_directory.specs.Phases.{Phases, has_unlinked}
 
@@ -25,7 +24,7 @@ IsGone service objects phases dir = (content_in service objects dir ≡ None) �
 abbrev pub IsToldAs : Service → Objects → Access → Phases → Key → Access → Type 0
 IsToldAs service objects root phases key.Top access = access ≡ root
 IsToldAs service objects root phases (key.At dir name) access =
-    Links (directories_of service objects) dir name access ⊎ IsGone service objects phases (dir_of access)
+    Links (shown_of service objects phases) dir name access ⊎ IsGone service objects phases (dir_of access)
 
 abbrev pub IsTold : Service → Objects → Access → Phases → Entry → Type 0
 IsTold service objects root phases entry = IsToldAs service objects root phases entry.key entry.access
@@ -50,8 +49,4 @@ LinkAlong path (e ∷ es) = (e.key ≡ key.Top) × LinkFrom e.access path es
 pub record IsUnborn (service : Service) (objects : Objects) (place : ℕ) : Type 0 where
   pub contents : (dir : DirRef) → dir.born ≡ place → content_in service objects dir ≡ None
   pub links : (parent : DirRef) (name : List ℕ) (access : Access)
-      → Links (directories_of service objects) parent name access → access.born ≡ place → ⊥
-
--- whichever server keeps the root's access object keeps this one
-abbrev pub RootStandsAt : Service → Objects → Access → Type 0
-RootStandsAt service objects root = (number : ℕ) (top : TopAccess) → (objects number).top ≡ Some top → top.access ≡ root
+      → Links (content_in service objects) parent name access → access.born ≡ place → ⊥

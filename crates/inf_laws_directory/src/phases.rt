@@ -13,7 +13,7 @@ ghost use Rattle.inf_base.specs.declared.triple.Triple.TheVariants as triple;
 ghost use Rattle.inf_base.specs.Identity.{identity};
 ghost use Rattle.inf_base.specs.Same.{dir_of};
 ghost use Rattle.inf_laws_directory.specs.Leads.{Leads};
-ghost use Rattle.inf_laws_directory.specs.Objects.{Objects, Service, directories_of, site_in, with_state};
+ghost use Rattle.inf_laws_directory.specs.Objects.{Objects, Service, shown_of, site_in, with_state};
 ghost use Rattle.inf_laws_directory.specs.Owned.{AreOwned};
 ghost use Rattle.inf_laws_directory.specs.Phases.{Phases, has_made, has_reserved, has_sealed, has_unlinked, idle, with_phase};
 ghost use Rattle.inf_laws_directory.specs.Steps.{Keeps, KeepsOlder};
@@ -42,7 +42,7 @@ pub fn chains_are_true()
         → AreOwned service objects root phases → AreTold service objects root phases chain → LinkAlong path chain
         → asked_of (site_in service number) (objects number) by chain ≡ Ok last
         → (phases by ≡ has_unlinked (dir_of last.access) → ⊥)
-        → Leads (directories_of service objects) root path chain }
+        → Leads (shown_of service objects phases) root path chain }
 {}
 
 /// A file is created by a call that has nothing in hand.
@@ -50,7 +50,7 @@ pub fn creating_keeps()
     ensures { (service : Service) (objects : Objects) (number : ℕ) (root : Access) (phases : Phases) (ask : Ask)
         (path : List (List ℕ)) (chain : List Entry) (name : List ℕ) (mode : ℕ) (done : Response)
         → AreOwned service objects root phases → phases ask.from ≡ idle
-        → Leads (directories_of service objects) root path chain
+        → Leads (shown_of service objects phases) root path chain
         → create (site_in service number) (objects number) ask chain name mode ≡ Ok done
         → Keeps service objects (with_state number done.state objects) root phases phases }
 {}
@@ -60,7 +60,7 @@ pub fn reserving_keeps()
     ensures { (service : Service) (objects : Objects) (number version : ℕ) (root : Access) (phases : Phases) (ask : Ask)
         (path : List (List ℕ)) (chain : List Entry) (last : Entry) (name : List ℕ) (done : Response)
         → AreOwned service objects root phases → phases ask.from ≡ idle
-        → Leads (directories_of service objects) root path chain → last_of chain ≡ Some last
+        → Leads (shown_of service objects phases) root path chain → last_of chain ≡ Some last
         → reserve (site_in service number) (objects number) ask chain name ≡ Ok done → done.reply ≡ reply.Reserved version
         → Keeps service objects (with_state number done.state objects) root phases
         (with_phase ask.from (has_reserved (dir_of last.access) name (triple.Of last.access.id name version)) phases) }
@@ -108,7 +108,7 @@ pub fn sealing_keeps()
     ensures { (service : Service) (objects : Objects) (number : ℕ) (root : Access) (phases : Phases) (ask : Ask)
         (path : List (List ℕ)) (chain : List Entry) (parent target : Entry) (name : List ℕ) (done : Response)
         → AreOwned service objects root phases → phases ask.from ≡ idle
-        → Leads (directories_of service objects) root (path ++ name ∷ []) chain
+        → Leads (shown_of service objects phases) root (path ++ name ∷ []) chain
         → last_of chain ≡ Some target → last_of (before_last chain) ≡ Some parent
         → seal (site_in service number) (objects number) ask chain ≡ Ok done
         → Keeps service objects (with_state number done.state objects) root phases

@@ -13,7 +13,7 @@ ghost use Rattle.inf_content.specs.Order.{AreInOrder};
 ghost use Rattle.inf_content.specs.Slot.{linked, reserves};
 ghost use Rattle.inf_content.specs.Slots.{first};
 ghost use Rattle.inf_laws_directory.specs.Changes.{Puts, Takes};
-ghost use Rattle.inf_laws_directory.specs.Objects.{Objects, Service, directories_of, site_in};
+ghost use Rattle.inf_laws_directory.specs.Objects.{Objects, Service, content_in, site_in, slots_kept};
 ghost use Rattle.inf_laws_directory.specs.Serves.{IsUnseen, IsUnseenBeside, StandsAs, directories_after};
 ghost use Rattle.inf_laws_directory.specs.Things.{a_dir, a_file, thing_under};
 ghost use Rattle.inf_message.specs.declared.ask.Ask.{Ask};
@@ -37,7 +37,7 @@ pub fn creating_puts_a_file()
     ensures { (service : Service) (objects : Objects) (number : ℕ) (ask : Ask) (chain : List Entry) (last : Entry)
         (name : List ℕ) (mode : ℕ) (done : Response)
         → create (site_in service number) (objects number) ask chain name mode ≡ Ok done → last_of chain ≡ Some last
-        → Puts (directories_of service objects) (directories_after service objects number done.state)
+        → Puts (content_in service objects) (directories_after service objects number done.state)
         (dir_of last.access) name (a_file (new_file ask.caller mode)) }
 {}
 
@@ -46,21 +46,21 @@ pub fn preparing_is_unseen()
     ensures reserving { (service : Service) (objects : Objects) (number : ℕ) (ask : Ask) (chain : List Entry)
         (name : List ℕ) (done : Response)
         → reserve (site_in service number) (objects number) ask chain name ≡ Ok done
-        → IsUnseen (directories_of service objects) (directories_after service objects number done.state) }
+        → IsUnseen (content_in service objects) (directories_after service objects number done.state) }
     ensures making { (service : Service) (objects : Objects) (number place : ℕ) (ask : Ask) (birth : Triple)
         (done : Response)
         → make (site_in service number) (objects number) place ask birth ≡ Ok done
-        → IsUnseen (directories_of service objects) (directories_after service objects number done.state) }
+        → IsUnseen (content_in service objects) (directories_after service objects number done.state) }
     ensures cancelling { (service : Service) (objects : Objects) (number : ℕ) (ask : Ask) (dir : DirRef) (done : Response)
         → AreInOrder (objects number).contents → cancel (site_in service number) (objects number) ask dir ≡ Ok done
-        → IsUnseen (directories_of service objects) (directories_after service objects number done.state) }
+        → IsUnseen (content_in service objects) (directories_after service objects number done.state) }
     ensures sealing { (service : Service) (objects : Objects) (number : ℕ) (ask : Ask) (chain : List Entry)
         (done : Response)
         → seal (site_in service number) (objects number) ask chain ≡ Ok done
-        → IsUnseen (directories_of service objects) (directories_after service objects number done.state) }
+        → IsUnseen (content_in service objects) (directories_after service objects number done.state) }
     ensures unsealing { (service : Service) (objects : Objects) (number : ℕ) (ask : Ask) (dir : DirRef) (done : Response)
         → unseal (site_in service number) (objects number) ask dir ≡ Ok done
-        → IsUnseen (directories_of service objects) (directories_after service objects number done.state) }
+        → IsUnseen (content_in service objects) (directories_after service objects number done.state) }
 {}
 
 /// A directory that is linked comes under the name that the call reserved first.
@@ -69,8 +69,8 @@ pub fn linking_puts_a_directory()
         (dir : DirRef) (mode : ℕ) (name : List ℕ) (by : CallRef) (access : Access) (done : Response)
         → AreInOrder (objects number).contents
         → link (site_in service number) (objects number) ask chain dir mode ≡ Ok done → last_of chain ≡ Some last
-        → first (reserves ask.from) (directories_of service objects (dir_of last.access)) ≡ Some (name, reserved by access)
-        → Puts (directories_of service objects) (directories_after service objects number done.state)
+        → first (reserves ask.from) (slots_kept service objects (dir_of last.access)) ≡ Some (name, reserved by access)
+        → Puts (content_in service objects) (directories_after service objects number done.state)
         (dir_of last.access) name (a_dir (linked (Some (dir, mode, ask.caller)) access)) }
 {}
 
@@ -80,13 +80,13 @@ pub fn unlinking_takes_the_directory()
         (target parent : Entry) (dir : DirRef) (name : List ℕ) (done : Response)
         → unlink (site_in service number) (objects number) ask chain ≡ Ok done → last_of chain ≡ Some target
         → target.key ≡ key.At dir name → last_of (before_last chain) ≡ Some parent
-        → StandsAs (dir_of target.access) (thing_under name (dir_of parent.access) (directories_of service objects)) }
+        → StandsAs (dir_of target.access) (thing_under name (dir_of parent.access) (content_in service objects)) }
     ensures takes { (service : Service) (objects : Objects) (number : ℕ) (ask : Ask) (chain : List Entry)
         (target parent : Entry) (dir : DirRef) (name : List ℕ) (done : Response)
         → AreInOrder (objects number).contents
         → unlink (site_in service number) (objects number) ask chain ≡ Ok done → last_of chain ≡ Some target
         → target.key ≡ key.At dir name → last_of (before_last chain) ≡ Some parent
-        → Takes (directories_of service objects) (directories_after service objects number done.state)
+        → Takes (content_in service objects) (directories_after service objects number done.state)
         (dir_of parent.access) name }
 {}
 
@@ -94,5 +94,5 @@ pub fn unlinking_takes_the_directory()
 pub fn dropping_leaves_others()
     ensures { (service : Service) (objects : Objects) (number : ℕ) (ask : Ask) (dir : DirRef) (done : Response)
         → AreInOrder (objects number).contents → drop_dir (site_in service number) (objects number) ask dir ≡ Ok done
-        → IsUnseenBeside dir (directories_of service objects) (directories_after service objects number done.state) }
+        → IsUnseenBeside dir (content_in service objects) (directories_after service objects number done.state) }
 {}

@@ -8,7 +8,8 @@ ghost use Rattle.inf_base.specs.declared.file.FileMeta.{FileMeta};
 ghost use Rattle.inf_base.specs.Same.{dir_of};
 ghost use Rattle.inf_laws_directory.specs.Changes.{IsEmpty, IsNew, LooksSame, Puts, Takes};
 ghost use Rattle.inf_laws_directory.specs.Leads.{Leads};
-ghost use Rattle.inf_laws_directory.specs.Objects.{Service, directories_of, site_in};
+ghost use Rattle.inf_laws_directory.specs.Objects.{Service, shown_of, site_in};
+ghost use Rattle.inf_laws_directory.specs.Phases.{Phases};
 ghost use Rattle.inf_laws_directory.specs.Stands.{Stands, meta_of};
 ghost use Rattle.inf_laws_directory.specs.Things.{Directories, Reaches, a_dir, a_file, thing_under};
 ghost use Rattle.inf_laws_directory.specs.Walks.{ComesTo};
@@ -18,7 +19,8 @@ ghost use Rattle.inf_tree.specs.Tree.{IsTree, Node, changed, cut, dir, file, hun
 
 /// Before anything is served the servers' directories stand for the opening tree.
 pub fn opening_stands()
-    ensures { (service : Service) → Stands (directories_of service (λ number. opening (site_in service number)))
+    ensures { (service : Service) (phases : Phases)
+        → Stands (shown_of service (λ number. opening (site_in service number)) phases)
         (root_access (site_in service 0)) opening_tree }
 {}
 

@@ -13,7 +13,8 @@ ghost use Rattle.inf_laws_directory.specs.Objects.{Objects, Service, site_in, wi
 ghost use Rattle.inf_laws_directory.specs.Owes.{MayWriteAt};
 ghost use Rattle.inf_laws_directory.specs.Phases.{Phases};
 ghost use Rattle.inf_laws_directory.specs.Replays.{MayWrite};
-ghost use Rattle.inf_laws_directory.specs.Told.{IsToldAs, RootStandsAt};
+ghost use Rattle.inf_laws_directory.specs.Root.{RootStands};
+ghost use Rattle.inf_laws_directory.specs.Told.{IsToldAs};
 ghost use Rattle.inf_message.specs.declared.ask.Ask.{Ask};
 ghost use Rattle.inf_message.specs.declared.reply.Reply.{Reply};
 ghost use Rattle.inf_message.specs.declared.reply.Reply.TheVariants as reply;
@@ -34,7 +35,7 @@ pub fn lookups_tell_the_truth()
         → IsToldAs service objects root phases key access }
     ensures top { (service : Service) (objects : Objects) (number : ℕ) (root : Access) (phases : Phases) (key : Key)
         (access : Access) (done : Response)
-        → RootStandsAt service objects root
+        → RootStands service objects root
         → lookup_top (site_in service number) (objects number) ≡ Ok done → done.reply ≡ reply.Found key access
         → IsToldAs service objects root phases key access }
 {}
@@ -51,10 +52,10 @@ pub fn reservations_and_seals_ask_permission()
         → MayWrite ask.caller (before_last chain) parent }
 {}
 
-/// The root's access object stands where it stood at first, whatever is served.
+/// The root's access object stands at the root's server alone, whatever is served.
 pub fn the_root_stays()
     ensures opening { (service : Service)
-        → RootStandsAt service (λ number. opening (site_in service number)) (root_access (site_in service 0)) }
+        → RootStands service (λ number. opening (site_in service number)) (root_access (site_in service 0)) }
     ensures next { (site : Site) (state : State) (place : ℕ) (ask : Ask)
         → (machine site state place ask).state.top ≡ state.top }
 {}
@@ -81,18 +82,18 @@ pub fn lookups_answer_what_was_asked()
 pub fn what_is_told_is_true()
     ensures { (service : Service) (objects : Objects) (number place : ℕ) (root : Access) (phases : Phases) (ask : Ask)
         (k : Key) (access : Access) (new : State)
-        → RootStandsAt service objects root
+        → RootStands service objects root
         → Serves (site_in service number) (objects number) place ask (reply.Found k access) new
         → IsToldAs service objects root phases k access }
 {}
 
-/// The root's access object stands after a Serve where it stood.
+/// The root's access object stands after a Serve as it stood.
 pub fn the_root_is_kept()
     ensures { (service : Service) (objects : Objects) (number place : ℕ) (root : Access) (ask : Ask) (given : Reply)
         (new : State)
-        → RootStandsAt service objects root
+        → RootStands service objects root
         → Serves (site_in service number) (objects number) place ask given new
-        → RootStandsAt service (with_state number new objects) root }
+        → RootStands service (with_state number new objects) root }
 {}
 
 /// A name is kept, and a directory sealed, for a caller that may write to the directory that this changes.

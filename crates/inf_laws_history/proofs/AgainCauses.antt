@@ -32,7 +32,7 @@ use Rattle.inf_message.specs.declared.request.Request.{Request}
 use Rattle.inf_message.specs.declared.request.Request.TheVariants as request
 use Rattle.inf_server.specs.State.{State, is_here}
 use Rattle.inf_laws_directory.specs.Fits.{Fits}
-use Rattle.inf_laws_directory.specs.Objects.{content_in, directories_of}
+use Rattle.inf_laws_directory.specs.Objects.{content_in, slots_kept}
 use Rattle.inf_laws_directory.specs.Owned.{IsUnheld}
 use Rattle.inf_laws_directory.specs.Phases.{IsReserving, IsSealing, Phase, has_made, has_reserved, has_sealed, has_unlinked, idle}
 use Rattle.inf_laws_directory.proofs.CallFacts.{same_call_self}
@@ -158,7 +158,7 @@ module _ (world : World) (h : List Event) (kept : Kept world h) where
   pub sealing : (number : ℕ) (dir : DirRef) (by : CallRef) → IsSealedBy (site_of world number) (server_after world number h) dir by → IsSealing (kept.phases by) dir
   sealing number dir by is = kept.standing.owned.seals dir is.content by (content_there number dir is.content is.here is.there) is.seal
 
-  reserving_slot : (dir : DirRef) (name : List ℕ) (by : CallRef) (slot : Slot) → slot_in name (directories_of (service_of world) kept.objects dir) ≡ Some slot
+  reserving_slot : (dir : DirRef) (name : List ℕ) (by : CallRef) (slot : Slot) → slot_in name (slots_kept (service_of world) kept.objects dir) ≡ Some slot
       → IsUnheld slot → taker slot ≡ Some by → IsReserving (kept.phases by) dir name
   reserving_slot dir name by (reserved other access) is free taken =
       let same : other ≡ by = cc in
@@ -199,7 +199,7 @@ module _ (world : World) (h : List Event) (kept : Kept world h) where
 
     pub asker_fits : Fits (kept.phases may.posted.ask.from) may.posted.ask.request
     asker_fits =
-        fits world.digest (IsTrue world h kept.objects kept.phases) asker place number ask kept.phases (in_hands world h kept ask.from.client)
+        fits world.digest (IsTrue world h kept.objects kept.root kept.phases) asker place number ask kept.phases (in_hands world h kept ask.from.client)
         (kept.clients ask.from.client).knows waits
 
     -- of the asking client's calls, only the asking one can have something in hand

@@ -27,9 +27,9 @@ module _ (world : World) (h : List Event) (number : ℕ) (ask : Ask) (kept : Kep
   now = event.Ask number ask ∷ h
 
   abbrev TrueNow : Key → Access → Type 0
-  TrueNow = IsTrue world now kept.objects kept.phases
+  TrueNow = IsTrue world now kept.objects kept.root kept.phases
 
-  stays_true : (k : Key) (access : Access) → IsTrue world h kept.objects kept.phases k access → TrueNow k access
+  stays_true : (k : Key) (access : Access) → IsTrue world h kept.objects kept.root kept.phases k access → TrueNow k access
   stays_true k access is = record { told = is.told; born = born_more (event.Ask number ask) h access.born is.born }
 
   -- a client, but for what it asks
@@ -47,7 +47,7 @@ module _ (world : World) (h : List Event) (number : ℕ) (ask : Ask) (kept : Kep
 
   goes_before : (client : ℕ) → Goes (client_after world client h)
   goes_before client = record {
-    knows = weaker_knows (IsTrue world h kept.objects kept.phases) TrueNow stays_true (client_after world client h) (kept.clients client).knows;
+    knows = weaker_knows (IsTrue world h kept.objects kept.root kept.phases) TrueNow stays_true (client_after world client h) (kept.clients client).knows;
     path = (kept.clients client).path;
     hand = in_hands world h kept client;
   }
@@ -70,11 +70,12 @@ module _ (world : World) (h : List Event) (number : ℕ) (ask : Ask) (kept : Kep
     phases = kept.phases;
     standing = kept.standing;
     root = kept.root;
+    root_stands = kept.root_stands;
     born = λ dir there. born_more (event.Ask number ask) h dir.born (kept.born dir there);
     replayed = kept.replayed;
     replays = kept.replays;
     clients = λ client.
-        is_kept world now kept.objects kept.phases client (goes_now client).knows (goes_now client).path
+        is_kept world now kept.objects kept.root kept.phases client (goes_now client).knows (goes_now client).path
         (asks_group_ask world h number ask may (λ c. (kept.clients c).asks) client) (goes_now client).hand;
     others = others_have world now kept.phases (λ client. (goes_now client).hand);
     pending = pending_ask world h number ask may kept.pending;

@@ -1,5 +1,5 @@
 -- Who bears a directory that is to be made and is there already: another client, which has not linked it yet, or sealed it.
-use Rattle.std.proofs.Common.{◌≡◌, bytes_eq, ◌≢◌, ◌⊎◌, inl, inr, ℕ, ◌==◌, ◌&&◌, Bool, true, false, not, cond, List, [], Option, Some, None, is_some, IfSome, refl, sym, ap, ap₂, ◌∙◌, subst, arith}
+use Rattle.std.proofs.Common.{◌≡◌, bytes_eq, ◌≢◌, ◌⊎◌, inl, inr, ℕ, ◌==◌, ◌&&◌, Bool, true, false, not, cond, List, [], Option, Some, None, is_some, refl, sym, ap, ap₂, ◌∙◌, subst, arith}
 use Rattle.std.specs.List.{list_any}
 use Rattle.std.proofs.lemmas.Bool.Decides.{Decides-eqb}
 use Rattle.std.proofs.lemmas.Slice.Eq.{bytes_eq-Decides}
@@ -16,48 +16,35 @@ use Rattle.inf_base.specs.Same.{dir_of, is_same_call, is_same_id, is_same_triple
 use Rattle.inf_content.specs.Contents.{bearer, bearer_or, content_at, content_of_id, empty_content, if_born, slots_found}
 use Rattle.inf_content.specs.Slot.{filled, reserves}
 use Rattle.inf_content.specs.Slots.{first, slot_in}
-use Rattle.inf_duty.specs.Outcome.{Outcome}
 use Rattle.inf_duty.specs.World.{World}
-use Rattle.inf_content.specs.Order.{AreInOrder}
-use Rattle.inf_laws_history.specs.Causes.{IsAgainBecause, before}
-use Rattle.inf_laws_history.specs.Flight.{InFlight, bears, is_of, is_taken, is_unlinked, touches, was_linked}
+use Rattle.inf_laws_history.specs.Flight.{InFlight, bears, is_of, is_taken, is_unlinked, was_linked}
 use Rattle.inf_laws_history.specs.Kept.{Kept}
 use Rattle.inf_laws_history.specs.Legal.{Legal, MayServe, server_after}
-use Rattle.inf_laws_history.specs.Objects.{root_in, service_of}
+use Rattle.inf_laws_history.specs.Objects.{service_of}
 use Rattle.inf_laws_history.specs.Sites.{site_of}
-use Rattle.inf_message.specs.declared.ask.Ask.{Ask}
-use Rattle.inf_message.specs.declared.call_result.CallResult.{CallResult}
 use Rattle.inf_message.specs.declared.event.Event.{Event}
 use Rattle.inf_message.specs.declared.event.Event.TheVariants as event
 use Rattle.inf_message.specs.declared.reply.Reply.{Reply}
-use Rattle.inf_message.specs.declared.reply.Reply.TheVariants as reply
-use Rattle.inf_message.specs.declared.reply.Spot.{Spot}
-use Rattle.inf_message.specs.declared.request.Request.{Request}
 use Rattle.inf_message.specs.declared.request.Request.TheVariants as request
 use Rattle.inf_message.specs.History.{Posted}
 use Rattle.inf_message.proofs.HistoryLaws.{asked_within}
-use Rattle.inf_server.specs.Machine.{on_request}
 use Rattle.inf_server.specs.State.{State, is_here, root_id}
-use Rattle.inf_laws_directory.specs.Objects.{content_in, directories_of}
+use Rattle.inf_laws_directory.specs.Objects.{content_in, slots_kept}
 use Rattle.inf_laws_directory.specs.Owned.{Has, HasPlace, IsLinkedSomewhere, Links}
-use Rattle.inf_laws_directory.specs.Phases.{IsLoose, IsReserving, IsSealing, Phase, Phases, has_made, has_reserved, has_sealed, has_unlinked, idle}
+use Rattle.inf_laws_directory.specs.Phases.{IsLoose, IsReserving, IsSealing, Phase, has_made, has_reserved, has_sealed, has_unlinked, idle}
 use Rattle.inf_laws_directory.specs.Things.{a_dir, thing_in}
 use Rattle.inf_laws_directory.proofs.CallFacts.{same_call, same_call_self}
 use Rattle.inf_laws_server.specs.Passed.{IsAsked}
-use Rattle.inf_laws_server.proofs.Serves.{blocked, may_reply}
 use Rattle.inf_laws_directory.proofs.ServedSlots.{slots_in_order}
 use Rattle.inf_laws_directory.proofs.SlotFacts.{first_is_changed, first_passes}
 use Rattle.inf_renames.proofs.RenamesFacts.{same_id}
-use Rattle.inf_laws_history.proofs.AgainCauses.{acts, any_content, content_there, flies, found_at, last_of_three, owned_flies, same_client, sealing, way_is_other}
-use Rattle.inf_laws_history.proofs.BehindEntries.{Counts}
-use Rattle.inf_laws_history.proofs.UnderWayFacts.{was_under_way}
-use Rattle.inf_laws_history.proofs.BlockedRequests.{IsBlocked, IsBornAlready, is_of_self, request_busy}
+use Rattle.inf_laws_history.proofs.AgainCauses.{acts, content_there, flies, found_at, last_of_three, same_client, sealing}
+use Rattle.inf_laws_history.proofs.BlockedRequests.{is_of_self}
 use Rattle.inf_laws_history.proofs.ClashCauses.{found_id, same_triple_self}
 use Rattle.inf_duty.proofs.BegunKept.{if_both}
-use Rattle.inf_laws_history.proofs.ContentBirths.{IsBirth, WasMade, births_after, each_server, so_found, top_free}
+use Rattle.inf_laws_history.proofs.ContentBirths.{IsBirth, WasMade, births_after, each_server, so_found}
 use Rattle.inf_laws_history.proofs.LinkBirths.{AllMade, IsMadeAt, StandsAsMade, found_made, made_still, served_made}
 use Rattle.inf_laws_history.proofs.PastLinks.{asker_links, asker_makes, made_by, never_linked}
-use Rattle.inf_laws_history.proofs.ToldResults.{IsBusyFor, serve_may}
 use Rattle.inf_server.specs.Chains.{last_of}
 
 -- ---- links
@@ -91,13 +78,13 @@ module _ (world : World) (h : List Event) (kept : Kept world h) (legal : Legal w
       by_slot (ap (λ (o : Option Content). slot_in found.0 (slots_found o)) there) found.1
       (first_is_changed (reserves from) (λ slot. slot) content.slots found sorted first_is).old (first_passes (reserves from) content.slots found first_is)
     where
-      by_slot : slot_in found.0 (directories_of (service_of world) kept.objects (dir_of entry.access)) ≡ slot_in found.0 content.slots → (slot : Slot)
+      by_slot : slot_in found.0 (slots_kept (service_of world) kept.objects (dir_of entry.access)) ≡ slot_in found.0 content.slots → (slot : Slot)
           → slot_in found.0 content.slots ≡ Some slot → reserves from slot ≡ true
           → StandsAsMade h content.dir found.0 (filled (Some (dir, mode, may.posted.ask.caller)) slot)
       by_slot same_slots (reserved other access) stands own =
           let has = asker_links world h kept legal number place given may chain name dir mode is in
           let was = made_by world h kept legal from has.parent has.name (triple.Of has.parent.id has.name has.version) dir has.phase_is in
-          let own_slot : slot_in found.0 (directories_of (service_of world) kept.objects (dir_of entry.access)) ≡ Some (reserved from access) =
+          let own_slot : slot_in found.0 (slots_kept (service_of world) kept.objects (dir_of entry.access)) ≡ Some (reserved from access) =
           same_slots ∙ stands ∙ ap (λ (c : CallRef). Some (reserved c access)) (same_call other from own) in
           let keeps = subst (λ (p : Phase). IsReserving p (dir_of entry.access) found.0) has.phase_is
           (kept.standing.owned.reservations (dir_of entry.access) found.0 from access own_slot) in
@@ -151,7 +138,7 @@ has_link (Some (directory other held)) access is =
     let same : other ≡ access = cc in
     record { held = held; is = ap (λ (a : Access). Some (directory a held)) same }
 
-same_triple : (a b : Triple) → is_same_triple a b ≡ true → a ≡ b
+pub same_triple : (a b : Triple) → is_same_triple a b ≡ true → a ≡ b
 same_triple triple.Root triple.Root is = refl
 same_triple triple.Root (triple.Of parent name version) is = cc
 same_triple (triple.Of parent name version) triple.Root is = cc
@@ -172,10 +159,10 @@ module _ (world : World) (keeps : (h : List Event) → Legal world h → Kept wo
   kept = keeps h legal
 
   -- a link is of a directory of that place
-  link_made : (parent : DirRef) (name : List ℕ) (access : Access) → Links (directories_of (service_of world) kept.objects) parent name access
+  link_made : (parent : DirRef) (name : List ℕ) (access : Access) → Links (content_in (service_of world) kept.objects) parent name access
       → IsMadeAt h access.born parent.id name
   link_made parent name access linked =
-      let link = has_link (slot_in name (directories_of (service_of world) kept.objects parent)) access linked in
+      let link = has_link (slot_in name (slots_kept (service_of world) kept.objects parent)) access linked in
       let inside = in_content world h kept parent name (directory access link.held) (content_in (service_of world) kept.objects parent) refl link.is in
       let number : ℕ = server_of parent.id world.setup.servers in
       let there : content_at parent (server_after world number h).contents ≡ Some inside.content =
@@ -187,7 +174,7 @@ module _ (world : World) (keeps : (h : List Event) → Legal world h → Kept wo
 
   -- two directories of one identifier, in both of which something stands, are one
   same_parent : (one two : DirRef) (name : List ℕ) (first second : Slot) → one.id ≡ two.id
-      → slot_in name (directories_of (service_of world) kept.objects one) ≡ Some first → slot_in name (directories_of (service_of world) kept.objects two) ≡ Some second
+      → slot_in name (slots_kept (service_of world) kept.objects one) ≡ Some first → slot_in name (slots_kept (service_of world) kept.objects two) ≡ Some second
       → one ≡ two
   same_parent one two name first second ids is it =
       let a = in_content world h kept one name first (content_in (service_of world) kept.objects one) refl is in
@@ -247,14 +234,14 @@ module _ (world : World) (keeps : (h : List Event) → Legal world h → Kept wo
             sym keeps_name.birth_is ∙ (sym same ∙ first.1) in cc)
         by (inr was) = was
 
-    no_root : content.dir ≡ dir_of (root_in world) → ⊥
+    no_root : content.dir ≡ dir_of kept.root → ⊥
     no_root is =
         let within = asked_within content.dir.born was_made.posted h was_made.asked in
-        let zero_is : content.dir.born ≡ 0 = ap (λ (d : DirRef). d.born) is in
+        let zero_is : content.dir.born ≡ 0 = ap (λ (d : DirRef). d.born) (is ∙ kept.root_stands.of_root) in
         absurd (omega (arith, within.counted, zero_is))
 
     -- it is linked nowhere, for its place is kept for the asking call
-    no_link : IsLinkedSomewhere (directories_of (service_of world) kept.objects) content.dir → ⊥
+    no_link : IsLinkedSomewhere (content_in (service_of world) kept.objects) content.dir → ⊥
     no_link link =
         let keeps_name = asker_makes world h kept legal number place given may birth makes in
         let has = subst (λ (p : Phase). Has (service_of world) kept.objects asker p) keeps_name.phase_is (kept.standing.owned.has asker) in
@@ -265,13 +252,13 @@ module _ (world : World) (keeps : (h : List Event) → Legal world h → Kept wo
         sym made.makes ∙ (ap (λ (p : Posted). p.ask.request) one ∙ (was_made.makes ∙ ap request.Make (same ∙ keeps_name.birth_is))) in
         let ids : link.parent.id ≡ keeps_name.parent.id = cc in
         let names : link.name ≡ keeps_name.name = cc in
-        let slot = has_link (slot_in link.name (directories_of (service_of world) kept.objects link.parent)) link.access link.linked in
-        let there_too : slot_in keeps_name.name (directories_of (service_of world) kept.objects link.parent) ≡ Some (directory link.access slot.held) =
-        subst (λ n. slot_in n (directories_of (service_of world) kept.objects link.parent) ≡ Some (directory link.access slot.held)) names slot.is in
+        let slot = has_link (slot_in link.name (slots_kept (service_of world) kept.objects link.parent)) link.access link.linked in
+        let there_too : slot_in keeps_name.name (slots_kept (service_of world) kept.objects link.parent) ≡ Some (directory link.access slot.held) =
+        subst (λ n. slot_in n (slots_kept (service_of world) kept.objects link.parent) ≡ Some (directory link.access slot.held)) names slot.is in
         let parents : link.parent ≡ keeps_name.parent =
         same_parent link.parent keeps_name.parent keeps_name.name (directory link.access slot.held) (reserved asker has.access) ids there_too has.slot in
-        let both : slot_in keeps_name.name (directories_of (service_of world) kept.objects keeps_name.parent) ≡ Some (directory link.access slot.held) =
-        subst (λ (d : DirRef). slot_in keeps_name.name (directories_of (service_of world) kept.objects d) ≡ Some (directory link.access slot.held)) parents there_too in
+        let both : slot_in keeps_name.name (slots_kept (service_of world) kept.objects keeps_name.parent) ≡ Some (directory link.access slot.held) =
+        subst (λ (d : DirRef). slot_in keeps_name.name (slots_kept (service_of world) kept.objects d) ≡ Some (directory link.access slot.held)) parents there_too in
         let kept_slot = has.slot in
         absurd cc
 
@@ -295,7 +282,7 @@ module _ (world : World) (keeps : (h : List Event) → Legal world h → Kept wo
         let sealed : content.seal ≡ Some call = ap (λ (c : Content). c.seal) one ∙ has.0.seal in
         absurd cc
 
-    maker_in : content.seal ≡ None → HasPlace (directories_of (service_of world) kept.objects) (root_in world) kept.phases content.dir → IsMaker content.maker content.dir
+    maker_in : content.seal ≡ None → HasPlace (content_in (service_of world) kept.objects) kept.root kept.phases content.dir → IsMaker content.maker content.dir
     maker_in free (inl root) = absurd (no_root root)
     maker_in free (inr (inl link)) = absurd (no_link link)
     maker_in free (inr (inr loose)) = maker_of loose.call (kept.phases loose.call) refl loose.loose free
@@ -361,85 +348,3 @@ module _ (world : World) (keeps : (h : List Event) → Legal world h → Kept wo
 
     pub bearing : (by : CallRef) → bearer content ≡ by → IsBearing by
     bearing by is = by_bearer by content.seal refl is
-
--- ---- a Serve that replies Busy
-
--- why a server replies that a call is in the way
-pub record IsWhy (world : World) (h : List Event) (phases : Phases) (number : ℕ) (by : CallRef) (at : Spot) (ask : Ask) : Type 0 where
-  pub acts : phases by ≢ idle
-  pub is_other : by.client ≢ ask.from.client
-  pub flies_now : InFlight world h by
-  pub touched : touches by at ask.request (server_after world number h) ≡ true
-
-module _ (world : World) (keeps : (h : List Event) → Legal world h → Kept world h) (h : List Event) (legal : Legal world h) (number place : ℕ) (by : CallRef)
-    (at : Spot) (born : ℕ) (may : MayServe world h number place (reply.Busy by at born)) where
-  abbrev ask : Ask
-  ask = may.posted.ask
-
-  abbrev state : State
-  state = server_after world number h
-
-  by_bearing : IsBornAlready (site_of world number) state ask.request by at → IsWhy world h (keeps h legal).phases number by at ask
-  by_bearing born_already =
-      let borne = born_already.is in
-      let birth = born_already.birth in
-      let it = bearing world keeps h legal number place (reply.Busy by at born) may birth born_already.is_make borne.content borne.here borne.there
-      (same_triple borne.content.triple birth borne.same) by borne.bearer_is in
-      record {
-        acts = it.acts;
-        is_other = it.is_other;
-        flies_now = it.flies_now;
-        touched = ap₂ (λ (s : Spot) (r : Request). touches by s r state) borne.spot_is born_already.is_make
-            ∙ any_content (bears by birth) (identity world.digest birth) state.contents borne.content borne.there it.touched;
-      }
-
-  by_block : IsBlocked (site_of world number) state ask.from ask.request by at → IsWhy world h (keeps h legal).phases number by at ask
-  by_block (inl way) = record {
-    acts = acts world h (keeps h legal) number by way.owned;
-    is_other = way_is_other world h (keeps h legal) number place (reply.Busy by at born) may by at way;
-    flies_now = owned_flies world h number by way.owned;
-    touched = way.touched;
-  }
-  by_block (inr borne) = by_bearing borne
-
-  pub why_busy : IsWhy world h (keeps h legal).phases number by at may.posted.ask
-  why_busy =
-      let kept = keeps h legal in
-      let site = site_of world number in
-      let ordered : AreInOrder state.contents = subst (λ (s : State). AreInOrder s.contents) (kept.states number) (kept.standing.owned.order number) in
-      by_block (request_busy site state ask.from ask.request ordered (top_free world h legal number) by at
-      (blocked site state ask ask.request by at born
-      (may_reply site state place ask (reply.Busy by at born) may.after may.reply ask.request (reply.Busy by at born) refl refl)))
-
--- a result that was told of a call in the way names a change in flight
-pub again_is_because : (world : World) → ((h : List Event) → Legal world h → Kept world h) → (h : List Event) → Legal world h → (results : List CallResult)
-    → Outcome world h results → (result : CallResult) (by : CallRef) → IsBusyFor h result.call by result.place
-    → IfSome result.place (λ place. Counts h result.call result.answer place) → IsAgainBecause world h results result by
-again_is_because world keeps h legal results out result by is placed =
-    let legally = serve_may world h legal is.place is.number is.ask_place (reply.Busy by is.spot is.born) is.told in
-    let same : legally.1.posted ≡ is.posted = let one = legally.1.made in let two = is.asked in cc in
-    let kept : Kept world (before is.place h) = keeps (before is.place h) legally.0 in
-    let why : IsWhy world (before is.place h) kept.phases is.number by is.spot is.posted.ask =
-    subst (λ (p : Posted). IsWhy world (before is.place h) kept.phases is.number by is.spot p.ask) same
-    (why_busy world keeps (before is.place h) legally.0 is.number is.ask_place by is.spot is.born legally.1) in
-    let clients : by.client ≢ result.call.client = λ equal. why.is_other (equal ∙ ap (λ (c : CallRef). c.client) (sym is.own)) in
-    let counts : Counts h result.call result.answer is.place =
-    subst (λ (at : Option ℕ). IfSome at (λ place. Counts h result.call result.answer place)) is.placed placed in
-    record {
-      place = is.place;
-      placed = is.placed;
-      number = is.number;
-      ask_place = is.ask_place;
-      spot = is.spot;
-      born = is.born;
-      told = is.told;
-      posted = is.posted;
-      asked = is.asked;
-      own = is.own;
-      behind = λ id name looks. counts.counts is.number is.ask_place by is.spot is.born is.posted id name is.told is.asked looks;
-      other = clients;
-      under_way = was_under_way world h results out is.place is.number is.ask_place (reply.Busy by is.spot is.born) is.posted by is.told is.asked
-          (λ equal. why.is_other (sym equal)) kept why.acts;
-      in_flight = why.flies_now;
-      touched = why.touched;
-    }

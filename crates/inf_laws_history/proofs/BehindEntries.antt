@@ -28,7 +28,8 @@ use Rattle.inf_laws_history.proofs.BusyRounds.{IsBehind, IsToldIn, busy_round}
 use Rattle.inf_laws_history.proofs.NextAsks.{AreNext, NoneBetween, next_still, places_of, places_stay, two_of}
 use Rattle.inf_laws_history.proofs.PlacedResults.{IsBrought, outcome_has}
 use Rattle.inf_laws_history.proofs.StepFacts.{client_is}
-use Rattle.inf_laws_history.proofs.ToldResults.{AreServed, IsServedFor, IsServedIf, all_recorded, asked_before, before_stays, caused_after, newly_served, sent_stays}
+use Rattle.inf_laws_history.proofs.ResultCauses.{AreServed, IsServedFor, IsServedIf, asked_before, before_stays, sent_stays}
+use Rattle.inf_laws_history.proofs.ToldResults.{all_recorded, caused_after, newly_served}
 use Rattle.inf_laws_history.proofs.Turns.{IsAt, TurnOf, act_turn_at, weaker_turn}
 use Rattle.inf_message.specs.declared.call_result.CallResult.{CallResult}
 use Rattle.inf_message.specs.declared.event.Event.{Event}

@@ -28,7 +28,7 @@ use Rattle.inf_laws_directory.proofs.ContentFacts.{same_id_self}
 use Rattle.inf_laws_directory.proofs.SlotFacts.{same_self}
 use Rattle.inf_renames.proofs.RenamesFacts.{same_id}
 use Rattle.inf_laws_history.proofs.ContentBirths.{IsBirth, births_after, so_found}
-use Rattle.inf_laws_history.proofs.ToldResults.{IsClashFor, serve_may}
+use Rattle.inf_laws_history.proofs.ResultCauses.{IsClashFor, serve_may}
 
 pub found_id : (id : Id) (contents : List Content) (content : Content) → content_of_id id contents ≡ Some content → id ≡ content.dir.id
 found_id id [] content is = cc

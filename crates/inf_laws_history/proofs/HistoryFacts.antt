@@ -1,6 +1,7 @@
 -- Every legal history keeps what the first keeps.
 use Rattle.std.proofs.Common.{◌≡◌, inl, ℕ, ◌==◌, Bool, true, false, if◌then◌else◌, List, [], ◌∷◌, Option, Some, None, slice_get, is_some, refl, sym}
 use Rattle.std.proofs.lemmas.Bool.Decides.{Decides-eqb}
+use Rattle.inf_base.specs.declared.access.Access.{Access}
 use Rattle.inf_base.specs.declared.caller.CallRef.{CallRef}
 use Rattle.inf_base.specs.declared.directory.DirRef.{DirRef}
 use Rattle.inf_base.specs.declared.setup.ClientLine.{ClientLine}
@@ -18,10 +19,10 @@ use Rattle.inf_laws_client.proofs.PathClients.{idle_keeps}
 use Rattle.inf_laws_directory.specs.Objects.{Objects, Service, site_in}
 use Rattle.inf_laws_directory.specs.Phases.{Phases, idle}
 use Rattle.inf_laws_directory.specs.Standing.{IsStanding}
-use Rattle.inf_laws_directory.specs.Told.{RootStandsAt}
+use Rattle.inf_laws_directory.specs.Root.{RootStands}
 use Rattle.inf_laws_history.specs.Kept.{IsTrue, Kept}
 use Rattle.inf_laws_history.specs.Legal.{Legal}
-use Rattle.inf_laws_history.specs.Objects.{AreBorn, root_in, service_of}
+use Rattle.inf_laws_history.specs.Objects.{AreBorn, service_of}
 use Rattle.inf_laws_history.proofs.AskSteps.{kept_ask}
 use Rattle.inf_laws_history.proofs.AskedGroups.{group_starts}
 use Rattle.inf_laws_history.proofs.PendingFacts.{pending_nothing}
@@ -43,8 +44,8 @@ abbrev pub OpeningStands : Type 0
 OpeningStands = (service : Service) (phases : Phases) → ((call : CallRef) → phases call ≡ idle)
     → IsStanding service (opened service) (root_access (site_in service 0)) opening_tree phases
 
-abbrev pub RootStands : Type 0
-RootStands = (service : Service) → RootStandsAt service (opened service) (root_access (site_in service 0))
+abbrev pub RootOpens : Type 0
+RootOpens = (service : Service) → RootStands service (opened service) (root_access (site_in service 0))
 
 -- ---- the servers keep nothing but the root at first
 
@@ -68,22 +69,25 @@ born_in_opening site dir there =
     born_in_either dir (is_here site (root_id site)) _ _ (λ here. born_as_found (root_content site) dir.born (is_same_id dir.id (root_id site)) here)
     (λ nothing. absurd cc) there
 
-module _ (opens : OpeningStands) (roots : RootStands) (world : World) where
+module _ (opens : OpeningStands) (roots : RootOpens) (world : World) where
   abbrev objects : Objects
   objects = opened (service_of world)
 
-  standing : IsStanding (service_of world) objects (root_in world) opening_tree none_in_hand
+  abbrev root : Access
+  root = root_access (site_in (service_of world) 0)
+
+  standing : IsStanding (service_of world) objects root opening_tree none_in_hand
   standing = opens (service_of world) none_in_hand (λ call. refl)
 
   born_nothing : AreBorn world objects []
   born_nothing dir there = inl (born_in_opening (site_in (service_of world) (server_of dir.id world.setup.servers)) dir there)
 
   abbrev Knows : ClientState → Type 0
-  Knows = KnowsOnly (IsTrue world [] objects none_in_hand)
+  Knows = KnowsOnly (IsTrue world [] objects root none_in_hand)
 
   starts_knowing : (client : ℕ) (line : Option ClientLine) → Knows (starting world client line)
-  starts_knowing client None = idle_knows (IsTrue world [] objects none_in_hand) (who_in world client nobody) []
-  starts_knowing client (Some line) = idle_knows (IsTrue world [] objects none_in_hand) (who_in world client line.caller) line.calls
+  starts_knowing client None = idle_knows (IsTrue world [] objects root none_in_hand) (who_in world client nobody) []
+  starts_knowing client (Some line) = idle_knows (IsTrue world [] objects root none_in_hand) (who_in world client line.caller) line.calls
 
   starts_on_path : (client : ℕ) (line : Option ClientLine) → KeepsToPath world.digest (starting world client line)
   starts_on_path client None = idle_keeps world.digest (who_in world client nobody) []
@@ -100,12 +104,13 @@ module _ (opens : OpeningStands) (roots : RootStands) (world : World) where
     tree = opening_tree;
     phases = none_in_hand;
     standing = standing;
-    root = roots (service_of world);
+    root = root;
+    root_stands = roots (service_of world);
     born = born_nothing;
     replayed = refl;
     replays = tt;
     clients = λ client.
-        is_kept world [] objects none_in_hand client (starts_knowing client (slice_get world.setup.clients client))
+        is_kept world [] objects root none_in_hand client (starts_knowing client (slice_get world.setup.clients client))
         (starts_on_path client (slice_get world.setup.clients client)) (group_starts world client (slice_get world.setup.clients client))
         (starts_in_hand client (slice_get world.setup.clients client));
     others = λ call apart. refl;

@@ -3,6 +3,7 @@ pub mod AimFacts
 pub mod AnswerOrder
 pub mod AskSteps
 pub mod AskedGroups
+pub mod BusyCauses
 pub mod BearerCauses
 pub mod Begun
 pub mod BehindEntries
@@ -36,6 +37,7 @@ pub mod PlacedAnswers
 pub mod PlacedResults
 pub mod ReplayedAnswers
 pub mod ReplayedCounts
+pub mod ResultCauses
 pub mod ResultFacts
 pub mod ServeFacts
 pub mod ServeSteps
@@ -43,4 +45,5 @@ pub mod StepFacts
 pub mod ToldResults
 pub mod TreeReplays
 pub mod Turns
+pub mod UnderWayCalls
 pub mod UnderWayFacts

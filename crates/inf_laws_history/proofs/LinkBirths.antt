@@ -25,7 +25,7 @@ use Rattle.inf_message.proofs.HistoryLaws.{asked_stays, asked_within}
 use Rattle.inf_server.specs.Machine.{Serves, on_change, on_op, on_request}
 use Rattle.inf_server.specs.Response.{Response}
 use Rattle.inf_server.specs.State.{Site, State}
-use Rattle.inf_laws_directory.proofs.ServiceFacts.{Slots}
+use Rattle.inf_laws_directory.proofs.Kept.{Slots}
 use Rattle.inf_laws_directory.proofs.SlotFacts.{same_name, same_test}
 use Rattle.inf_duty.proofs.BegunKept.{if_both}
 use Rattle.inf_base.specs.declared.caller.Caller.{Caller}

@@ -36,7 +36,7 @@ use Rattle.inf_laws_history.proofs.GroupMessages.{look_in, only_one}
 use Rattle.inf_laws_history.proofs.PastLinks.{LinksAt, asker_links}
 use Rattle.inf_laws_history.proofs.PhaseFacts.{IsCleanUp}
 use Rattle.inf_laws_history.proofs.PhaseFits.{IsSentHome, sent_home}
-use Rattle.inf_laws_history.proofs.ToldResults.{asked_before, serve_may}
+use Rattle.inf_laws_history.proofs.ResultCauses.{asked_before, serve_may}
 use Rattle.inf_message.specs.declared.ask.Ask.{Ask}
 use Rattle.inf_message.specs.declared.event.Event.{Event}
 use Rattle.inf_message.specs.declared.event.Event.TheVariants as event

@@ -22,7 +22,7 @@ use Rattle.inf_laws_history.specs.Flight.{links_by, was_linked}
 use Rattle.inf_laws_history.specs.Flight.{links as links_to}
 use Rattle.inf_laws_history.specs.Kept.{Kept}
 use Rattle.inf_laws_history.specs.Legal.{Legal, MayServe, server_after}
-use Rattle.inf_laws_history.specs.Objects.{WasAskedIn, root_in, service_of}
+use Rattle.inf_laws_history.specs.Objects.{WasAskedIn, service_of}
 use Rattle.inf_laws_history.specs.Pending.{Waits}
 use Rattle.inf_laws_history.specs.Phases.{FlowHas, FlowMay, HasPhase, IsLiftedBy, StageMay}
 use Rattle.inf_message.specs.declared.ask.Ask.{Ask}
@@ -228,9 +228,9 @@ module _ (world : World) (h : List Event) (kept : Kept world h) (legal : Legal w
     where
       by_origin : made.id ≡ identity world.digest birth → ((made.born ≡ 0) × (birth ≡ triple.Root)) ⊎ WasMade h made.born birth by → WasMade h made.born birth by
       by_origin identifies (inl first) =
-          let root : made ≡ dir_of (root_in world) =
-          ap₂ (λ i b. record { id = i; born = b }) (identifies ∙ ap (identity world.digest) first.1) first.0 in
-          absurd (kept.standing.owned.root_apart by (subst (λ (p : Phase). IsLoose p (dir_of (root_in world))) (sym is) root))
+          let root : made ≡ dir_of kept.root =
+          ap₂ (λ i b. record { id = i; born = b }) (identifies ∙ ap (identity world.digest) first.1) first.0 ∙ sym kept.root_stands.of_root in
+          absurd (kept.standing.owned.root_apart by (subst (λ (p : Phase). IsLoose p (dir_of kept.root)) (sym is) root))
       by_origin identifies (inr was) = was
 
   module _ (number place : ℕ) (given : Reply) (may : MayServe world h number place given) where

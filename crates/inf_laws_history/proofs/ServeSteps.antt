@@ -3,6 +3,7 @@ use Rattle.std.proofs.Common.{inl, ◌≡◌, ℕ, suc, Bool, true, false, eqb, 
 use Rattle.std.proofs.lemmas.Bool.Decides.{Decides-eqb}
 use Rattle.inf_base.specs.declared.access.Access.{Access}
 use Rattle.inf_base.specs.declared.caller.Caller.{Caller}
+use Rattle.inf_base.specs.declared.directory.DirRef.{DirRef}
 use Rattle.inf_base.specs.declared.key.Key.{Key}
 use Rattle.inf_base.specs.declared.key.Key.TheVariants as key
 use Rattle.inf_base.specs.declared.key.LookKey.{LookKey}
@@ -30,7 +31,7 @@ use Rattle.inf_laws_directory.proofs.TopStays.{root_kept}
 use Rattle.inf_laws_history.specs.Decisions.{decided_at, decided_for, decided_in}
 use Rattle.inf_laws_history.specs.Kept.{IsTrue, Kept}
 use Rattle.inf_laws_history.specs.Legal.{MayServe}
-use Rattle.inf_laws_history.specs.Objects.{IsBorn, WasAskedIn, root_in, service_of}
+use Rattle.inf_laws_history.specs.Objects.{IsBorn, WasAskedIn, service_of}
 use Rattle.inf_laws_history.specs.Pending.{Waits}
 use Rattle.inf_laws_history.specs.Sites.{site_of}
 use Rattle.inf_laws_history.proofs.AimFacts.{aims}
@@ -108,24 +109,24 @@ module _ (stands : ServedStands) (world : World) (h : List Event) (number place 
   next : HasNext asker.left
   next = has_next asker.left waits.under_way
 
-  knows_told : KnowsOnly (IsToldAs service kept.objects (root_in world) kept.phases) asker
+  knows_told : KnowsOnly (IsToldAs service kept.objects kept.root kept.phases) asker
   knows_told =
-      weaker_knows (IsTrue world h kept.objects kept.phases) (IsToldAs service kept.objects (root_in world) kept.phases) (λ k access is. is.told)
+      weaker_knows (IsTrue world h kept.objects kept.root kept.phases) (IsToldAs service kept.objects kept.root kept.phases) (λ k access is. is.told)
       asker (kept.clients ask.from.client).knows
 
   hand : InHand world.digest kept.phases asker
   hand = in_hands world h kept ask.from.client
 
   abbrev moment : Moment
-  moment = moment_of service number place kept.objects (root_in world) kept.tree kept.phases ask given may.after
+  moment = moment_of service number place kept.objects kept.root kept.tree kept.phases ask given may.after
 
   owed : Owes moment ask.caller next.asked ask.request given
   owed =
-      stands service kept.objects number place (root_in world) kept.tree kept.phases ask next.asked given may.after kept.standing
-      (fits world.digest (IsToldAs service kept.objects (root_in world) kept.phases) asker place number ask kept.phases hand knows_told waits)
-      (aims service kept.objects (root_in world) kept.phases asker next.asked next.more (kept.phases (call_ref asker)) place number ask next.is knows_told
+      stands service kept.objects number place kept.root kept.tree kept.phases ask next.asked given may.after kept.standing
+      (fits world.digest (IsToldAs service kept.objects kept.root kept.phases) asker place number ask kept.phases hand knows_told waits)
+      (aims service kept.objects kept.root kept.phases asker next.asked next.more (kept.phases (call_ref asker)) place number ask next.is knows_told
       (kept.clients ask.from.client).path (has_course world ask.from.client h) hand.phase hand.may waits)
-      (unborn world h kept.objects place may.waits counted kept.born (root_in world) kept.phases kept.standing.owned) replies
+      (unborn world h kept.objects place may.waits counted kept.born kept.root kept.phases kept.standing.owned) replies
 
   comes : Comes moment (decided_for world.digest place told asker)
   comes =
@@ -136,27 +137,27 @@ module _ (stands : ServedStands) (world : World) (h : List Event) (number place 
   -- ---- what clients know
 
   abbrev TrueNow : Key → Access → Type 0
-  TrueNow = IsTrue world now objects phases
+  TrueNow = IsTrue world now objects kept.root phases
 
   older : (born : ℕ) → IsBorn h born → born ≡ place → ⊥
   older born is same = not_born h born place may.waits counted is same
 
-  stays_true : (k : Key) (access : Access) → IsTrue world h kept.objects kept.phases k access → TrueNow k access
+  stays_true : (k : Key) (access : Access) → IsTrue world h kept.objects kept.root kept.phases k access → TrueNow k access
   stays_true k access is = record {
     told = comes.told k access (older access.born is.born) is.told;
     born = born_more (event.Serve number place given) h access.born is.born;
   }
 
-  there_born : (k : Key) (access : Access) → IsThere service kept.objects (root_in world) k access → IsBorn h access.born
-  there_born key.Top access there = inl (ap (λ (a : Access). a.born) there)
+  there_born : (k : Key) (access : Access) → IsThere service kept.objects kept.root k access → IsBorn h access.born
+  there_born key.Top access there = inl (ap (λ (a : Access). a.born) there ∙ ap (λ (d : DirRef). d.born) kept.root_stands.of_root)
   there_born (key.At dir name) access there = kept.born (dir_of access) (kept.standing.owned.linked_kept dir name access there)
 
   found_true : (k : Key) (access : Access) → given ≡ reply.Found k access → TrueNow k access
   found_true k access found =
-      let there = found_there service kept.objects number place (root_in world) ask k access may.after kept.root
+      let there = found_there service kept.objects number place kept.root ask k access may.after kept.root_stands
       (subst (λ (r : Reply). Serves (site_in service number) (kept.objects number) place ask r may.after) found replies) in
       stays_true k access (record {
-        told = there_is_told service kept.objects (root_in world) kept.phases k access there;
+        told = there_is_told service kept.objects kept.root kept.phases k access there;
         born = there_born k access there;
       })
 
@@ -183,7 +184,7 @@ module _ (stands : ServedStands) (world : World) (h : List Event) (number place 
   knows_now : (client : ℕ) → KnowsOnly TrueNow (client_after world client now)
   knows_now client =
       served_knows world.digest TrueNow place told (client_after world client h)
-      (weaker_knows (IsTrue world h kept.objects kept.phases) TrueNow stays_true (client_after world client h) (kept.clients client).knows)
+      (weaker_knows (IsTrue world h kept.objects kept.root kept.phases) TrueNow stays_true (client_after world client h) (kept.clients client).knows)
       (tells_if_found TrueNow given found_true)
       (answers_top world.digest place (heard given) (client_after world client h) (kept.clients client).path (looks client))
 
@@ -195,7 +196,7 @@ module _ (stands : ServedStands) (world : World) (h : List Event) (number place 
   asker_hand : InHand world.digest phases (client_after world ask.from.client now)
   asker_hand =
       let who = who_after world h ask.from.client in
-      served_in_hand service (WasAskedIn h) (IsToldAs service kept.objects (root_in world) kept.phases) asker place number (suc (length h)) ask given kept.phases
+      served_in_hand service (WasAskedIn h) (IsToldAs service kept.objects kept.root kept.phases) asker place number (suc (length h)) ask given kept.phases
       (ap (λ (w : Who). w.servers) who) hand (kept.clients ask.from.client).asks knows_told waits
       (is_answering service asker place number ask given kept.phases (kept.objects number) may.after (ap (λ (w : Who). w.servers) who) hand waits replies)
 
@@ -224,11 +225,12 @@ module _ (stands : ServedStands) (world : World) (h : List Event) (number place 
       let later : List Decided = decided_for world.digest place told asker in
       record {
         objects = objects;
+        root = kept.root;
         states = states_served world h kept.objects kept.states number place given may.posted may.made may.after may.reply;
         tree = came.tree;
         phases = phases;
         standing = came.standing;
-        root = root_kept service kept.objects (root_in world) number place ask given may.after kept.root replies;
+        root_stands = root_kept service kept.objects kept.root number place ask given may.after kept.root_stands replies;
         born = born_served world h kept.objects number place ask given may.after (kept.standing.owned.order number) replies kept.born;
         replayed =
             ap (replayed opening_tree) all_decided ∙ replayed_both opening_tree before later
@@ -238,7 +240,7 @@ module _ (stands : ServedStands) (world : World) (h : List Event) (number place 
             (replays_both opening_tree before later kept.replays
             (subst (λ (tree : Node). Replays tree later) (sym kept.replayed) came.replays));
         clients = λ client.
-            is_kept world now objects phases client (knows_now client) (path_now client)
+            is_kept world now objects kept.root phases client (knows_now client) (path_now client)
             (asks_group_serve world h number place given (λ c. (kept.clients c).asks) client) (hand_now client);
         others = others_have world now phases hand_now;
         pending = pending_serve world h number place given kept.pending;

@@ -135,11 +135,11 @@ pub others_have : (world : World) (h : List Event) (phases : Phases) → ((clien
 others_have world h phases hands call apart =
     subst (λ (c : ℕ). phases (numbered c call.number) ≡ idle) (client_is world h call.client) ((hands call.client).others call.number apart)
 
-pub is_kept : (world : World) (h : List Event) (objects : Objects) (phases : Phases) (client : ℕ)
-    → KnowsOnly (IsTrue world h objects phases) (client_after world client h) → KeepsToPath world.digest (client_after world client h)
+pub is_kept : (world : World) (h : List Event) (objects : Objects) (root : Access) (phases : Phases) (client : ℕ)
+    → KnowsOnly (IsTrue world h objects root phases) (client_after world client h) → KeepsToPath world.digest (client_after world client h)
     → AsksItsGroup (WasAskedIn h) (client_after world client h) → InHand world.digest phases (client_after world client h)
-    → IsKept world h objects phases client (client_after world client h)
-is_kept world h objects phases client knows path asks hand = record {
+    → IsKept world h objects root phases client (client_after world client h)
+is_kept world h objects root phases client knows path asks hand = record {
   who = who_after world h client;
   knows = knows;
   path = path;

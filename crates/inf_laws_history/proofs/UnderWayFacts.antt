@@ -1,10 +1,9 @@
 -- A call that has something in hand at a place began before it, and ends behind it: its result tells so.
-use Rattle.std.proofs.Common.{◌≡◌, ◌≢◌, ◌⊎◌, inl, inr, ℕ, zero, suc, ◌+◌, ◌<◌, ◌≤◌, nat_lt, Bool, true, false, cond, eqb, List, [], ◌∷◌, ◌++◌, length, Option, Some, None, is_some, IfSome, refl, sym, ap, subst, ◌∙◌, ⊎_elim, arith}
+use Rattle.std.proofs.Common.{◌≡◌, ◌≢◌, ◌⊎◌, inl, inr, ℕ, zero, suc, ◌+◌, ◌<◌, ◌≤◌, nat_lt, Bool, true, false, cond, eqb, List, [], ◌∷◌, ◌++◌, length, Option, Some, None, IfSome, refl, sym, subst, ◌∙◌, ⊎_elim, arith}
 use Rattle.std.specs.List.{Contains}
 use Rattle.std.proofs.lemmas.Bool.{cases_eq}
 use Rattle.std.proofs.lemmas.Bool.Decides.{nat_tests}
 use Rattle.std.proofs.lemmas.List.Elements.{Contains-append_left, Contains-append_right, Contains-push}
-use Rattle.std.proofs.lemmas.Option.{slice_get_within}
 use Rattle.inf_base.specs.declared.id.Id.{Id}
 use Rattle.inf_base.specs.declared.answer.Answer.{Answer}
 use Rattle.inf_base.specs.declared.answer.Answer.TheVariants as answer
@@ -13,27 +12,20 @@ use Rattle.inf_base.specs.declared.caller.CallRef.{CallRef}
 use Rattle.inf_base.specs.declared.setup.ClientLine.{ClientLine}
 use Rattle.inf_duty.specs.After.{client_after}
 use Rattle.inf_duty.specs.Duty.{asked, begun, given_up_in}
-use Rattle.inf_duty.specs.Outcome.{Agrees, Outcome, OutcomeFrom, all_given_up, are_none, is_free, results_of, so_far, unanswered}
+use Rattle.inf_duty.specs.Outcome.{Agrees, OutcomeFrom, all_given_up, are_none, is_free, results_of, so_far, unanswered}
 use Rattle.inf_duty.specs.World.{World}
 use Rattle.inf_duty.proofs.BegunKept.{IsKept, if_both, kept_all_given_up, kept_begun}
 use Rattle.inf_flow_dir.specs.Client.{ClientState, Counts, Ending, Stage, act, answers, call_ref, compose, ended, first_place, placed, result_of, retries, round, winds, wound}
-use Rattle.inf_flow_dir.specs.Flow.{Flow, Who, clean_up, finishes, links, makes, reserves, seals, unlinks}
+use Rattle.inf_flow_dir.specs.Flow.{Who, clean_up}
 use Rattle.inf_flow_dir.specs.Group.{Course, composed_stage, keys_of, next_course}
 use Rattle.inf_flow_dir.specs.Heard.{heard}
 use Rattle.inf_flow_dir.specs.Turn.{Turn, goes_on, later_place, recorded, served, turn_at, turned, winds_up}
-use Rattle.inf_laws_directory.specs.Phases.{Phase, idle}
 use Rattle.inf_laws_history.specs.Causes.{before}
-use Rattle.inf_laws_history.specs.Kept.{Kept}
-use Rattle.inf_laws_history.specs.Phases.{FlowHas, HasPhase}
-use Rattle.inf_laws_history.specs.Counted.{IsOfScript}
-use Rattle.inf_laws_history.specs.UnderWay.{IsAround, WasUnderWay}
-use Rattle.inf_laws_history.proofs.AgainCauses.{under_way}
-use Rattle.inf_laws_history.proofs.Begun.{IsInFlow, begun_after}
+use Rattle.inf_laws_history.specs.UnderWay.{IsAround}
 use Rattle.inf_laws_history.proofs.ClientSteps.{Lasts, by_answer, lasts_kept, turned_lasts}
 use Rattle.inf_laws_history.proofs.DrivenFacts.{others_stay}
-use Rattle.inf_laws_history.proofs.Numbered.{IsNumbered, IsUnder, is_of_script, numbered_after, so_far_call, total_of}
-use Rattle.inf_laws_history.proofs.StepFacts.{client_is}
-use Rattle.inf_laws_history.proofs.ToldResults.{before_all, before_stays}
+use Rattle.inf_laws_history.proofs.Numbered.{so_far_call}
+use Rattle.inf_laws_history.proofs.ResultCauses.{before_all, before_stays}
 use Rattle.inf_message.specs.declared.ask.Ask.{Ask}
 use Rattle.inf_message.specs.declared.call_result.CallResult.{CallResult}
 use Rattle.inf_message.specs.declared.event.Event.{Event}
@@ -46,36 +38,36 @@ use Rattle.inf_message.proofs.HistoryLaws.{event_within}
 -- ---- a client from the place on
 
 -- the call is over, and was so around the place
-record IsPast (call : CallRef) (place : ℕ) (s : ClientState) : Type 0 where
-  result : CallResult
-  inside : Contains s.results result
-  own : result.call ≡ call
-  around : IsAround place result
+pub record IsPast (call : CallRef) (place : ℕ) (s : ClientState) : Type 0 where
+  pub result : CallResult
+  pub inside : Contains s.results result
+  pub own : result.call ≡ call
+  pub around : IsAround place result
 
 -- the first Ask of the call under way stands before the place
-record BeganBefore (place : ℕ) (counts : Counts) : Type 0 where
-  first : ℕ
-  is : counts.first ≡ Some first
-  less : first < place
+pub record BeganBefore (place : ℕ) (counts : Counts) : Type 0 where
+  pub first : ℕ
+  pub is : counts.first ≡ Some first
+  pub less : first < place
 
 -- its last Serve behind it
-record ServedBehind (place : ℕ) (counts : Counts) : Type 0 where
-  last : ℕ
-  is : counts.last ≡ Some last
-  less : place < last
+pub record ServedBehind (place : ℕ) (counts : Counts) : Type 0 where
+  pub last : ℕ
+  pub is : counts.last ≡ Some last
+  pub less : place < last
 
 -- the call is under way; it does not end without a Serve more, or had one
-record IsGoing (call : CallRef) (place : ℕ) (s : ClientState) : Type 0 where
-  is : call_ref s ≡ call
-  left : 0 < length s.left
-  began : BeganBefore place s.counts
-  holds : (is_free s.who s.stage ≡ false) ⊎ ServedBehind place s.counts
+pub record IsGoing (call : CallRef) (place : ℕ) (s : ClientState) : Type 0 where
+  pub is : call_ref s ≡ call
+  pub left : 0 < length s.left
+  pub began : BeganBefore place s.counts
+  pub holds : (is_free s.who s.stage ≡ false) ⊎ ServedBehind place s.counts
 
-abbrev IsMet : CallRef → ℕ → ClientState → Type 0
+abbrev pub IsMet : CallRef → ℕ → ClientState → Type 0
 IsMet call place s = IsPast call place s ⊎ IsGoing call place s
 
 module _ (digest : List ℕ → Id) (call : CallRef) (place : ℕ) where
-  abbrev Met : ClientState → Type 0
+  abbrev pub Met : ClientState → Type 0
   Met s = IsMet call place s
 
   later_if : (last : Option ℕ) (at : ℕ) → last ≡ Some at → place < at → IfSome last (λ l. place < l)
@@ -208,11 +200,11 @@ module _ (digest : List ℕ → Id) (call : CallRef) (place : ℕ) where
 
   -- ---- its result
 
-  record HasResult (results : List CallResult) : Type 0 where
-    result : CallResult
-    inside : Contains results result
-    own : result.call ≡ call
-    around : IsAround place result
+  pub record HasResult (results : List CallResult) : Type 0 where
+    pub result : CallResult
+    pub inside : Contains results result
+    pub own : result.call ≡ call
+    pub around : IsAround place result
 
   so_far_around : (stage : Stage) (s : ClientState) → BeganBefore place s.counts → IsAround place (so_far stage s)
   so_far_around (winds (answers given at) m ms) s began = record { first = began.first; began = began.is; earlier = began.less; later = tt }
@@ -251,7 +243,7 @@ module _ (digest : List ℕ → Id) (call : CallRef) (place : ℕ) where
   in_later : (first later : List CallResult) → HasResult later → HasResult (first ++ later)
   in_later first later has = record { result = has.result; inside = Contains-append_right first later has.result has.inside; own = has.own; around = has.around }
 
-  outcome_has : (world : World) (h : List Event) (client at : ℕ) (lines : List ClientLine) (results : List CallResult) → OutcomeFrom world h at lines results
+  pub outcome_has : (world : World) (h : List Event) (client at : ℕ) (lines : List ClientLine) (results : List CallResult) → OutcomeFrom world h at lines results
       → at ≤ client → client < at + length lines → Met (client_after world client h) → HasResult results
   outcome_has world h client at [] results out from within met = absurd (omega (arith, from, within))
   outcome_has world h client at (line ∷ lines) results out from within met =
@@ -264,7 +256,7 @@ module _ (digest : List ℕ → Id) (call : CallRef) (place : ℕ) where
 
 -- ---- histories
 
-before_shorter : (place : ℕ) (h : List Event) → 1 ≤ place → length (before place h) < place
+pub before_shorter : (place : ℕ) (h : List Event) → 1 ≤ place → length (before place h) < place
 before_shorter place [] counted = counted
 before_shorter place (e ∷ h) counted = by (nat_lt (suc (length h)) place) refl (before_shorter place h counted)
   where
@@ -273,7 +265,7 @@ before_shorter place (e ∷ h) counted = by (nat_lt (suc (length h)) place) refl
     by false is shorter = shorter
 
 module _ (world : World) (call : CallRef) (place number ask_place : ℕ) (given : Reply) (posted : Posted) (unlike : posted.ask.from.client ≢ call.client) where
-  abbrev IsAt : List Event → Type 0
+  abbrev pub IsAt : List Event → Type 0
   IsAt h = event_at place h ≡ Some (event.Serve number ask_place given)
 
   one_more : (e : Event) (h : List Event) → place ≤ length h → IsMet call place (client_after world call.client h)
@@ -291,7 +283,7 @@ module _ (world : World) (call : CallRef) (place number ask_place : ℕ) (given 
       by false is found = absurd cc
 
   -- a client that is met just before the place is met from then on
-  met_after : (h : List Event) → 1 ≤ place → IsAt h → asked_at ask_place (before place h) ≡ Some posted
+  pub met_after : (h : List Event) → 1 ≤ place → IsAt h → asked_at ask_place (before place h) ≡ Some posted
       → IsMet call place (client_after world call.client (before place h)) → IsMet call place (client_after world call.client h)
   met_after [] counted at asked_it met = absurd cc
   met_after (e ∷ h) counted at asked_it met =
@@ -318,82 +310,3 @@ module _ (world : World) (call : CallRef) (place number ask_place : ℕ) (given 
           by : (b : Bool) → b ≡ false → cond b (Some e) (event_at place h) ≡ Some (event.Serve number ask_place given) → IsAt h
           by true is found = cc
           by false is found = found
-
--- ---- a call that has something in hand
-
-flow_holds : (who : Who) (flow : Flow) (phase : Phase) → FlowHas who flow phase → phase ≢ idle → are_none (clean_up who flow) ≡ false
-flow_holds who (finishes chain what) phase has acts = absurd (acts has)
-flow_holds who (reserves chain name mode) phase has acts = absurd (acts has)
-flow_holds who (makes chain name mode version id) phase has acts = refl
-flow_holds who (links chain name mode version dir) phase has acts = refl
-flow_holds who (seals chain) phase has acts = absurd (acts has)
-flow_holds who (unlinks chain) phase has acts = refl
-
-holds_at : (digest : List ℕ → Id) (who : Who) (stage : Stage) (phase : Phase) → HasPhase digest who stage phase → phase ≢ idle → is_free who stage ≡ false
-holds_at digest who compose phase has acts = absurd (acts has)
-holds_at digest who (round keys) phase has acts = absurd (acts has)
-holds_at digest who (act flow) phase has acts = flow_holds who flow phase has.0 acts
-holds_at digest who (winds ending m ms) phase has acts = refl
-
-flows_at : (who : Who) (stage : Stage) → is_free who stage ≡ false → IsInFlow stage
-flows_at who compose holds = absurd cc
-flows_at who (round keys) holds = absurd cc
-flows_at who (act flow) holds = tt
-flows_at who (winds ending m ms) holds = tt
-
-under_in : (left : List Call) (stage : Stage) → IsInFlow stage → IsUnder left stage → 0 < length left
-under_in left compose flows under = absurd flows
-under_in left (round keys) flows under = absurd flows
-under_in left (act flow) flows under = under
-under_in left (winds ending m ms) flows under = under
-
-began_within : (first : Option ℕ) (most place : ℕ) → IfSome first (λ at. at ≤ most) → is_some first ≡ true → most < place → (at : ℕ) × (first ≡ Some at) × (at < place)
-began_within None most place within some less = absurd cc
-began_within (Some first) most place within some less = (first, refl, omega (arith, within, less))
-
-module _ (world : World) (h : List Event) (kept : Kept world h) (by : CallRef) (acts : kept.phases by ≢ idle) (place : ℕ) (less : length h < place) where
-  abbrev s : ClientState
-  s = client_after world by.client h
-
-  number_is : by.number ≡ s.number
-  number_is = under_way world h kept by acts
-
-  ref_is : call_ref s ≡ by
-  ref_is =
-      let number : ℕ = s.number in
-      subst (λ n. record { client = s.who.client; number = n } ≡ by) number_is
-      (ap (λ c. record { client = c; number = by.number }) (client_is world h by.client))
-
-  holds : is_free s.who s.stage ≡ false
-  holds = holds_at world.digest s.who s.stage (kept.phases (call_ref s)) (kept.clients by.client).phase (subst (λ (c : CallRef). kept.phases c ≢ idle) (sym ref_is) acts)
-
-  numbered : IsNumbered by.client (total_of world by.client) s
-  numbered = numbered_after world by.client h
-
-  left : 0 < length s.left
-  left = under_in s.left s.stage (flows_at s.who s.stage holds) numbered.under
-
-  began : BeganBefore place s.counts
-  began =
-      let begun_it = begun_after world by.client h in
-      let first = began_within s.counts.first (length h) place begun_it.within (begun_it.flows (flows_at s.who s.stage holds)) less in
-      record { first = first.0; is = first.1; less = first.2 }
-
-  is_met : IsMet by place (client_after world by.client h)
-  is_met = inr (record { is = ref_is; left = left; began = began; holds = inl holds })
-
-  acts_of_script : IsOfScript world by
-  acts_of_script = is_of_script world by (omega (arith, number_is, numbered.counted)) (omega (arith, number_is, numbered.all, left))
-
--- a call that has something in hand just before a place, at which another client is answered, was under way there
-pub was_under_way : (world : World) (h : List Event) (results : List CallResult) → Outcome world h results → (place number ask_place : ℕ) (given : Reply) (posted : Posted) (by : CallRef)
-    → event_at place h ≡ Some (event.Serve number ask_place given) → asked_at ask_place (before place h) ≡ Some posted → posted.ask.from.client ≢ by.client
-    → (kept : Kept world (before place h)) → kept.phases by ≢ idle → WasUnderWay world results place by
-was_under_way world h results out place number ask_place given posted by at asked_it unlike kept acts =
-    let counted = (event_within place (event.Serve number ask_place given) h at).counted in
-    let less = before_shorter place h counted in
-    let script = acts_of_script world (before place h) kept by acts place less in
-    let met = met_after world by place number ask_place given posted unlike h counted at asked_it (is_met world (before place h) kept by acts place less) in
-    let within = slice_get_within world.setup.clients by.client script.line script.client in
-    let has = outcome_has world.digest by place world h by.client 0 world.setup.clients results out (omega arith) (omega (arith, within)) met in
-    record { of_script = script; result = has.result; told = has.inside; own = has.own; around = has.around }

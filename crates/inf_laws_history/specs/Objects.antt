@@ -1,24 +1,18 @@
 -- What the servers of a history keep, taken together.
 use Rattle.std.specs.Prelude.{◌≡◌, ◌⊎◌, ℕ, true, List, Some, is_some}
-use Rattle.inf_base.specs.declared.access.Access.{Access}
 use Rattle.inf_base.specs.declared.directory.DirRef.{DirRef}
 use Rattle.inf_duty.specs.World.{World}
-use Rattle.inf_laws_directory.specs.Objects.{Objects, Service, content_in, site_in}
+use Rattle.inf_laws_directory.specs.Objects.{Objects, Service, content_in}
 use Rattle.inf_laws_history.specs.Legal.{server_after}
 use Rattle.inf_message.specs.declared.event.Event.{Event}
 use Rattle.inf_message.specs.declared.request.Request.{Request}
 use Rattle.inf_message.specs.History.{Posted, asked_at, is_served}
-use Rattle.inf_server.specs.State.{root_access}
 
 abbrev pub service_of : World → Service
 service_of world = record { servers = world.setup.servers; digest = world.digest }
 
 abbrev pub objects_after : World → List Event → Objects
 objects_after world h number = server_after world number h
-
--- the root's access object, as it is from the first on
-abbrev pub root_in : World → Access
-root_in world = root_access (site_in (service_of world) 0)
 
 -- a request stands at this place
 pub record WasAskedIn (h : List Event) (place : ℕ) (asked : Request) : Type 0 where

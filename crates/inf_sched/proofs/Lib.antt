@@ -9,6 +9,7 @@ pub mod StraightLaws
 pub mod UnansweredFacts
 pub mod RunSteps
 pub mod RunMoves
+pub mod RunQueues
 pub mod ShownFacts
 pub mod MovingFacts
 pub mod QueueFacts

@@ -24,7 +24,7 @@ use Rattle.inf_sched.specs.Laws.{is_no_mem, wanted}
 use Rattle.inf_sched.specs.Scene.{Scene, MakesAsk, MakesServe, can_ask, client_in, is_ask, planned, planned_from}
 use Rattle.inf_sched.specs.Straight.{reply_to, with_ask, with_event, with_next_ask, with_serve}
 use Rattle.inf_sched.specs.Waiting.{IsWaiting, Posting, oldest}
-use Rattle.inf_sched.proofs.RunFacts.{waiting_found}
+use Rattle.inf_sched.proofs.RunQueues.{waiting_found}
 use Rattle.inf_sched.proofs.BuiltFacts.{neither}
 use Rattle.inf_sched.proofs.CalmFacts.{ShowsNoWant, after_planned, after_served, begun_planned, plain_after, plain_recorded, plain_told}
 use Rattle.inf_laws_server.proofs.Serves.{machine_serves, machine_wants_none}

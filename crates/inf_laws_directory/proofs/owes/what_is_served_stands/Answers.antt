@@ -24,7 +24,7 @@ use Rattle.inf_server.specs.Response.{Response}
 use Rattle.inf_server.specs.State.{Site, State}
 use Rattle.inf_tree.specs.Tree.{Node}
 use Rattle.inf_laws_directory.specs.Fits.{EndsIn, Fits, reserved_at_end, sealed_at_end, sealed_under, unlinked_at_end}
-use Rattle.inf_laws_directory.specs.Objects.{Objects, Service, directories_of, site_in, with_state}
+use Rattle.inf_laws_directory.specs.Objects.{Objects, Service, content_in, site_in, with_state}
 use Rattle.inf_laws_directory.specs.Owes.{Aims, AimsWith, IsStopped}
 use Rattle.inf_laws_directory.specs.Phases.{Phase, Phases, has_made, has_reserved, has_sealed, has_unlinked, idle, with_phase}
 use Rattle.inf_laws_directory.specs.Replays.{IsRefused}
@@ -45,9 +45,9 @@ use Rattle.inf_laws_directory.proofs.owes.what_is_served_stands.Goals as goal
 
 module _ (c : goal.After-served_clean_ups_stand) (service : Service) (objects : Objects) (number place : ℕ) (root : Access) (tree : Node) (phases : Phases) (ask : Ask)
     (given : Reply) (new : State) (standing : IsStanding service objects root tree phases) where
-  unseen : new.contents ≡ (objects number).contents → Stands (directories_of service (with_state number new objects)) root tree
+  unseen : new.contents ≡ (objects number).contents → Stands (content_in service (with_state number new objects)) root tree
   unseen same =
-      c.unseen_changes_stand.ensures (directories_of service objects) (directories_of service (with_state number new objects)) root tree standing.stands
+      c.unseen_changes_stand.ensures (content_in service objects) (content_in service (with_state number new objects)) root tree standing.stands
       (looks_same service objects (with_state number new objects) root (nothing_seen service objects number new same))
 
   abbrev site : Site

@@ -11,7 +11,7 @@ use Rattle.inf_message.specs.declared.ask.Ask.{Ask}
 use Rattle.inf_server.specs.Files.{create, new_file}
 use Rattle.inf_server.specs.Response.{Response}
 use Rattle.inf_laws_directory.specs.Leads.{Leads}
-use Rattle.inf_laws_directory.specs.Objects.{Objects, Service, content_in, directories_of, site_in, with_state}
+use Rattle.inf_laws_directory.specs.Objects.{Objects, Service, content_in, site_in, with_state}
 use Rattle.inf_laws_directory.specs.Owned.{AreOwned, IsUnheld}
 use Rattle.inf_laws_directory.specs.Phases.{IsLoose, IsReserving, IsSealing, Phase, Phases, idle, with_phase}
 use Rattle.inf_laws_directory.specs.Steps.{Keeps}
@@ -36,7 +36,7 @@ use Rattle.inf_laws_directory.proofs.phases.creating_keeps.Goals as goal
 module _ (service : Service) (objects : Objects) (number : ℕ) (root : Access) (phases : Phases) (ask : Ask)
     (path : List (List ℕ)) (chain : List Entry) (name : List ℕ) (mode : ℕ) (done : Response)
     (owned : AreOwned service objects root phases) (at_idle : phases ask.from ≡ idle)
-    (leads : Leads (directories_of service objects) root path chain)
+    (leads : Leads (content_in service objects) root path chain)
     (is : create (site_in service number) (objects number) ask chain name mode ≡ Ok done) where
   abbrev next : Objects
   next = with_state number done.state objects

@@ -14,7 +14,7 @@ use Rattle.inf_message.specs.declared.ask.Ask.{Ask}
 use Rattle.inf_server.specs.Births.{link}
 use Rattle.inf_server.specs.Chains.{last_of}
 use Rattle.inf_server.specs.Response.{Response}
-use Rattle.inf_laws_directory.specs.Objects.{Objects, Service, content_in, directories_of, site_in, with_state}
+use Rattle.inf_laws_directory.specs.Objects.{Objects, Service, content_in, site_in, slots_kept, with_state}
 use Rattle.inf_laws_directory.specs.Owned.{AreOwned, Has, IsUnheld}
 use Rattle.inf_laws_directory.specs.Phases.{IsLoose, IsReserving, IsSealing, Phase, Phases, has_made, idle, with_phase}
 use Rattle.inf_laws_directory.specs.Steps.{Keeps}
@@ -23,7 +23,7 @@ use Rattle.inf_content.proofs.Ordered.{filled_in_order}
 use Rattle.inf_laws_directory.proofs.OwnedFacts.{full_not_loose, full_not_sealed, loose_in, one_loose}
 use Rattle.inf_laws_directory.proofs.OwnSlots.{first_own}
 use Rattle.inf_laws_directory.proofs.ServedSlots.{HasSlot, has_slot, slot_changes, slots_in_order}
-use Rattle.inf_laws_directory.proofs.ServiceFacts.{HasChanged}
+use Rattle.inf_laws_directory.proofs.Kept.{HasChanged}
 use Rattle.inf_laws_directory.proofs.SlotFacts.{IsChanged, first_is_changed}
 use Rattle.inf_laws_directory.proofs.SlotSteps.{MayChange, MayStand, SlotChanges, at_itself, slot_step_keeps}
 use Rattle.inf_laws_server.proofs.Came.{Did}
@@ -77,7 +77,7 @@ module _ (service : Service) (objects : Objects) (number mode : ℕ) (root : Acc
   at_first =
       first_own ask.from name has_it.0.access slot.content.slots (slots_in_order service objects owned.order dir slot.content slot.there) slot.slot_is
       (λ other access is.
-      let there : slot_in other (directories_of service objects dir) ≡ Some (reserved ask.from access) = ap (λ (o : Option Content). slot_in other (slots_found o)) slot.there ∙ is in
+      let there : slot_in other (slots_kept service objects dir) ≡ Some (reserved ask.from access) = ap (λ (o : Option Content). slot_in other (slots_found o)) slot.there ∙ is in
       (subst (λ (p : Phase). IsReserving p dir other) phase (owned.reservations dir other ask.from access there)).1)
 
   changed : IsChanged (reserves ask.from) (filled as_made) slot.content.slots (name, was)

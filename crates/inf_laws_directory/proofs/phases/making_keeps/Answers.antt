@@ -6,20 +6,18 @@ use Rattle.inf_base.specs.declared.triple.Triple.{Triple}
 use Rattle.inf_base.specs.Content.{Content}
 use Rattle.inf_base.specs.Identity.{identity}
 use Rattle.inf_content.specs.Contents.{empty_content, made_at, seal_of, slots_found}
-use Rattle.inf_content.specs.Slots.{slot_in}
 use Rattle.inf_message.specs.declared.ask.Ask.{Ask}
 use Rattle.inf_server.specs.Births.{make}
 use Rattle.inf_server.specs.Response.{Response}
 use Rattle.inf_server.specs.State.{State}
-use Rattle.inf_laws_directory.specs.Objects.{Objects, Service, content_in, directories_of, site_in, with_state}
+use Rattle.inf_laws_directory.specs.Objects.{Objects, Service, content_in, site_in, with_state}
 use Rattle.inf_content.specs.Order.{AreInOrder}
 use Rattle.inf_laws_directory.specs.Owned.{AreOwned, Has, IsUnlinked, KeepsName}
 use Rattle.inf_laws_directory.specs.Phases.{IsLoose, IsReserving, IsSealing, Phase, Phases, has_made, has_reserved, has_unlinked, with_phase}
 use Rattle.inf_laws_directory.specs.Steps.{KeepsOlder}
-use Rattle.inf_laws_directory.specs.Things.{Directories}
 use Rattle.inf_laws_directory.specs.Told.{IsUnborn}
 use Rattle.inf_laws_directory.proofs.CallFacts.{none_not_some, phase_here}
-use Rattle.inf_laws_directory.proofs.ContentSteps.{MayBecome, content_step_owned, content_step_told, same_directories}
+use Rattle.inf_laws_directory.proofs.ContentSteps.{MayBecome, content_step_owned, content_step_told, same_slot, still_unlinked}
 use Rattle.inf_laws_directory.proofs.Kept.{Becomes, made_becomes}
 use Rattle.inf_content.proofs.Ordered.{made_in_order}
 use Rattle.inf_laws_directory.proofs.OwnedFacts.{loose_in, sealing_in}
@@ -70,10 +68,7 @@ module _ (service : Service) (objects : Objects) (number place : ℕ) (root : Ac
   same_slots : ◌≡◌ (slots_found (Some new)) (slots_found (content_in service objects dir))
   same_slots = sym (ap slots_found none_there)
 
-  same_dirs : directories_of service next ≡ directories_of service objects
-  same_dirs = same_directories service objects next dir (Some new) comes same_slots
-
-  stands_nowhere : IsUnlinked (directories_of service objects) dir
+  stands_nowhere : IsUnlinked (content_in service objects) dir
   stands_nowhere other n access linked same = unborn.links other n access linked (ap (λ (d : DirRef). d.born) same)
 
   may_make : MayBecome service objects next root phases ask.from then dir (Some new)
@@ -88,10 +83,10 @@ module _ (service : Service) (objects : Objects) (number place : ℕ) (root : Ac
     linked_kept = λ other n access linked same. refl;
     placed = λ there. inr (inr (record { call = ask.from; loose = subst (λ (p : Phase). IsLoose p dir) (sym (phase_here ask.from then phases)) refl }));
     has = (
-      record { access = kept.access; slot = ap (λ (dirs : Directories). slot_in name (dirs parent)) same_dirs ∙ kept.slot; birth_kept = kept.birth_kept },
+      record { access = kept.access; slot = same_slot service objects next dir (Some new) comes same_slots parent name ∙ kept.slot; birth_kept = kept.birth_kept },
       comes.here,
       refl,
-      subst (λ (dirs : Directories). IsUnlinked dirs dir) (sym same_dirs) stands_nowhere,
+      still_unlinked service objects next dir (Some new) comes same_slots dir stands_nowhere,
     );
     reserving = λ other n reserving. subst (λ (p : Phase). IsReserving p other n) phase reserving;
     sealing = λ other apart sealing. absurd (subst (λ (p : Phase). IsSealing p other) phase sealing);

@@ -16,7 +16,7 @@ use Rattle.inf_server.specs.Births.{access_to_come, reserve}
 use Rattle.inf_server.specs.Chains.{last_of}
 use Rattle.inf_server.specs.Response.{Response}
 use Rattle.inf_laws_directory.specs.Leads.{Leads}
-use Rattle.inf_laws_directory.specs.Objects.{Objects, Service, content_in, directories_of, site_in, with_state}
+use Rattle.inf_laws_directory.specs.Objects.{Objects, Service, content_in, site_in, with_state}
 use Rattle.inf_laws_directory.specs.Owned.{AreOwned, IsUnheld}
 use Rattle.inf_laws_directory.specs.Phases.{IsLoose, IsReserving, IsSealing, Phase, Phases, has_reserved, idle, with_phase}
 use Rattle.inf_laws_directory.specs.Steps.{Keeps}
@@ -39,7 +39,7 @@ use Rattle.inf_laws_directory.proofs.phases.reserving_keeps.Goals as goal
 module _ (service : Service) (objects : Objects) (number version : ℕ) (root : Access) (phases : Phases) (ask : Ask)
     (path : List (List ℕ)) (chain : List Entry) (last : Entry) (name : List ℕ) (end : Response)
     (owned : AreOwned service objects root phases) (phase : phases ask.from ≡ idle)
-    (leads : Leads (directories_of service objects) root path chain) (at_last : last_of chain ≡ Some last)
+    (leads : Leads (content_in service objects) root path chain) (at_last : last_of chain ≡ Some last)
     (is : reserve (site_in service number) (objects number) ask chain name ≡ Ok end) (told : end.reply ≡ reply.Reserved version) where
   abbrev next : Objects
   next = with_state number end.state objects

@@ -14,15 +14,14 @@ use Rattle.inf_server.specs.Removals.{seal}
 use Rattle.inf_server.specs.Response.{Response}
 use Rattle.inf_server.specs.State.{State, is_here}
 use Rattle.inf_laws_directory.specs.Leads.{Leads}
-use Rattle.inf_laws_directory.specs.Objects.{Objects, Service, content_in, directories_of, site_in, with_state}
+use Rattle.inf_laws_directory.specs.Objects.{Objects, Service, content_in, site_in, with_state}
 use Rattle.inf_laws_directory.specs.Owned.{AreOwned, Links}
 use Rattle.inf_laws_directory.specs.Phases.{IsLoose, IsReserving, IsSealing, Phase, Phases, has_sealed, has_unlinked, idle, with_phase}
 use Rattle.inf_laws_directory.specs.Steps.{Keeps}
-use Rattle.inf_laws_directory.specs.Things.{Directories}
 use Rattle.inf_laws_directory.specs.Told.{IsGone}
 use Rattle.inf_laws_directory.proofs.CallFacts.{none_not_some, phase_here}
 use Rattle.inf_laws_directory.proofs.ChainEnds.{last_links}
-use Rattle.inf_laws_directory.proofs.ContentSteps.{MayBecome, content_step_owned, content_step_told, same_directories}
+use Rattle.inf_laws_directory.proofs.ContentSteps.{MayBecome, content_step_owned, content_step_told, link_stays}
 use Rattle.inf_laws_directory.proofs.Kept.{Becomes, changed_becomes, content_here}
 use Rattle.inf_laws_directory.proofs.AskedFacts.{IsThere, is_there}
 use Rattle.inf_laws_directory.proofs.OpenDirectories.{IsOpen, is_open}
@@ -36,7 +35,7 @@ use Rattle.inf_laws_directory.proofs.phases.sealing_keeps.Goals as goal
 module _ (service : Service) (objects : Objects) (number : ℕ) (root : Access) (phases : Phases) (ask : Ask)
     (path : List (List ℕ)) (chain : List Entry) (parent target : Entry) (name : List ℕ) (done : Response)
     (owned : AreOwned service objects root phases) (at_idle : phases ask.from ≡ idle)
-    (leads : Leads (directories_of service objects) root (path ++ name ∷ []) chain)
+    (leads : Leads (content_in service objects) root (path ++ name ∷ []) chain)
     (at_last : last_of chain ≡ Some target) (at_parent : last_of (before_last chain) ≡ Some parent)
     (is : seal (site_in service number) (objects number) ask chain ≡ Ok done) where
   abbrev next : Objects
@@ -81,8 +80,8 @@ module _ (service : Service) (objects : Objects) (number : ℕ) (root : Access) 
       (changed_becomes service objects number done.state dir here (λ (c : Content). record c { seal = Some ask.from }) (λ c. refl)
       (subst (λ (e : Entry). done.state.contents ≡ sealed_at (dir_of e.access) ask.from (objects number).contents) same_entry (ap (λ (s : State). s.contents) seals_it.did)))
 
-  linked : Links (directories_of service objects) (dir_of parent.access) name target.access
-  linked = last_links (directories_of service objects) name target parent root path chain leads at_last at_parent
+  linked : Links (content_in service objects) (dir_of parent.access) name target.access
+  linked = last_links (content_in service objects) name target parent root path chain leads at_last at_parent
 
   same_slots : slots_found (Some sealed) ≡ slots_found (content_in service objects dir)
   same_slots = sym (ap slots_found there.there)
@@ -110,7 +109,7 @@ module _ (service : Service) (objects : Objects) (number : ℕ) (root : Access) 
       record { content = sealed; there = becomes.here; seal = refl; slots = empty },
       record {
         access = target.access;
-        linked = subst (λ (dirs : Directories). Links dirs (dir_of parent.access) name target.access) (sym (same_directories service objects next dir (Some sealed) becomes same_slots)) linked;
+        linked = link_stays service objects next dir (Some sealed) becomes same_slots (dir_of parent.access) name target.access linked;
         same = refl;
       },
     );

@@ -20,9 +20,9 @@ use Rattle.inf_content.specs.Order.{AreInOrder}
 use Rattle.inf_laws_directory.specs.Owned.{AreOwned, Has, IsUnheld, KeepsName}
 use Rattle.inf_laws_directory.specs.Phases.{IsLoose, IsReserving, IsSealing, Phase, Phases, has_made, has_reserved, has_unlinked, idle, with_phase}
 use Rattle.inf_laws_directory.specs.Steps.{Keeps}
-use Rattle.inf_laws_directory.specs.Things.{Directories, a_dir}
+use Rattle.inf_laws_directory.specs.Things.{a_dir}
 use Rattle.inf_laws_directory.proofs.CallFacts.{none_not_some, same_call, same_call_self}
-use Rattle.inf_laws_directory.proofs.ContentSteps.{MayBecome, content_step_owned, content_step_told, same_directories}
+use Rattle.inf_laws_directory.proofs.ContentSteps.{MayBecome, content_step_owned, content_step_told, same_slot}
 use Rattle.inf_laws_directory.proofs.Kept.{Becomes, dropped_becomes}
 use Rattle.inf_content.proofs.Ordered.{dropped_in_order, lifted_in_order}
 use Rattle.inf_laws_directory.proofs.OwnedFacts.{IsInHands, full_not_loose, full_not_sealed, loose_in, one_bearer, one_loose, sealing_in}
@@ -137,7 +137,7 @@ module _ (service : Service) (objects : Objects) (number : ℕ) (root : Access) 
     placed = λ there. absurd cc;
     has = record {
       access = has_it.0.access;
-      slot = ap (λ (dirs : Directories). slot_in name (dirs parent)) (same_directories service objects next made None drops (sym hands.empty)) ∙ has_it.0.slot;
+      slot = same_slot service objects next made None drops (sym hands.empty) parent name ∙ has_it.0.slot;
       birth_kept = has_it.0.birth_kept;
     };
     reserving = λ other n reserving. subst (λ (p : Phase). IsReserving p other n) phase reserving;

@@ -10,14 +10,14 @@ use Rattle.inf_message.specs.declared.ask.Ask.{Ask}
 use Rattle.inf_server.specs.Chains.{before_last, last_of}
 use Rattle.inf_server.specs.Removals.{unlink}
 use Rattle.inf_server.specs.Response.{Response}
-use Rattle.inf_laws_directory.specs.Objects.{Objects, Service, content_in, directories_of, site_in, with_state}
+use Rattle.inf_laws_directory.specs.Objects.{Objects, Service, content_in, site_in, slots_kept, with_state}
 use Rattle.inf_laws_directory.specs.Owned.{AreOwned, Has, StandsUnder}
 use Rattle.inf_laws_directory.specs.Phases.{Phase, Phases, has_sealed, has_unlinked, with_phase}
 use Rattle.inf_laws_directory.specs.Steps.{Keeps}
 use Rattle.inf_laws_directory.specs.Things.{a_dir, thing_in}
 use Rattle.inf_content.proofs.Ordered.{without_slot_in_order}
 use Rattle.inf_laws_directory.proofs.ServedSlots.{HasSlot, has_slot, slot_changes, slots_in_order}
-use Rattle.inf_laws_directory.proofs.ServiceFacts.{HasChanged}
+use Rattle.inf_laws_directory.proofs.Kept.{HasChanged}
 use Rattle.inf_laws_directory.proofs.SlotFacts.{without_slot_apart, without_slot_gone}
 use Rattle.inf_laws_directory.proofs.UnlinkSteps.{unlink_keeps}
 use Rattle.inf_laws_server.proofs.Came.{Did}
@@ -62,8 +62,8 @@ module _ (service : Service) (objects : Objects) (number : ℕ) (root : Access) 
   stands : StandsUnder service objects dir name (dir_of target.access)
   stands = (subst (λ (p : Phase). Has service objects ask.from p) at_sealed (owned.has ask.from)).1
 
-  slot : IsSlot (slot_in name (directories_of service objects dir))
-  slot = linked_slot (slot_in name (directories_of service objects dir)) stands.access stands.linked
+  slot : IsSlot (slot_in name (slots_kept service objects dir))
+  slot = linked_slot (slot_in name (slots_kept service objects dir)) stands.access stands.linked
 
   there : HasSlot (content_in service objects dir) name slot.slot
   there = has_slot (content_in service objects dir) name slot.slot slot.is

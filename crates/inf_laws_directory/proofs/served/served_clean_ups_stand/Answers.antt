@@ -1,5 +1,5 @@
 use Rattle.std.proofs.Common.{ap, refl, subst, sym}
-use Rattle.inf_laws_directory.specs.Objects.{directories_of, site_in, with_state}
+use Rattle.inf_laws_directory.specs.Objects.{content_in, site_in, with_state}
 use Rattle.inf_laws_directory.specs.Phases.{IsLoose, Phase, has_reserved, idle, with_phase}
 use Rattle.inf_laws_directory.proofs.SameContents.{nothing_seen}
 use Rattle.inf_laws_directory.proofs.StandingFacts.{goes_on_unseen, looks_same, looks_same_beside, loose_unreached}
@@ -13,7 +13,7 @@ returns-clause-made_dropped c = λ service objects number root tree phases ask p
     let owned = standing.owned in
     let loose : IsLoose (phases ask.from) made = subst (λ (phase : Phase). IsLoose phase made) (sym at_made) refl in
     goes_on_unseen service objects next root tree phases (with_phase ask.from (has_reserved parent name birth) phases) standing.sorted
-    (c.unseen_changes_stand.ensures (directories_of service objects) (directories_of service next) root tree standing.stands
+    (c.unseen_changes_stand.ensures (content_in service objects) (content_in service next) root tree standing.stands
     (looks_same_beside service objects next root made (loose_unreached service objects root phases owned ask.from made loose)
     (c.dropping_leaves_others.ensures service objects number ask made done (owned.order number) is)))
     (c.undoing_keeps.ensures.dropped service objects number root phases ask parent made name birth done owned at_made is)
@@ -23,7 +23,7 @@ returns-clause-cancelled c = λ service objects number root tree phases ask pare
     let next = with_state number done.state objects in
     let owned = standing.owned in
     goes_on_unseen service objects next root tree phases (with_phase ask.from idle phases) standing.sorted
-    (c.unseen_changes_stand.ensures (directories_of service objects) (directories_of service next) root tree standing.stands
+    (c.unseen_changes_stand.ensures (content_in service objects) (content_in service next) root tree standing.stands
     (looks_same service objects next root (c.preparing_is_unseen.ensures.cancelling service objects number ask parent done (owned.order number) is)))
     (c.undoing_keeps.ensures.cancelled service objects number root phases ask parent name birth done owned at_reserved is)
 
@@ -33,7 +33,7 @@ returns-clause-dropped c = λ service objects number root tree phases ask target
     let owned = standing.owned in
     let loose : IsLoose (phases ask.from) target = subst (λ (phase : Phase). IsLoose phase target) (sym at_unlinked) refl in
     goes_on_unseen service objects next root tree phases (with_phase ask.from idle phases) standing.sorted
-    (c.unseen_changes_stand.ensures (directories_of service objects) (directories_of service next) root tree standing.stands
+    (c.unseen_changes_stand.ensures (content_in service objects) (content_in service next) root tree standing.stands
     (looks_same_beside service objects next root target (loose_unreached service objects root phases owned ask.from target loose)
     (c.dropping_leaves_others.ensures service objects number ask target done (owned.order number) is)))
     (c.ending_keeps.ensures.dropped service objects number root phases ask target done owned at_unlinked is)
@@ -42,7 +42,7 @@ pub returns-clause-unsealed : goal.returns-clause-unsealed
 returns-clause-unsealed c = λ service objects number root tree phases ask parent target name done standing at_sealed is.
     let next = with_state number done.state objects in
     goes_on_unseen service objects next root tree phases (with_phase ask.from idle phases) standing.sorted
-    (c.unseen_changes_stand.ensures (directories_of service objects) (directories_of service next) root tree standing.stands
+    (c.unseen_changes_stand.ensures (content_in service objects) (content_in service next) root tree standing.stands
     (looks_same service objects next root (c.preparing_is_unseen.ensures.unsealing service objects number ask target done is)))
     (c.ending_keeps.ensures.unsealed service objects number root phases ask parent target name done standing.owned at_sealed is)
 
@@ -50,6 +50,6 @@ pub returns-clause-forgotten : goal.returns-clause-forgotten
 returns-clause-forgotten c = λ service objects number root tree phases ask parent target done standing is.
     let next = with_state number done.state objects in
     goes_on_unseen service objects next root tree phases phases standing.sorted
-    (c.unseen_changes_stand.ensures (directories_of service objects) (directories_of service next) root tree standing.stands
+    (c.unseen_changes_stand.ensures (content_in service objects) (content_in service next) root tree standing.stands
     (looks_same service objects next root (nothing_seen service objects number done.state (ap (λ (s : State). s.contents) (forgot (site_in service number) (objects number) ask done parent target is).did))))
     (c.ending_keeps.ensures.forgotten service objects number root phases ask parent target done standing.owned is)

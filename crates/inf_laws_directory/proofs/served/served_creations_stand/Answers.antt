@@ -15,7 +15,7 @@ returns-clause-done c = λ service objects number root tree phases ask text path
     let last = put.entry in
     let at = asked_at service objects number root tree phases ask.from path chain last standing at_idle told put.is_asked in
     decides service objects (with_state number done.state objects) root tree phases phases ask.caller (call.Create text mode) answer.Done standing.sorted
-    (c.creates_replay.ensures.done service objects number root tree ask text path name mode chain last done at names is)
+    (c.creates_replay.ensures.done service objects number root tree phases ask text path name mode chain last done at names is)
     (c.creating_keeps.ensures service objects number root phases ask path chain name mode done standing.owned at_idle at.leads is)
 
 pub returns-clause-refused : goal.returns-clause-refused
@@ -24,4 +24,4 @@ returns-clause-refused c = λ service objects number root tree phases ask text p
     let first = asked_if_put site (objects number) ask chain name error
     (failed site (objects number) 0 ask _ _ (create_comes site (objects number) 0 ask chain name mode) (reply.Refused error) is) in
     let at = asked_at service objects number root tree phases ask.from path chain first.value standing at_idle told first.is_asked in
-    c.creates_replay.ensures.refused service objects number root tree ask text path name mode chain first.value error at names is
+    c.creates_replay.ensures.refused service objects number root tree phases ask text path name mode chain first.value error at names is

@@ -1,7 +1,7 @@
 use Rattle.inf_base.specs.declared.answer.Answer.TheVariants as answer
 use Rattle.inf_base.specs.declared.call.Call.TheVariants as call
 use Rattle.inf_tree.specs.Apply.{apply}
-use Rattle.inf_laws_directory.specs.Objects.{directories_of, site_in, with_state}
+use Rattle.inf_laws_directory.specs.Objects.{content_in, site_in, with_state}
 use Rattle.inf_laws_directory.proofs.Replayed.{walk_refused}
 use Rattle.inf_laws_directory.proofs.SameContents.{kept_stay, nothing_seen}
 use Rattle.inf_laws_directory.proofs.StandingFacts.{asked_at, decides, looks_same}
@@ -22,8 +22,8 @@ returns-clause-told c = λ service objects number root tree phases ask text path
     let first = was_looked.passed in
     let same = ap (λ (s : State). s.contents) was_looked.did in
     let at = asked_at service objects number root tree phases ask.from path chain first.entry standing at_idle told first.is_asked in
-    let answers = c.stats_replay.ensures.told service objects number root tree ask text path name chain first.entry done kind meta at names is given in
-    let stands = c.unseen_changes_stand.ensures (directories_of service objects) (directories_of service next) root (apply tree ask.caller (call.Stat text)).tree
+    let answers = c.stats_replay.ensures.told service objects number root tree phases ask text path name chain first.entry done kind meta at names is given in
+    let stands = c.unseen_changes_stand.ensures (content_in service objects) (content_in service next) root (apply tree ask.caller (call.Stat text)).tree
     answers.stands (looks_same service objects next root (nothing_seen service objects number done.state same)) in
     decides service objects next root tree phases phases ask.caller (call.Stat text) (answer.Stat kind meta) standing.sorted
     (record { answered = answers.answered; stands = stands }) (kept_stay service objects number done.state same root phases standing.owned)
@@ -34,7 +34,7 @@ returns-clause-not_told c = λ service objects number root tree phases ask text 
     let first = asked_if_look site (objects number) ask chain name error
     (failed site (objects number) 0 ask _ _ (stat_comes site (objects number) 0 ask chain name) (reply.Refused error) is) in
     let at = asked_at service objects number root tree phases ask.from path chain first.value standing at_idle told first.is_asked in
-    c.stats_replay.ensures.refused service objects number root tree ask text path name chain first.value error at names is
+    c.stats_replay.ensures.refused service objects number root tree phases ask text path name chain first.value error at names is
 
 pub returns-clause-stopped : goal.returns-clause-stopped
 returns-clause-stopped c = λ service objects number root tree phases ask asked text path rest name next chain error standing at_idle told on names is.
@@ -51,4 +51,4 @@ returns-clause-no_directory c = λ service objects number root tree phases ask t
     let first = asked_if_none site (objects number) ask chain name error
     (failed site (objects number) 0 ask _ _ (rmdir_name_comes site (objects number) 0 ask chain name) (reply.Refused error) is) in
     let at = asked_at service objects number root tree phases ask.from path chain first.value standing at_idle told first.is_asked in
-    c.removals_of_no_directory_replay.ensures service objects number root tree ask text path name chain first.value error at names is
+    c.removals_of_no_directory_replay.ensures service objects number root tree phases ask text path name chain first.value error at names is

@@ -5,6 +5,6 @@ pub returns : goal.returns
 unfolding IsStrictlySortedBy
 returns c = λ service phases idle. record {
   sorted = (tt, tt);
-  stands = c.opening_stands.ensures service;
+  stands = c.opening_stands.ensures service phases;
   owned = c.opening_is_owned.ensures service phases idle;
 }

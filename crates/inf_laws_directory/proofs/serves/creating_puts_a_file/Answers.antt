@@ -5,7 +5,7 @@ use Rattle.inf_base.specs.Same.{dir_of}
 use Rattle.inf_content.specs.Contents.{slots_at}
 use Rattle.inf_content.specs.Slots.{with_slot}
 use Rattle.inf_laws_directory.specs.Changes.{Puts}
-use Rattle.inf_laws_directory.specs.Objects.{directories_of, site_in}
+use Rattle.inf_laws_directory.specs.Objects.{content_in, site_in}
 use Rattle.inf_laws_directory.specs.Serves.{directories_after}
 use Rattle.inf_laws_directory.specs.Things.{a_file, thing_in}
 use Rattle.inf_server.specs.Files.{new_file}
@@ -25,7 +25,7 @@ returns c = λ service objects number ask chain last name mode done is at_last.
     let slot = file (new_file ask.caller mode) None in
     let same : put.entry ≡ last = cc (put.is_asked.last, at_last) in
     let slots = slots_at dir (objects number).contents in
-    subst (λ (e : Entry). Puts (directories_of service objects) (directories_after service objects number done.state) (dir_of e.access) name (a_file (new_file ask.caller mode))) same
+    subst (λ (e : Entry). Puts (content_in service objects) (directories_after service objects number done.state) (dir_of e.access) name (a_file (new_file ask.caller mode))) same
     (put_by service objects number done.state dir (with_slot name slot) has name
     (λ other apart. ap thing_in (with_slot_apart name other slot slots apart))
     (a_file (new_file ask.caller mode)) (ap thing_in put.free) (ap thing_in (with_slot_here name slot slots)))

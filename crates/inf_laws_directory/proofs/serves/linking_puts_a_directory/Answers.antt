@@ -8,7 +8,7 @@ use Rattle.inf_content.specs.Contents.{slots_at}
 use Rattle.inf_content.specs.Slot.{filled, linked, reserves}
 use Rattle.inf_content.specs.Slots.{filled_in, first}
 use Rattle.inf_laws_directory.specs.Changes.{Puts}
-use Rattle.inf_laws_directory.specs.Objects.{directories_of, site_in}
+use Rattle.inf_laws_directory.specs.Objects.{content_in, site_in, slots_kept}
 use Rattle.inf_laws_directory.specs.Serves.{directories_after}
 use Rattle.inf_laws_directory.specs.Things.{a_dir, thing_in}
 use Rattle.inf_laws_directory.proofs.ContentFacts.{slots_sorted}
@@ -30,9 +30,9 @@ returns c = λ service objects number ask chain last dir mode name by access don
     let slots = slots_at place (objects number).contents in
     let here : first (reserves ask.from) slots ≡ Some (name, reserved by access) =
     ap (first (reserves ask.from)) (sym (slots_here service objects number done.state place has.here))
-    ∙ ap (λ (e : Entry). first (reserves ask.from) (directories_of service objects (dir_of e.access))) same ∙ at_first in
+    ∙ ap (λ (e : Entry). first (reserves ask.from) (slots_kept service objects (dir_of e.access))) same ∙ at_first in
     let changed = first_is_changed (reserves ask.from) (filled link) slots (name, reserved by access) (slots_sorted place (objects number).contents ordered.names) here in
-    subst (λ (e : Entry). Puts (directories_of service objects) (directories_after service objects number done.state) (dir_of e.access) name (a_dir (linked link access))) same
+    subst (λ (e : Entry). Puts (content_in service objects) (directories_after service objects number done.state) (dir_of e.access) name (a_dir (linked link access))) same
     (put_by service objects number done.state place (filled_in ask.from link) has name
     (λ other apart. ap thing_in (changed.others other apart))
     (a_dir (linked link access)) (ap thing_in changed.old) (ap thing_in changed.new))

@@ -1,12 +1,15 @@
-use Rattle.std.proofs.Common.{List, refl, ap, ◌∙◌}
+use Rattle.std.proofs.Common.{◌≡◌, None, Some, refl, sym, ap, ◌∙◌}
+use Rattle.inf_base.specs.declared.directory.DirRef.{DirRef}
 use Rattle.inf_base.specs.Content.{Content, reserved}
+use Rattle.inf_base.specs.Identity.{identity}
 use Rattle.inf_base.specs.Same.{dir_of}
-use Rattle.inf_content.specs.Contents.{slots_at}
+use Rattle.inf_content.specs.Contents.{empty_content, if_born, seal_left, slots_at}
 use Rattle.inf_content.specs.Slots.{lifted, with_slot}
 use Rattle.inf_laws_server.specs.Edits as edit
-use Rattle.inf_laws_directory.specs.Objects.{site_in}
-use Rattle.inf_laws_directory.proofs.ContentFacts.{slots_kept, slots_made, slots_sorted}
-use Rattle.inf_laws_directory.proofs.ServiceFacts.{unseen_by, unseen_where_same}
+use Rattle.inf_laws_directory.specs.Objects.{content_in, site_in, with_state}
+use Rattle.inf_laws_directory.proofs.ContentFacts.{slots_sorted}
+use Rattle.inf_laws_directory.proofs.Kept.{changed_becomes, content_here, made_becomes}
+use Rattle.inf_laws_directory.proofs.ServiceFacts.{thing_found, unseen_beside_slots, unseen_by, unseen_so}
 use Rattle.inf_laws_directory.proofs.SlotFacts.{lifted_unseen, reserved_unseen}
 use Rattle.inf_server.specs.State.{State}
 use Rattle.inf_laws_directory.proofs.ServedKinds.{cancelled, has_edited, has_lifted, made, reserved_name, sealed_so, unsealed}
@@ -30,8 +33,14 @@ returns-clause-reserving c = λ service objects number ask chain name done is.
 
 pub returns-clause-making : goal.returns-clause-making
 returns-clause-making c = λ service objects number place ask birth done is.
-    let new = ap (λ (s : State). s.contents) (made (site_in service number) (objects number) ask done place birth is).did in
-    unseen_where_same service objects number done.state (λ dir. ap (λ (cs : List Content). slots_at dir cs) new ∙ slots_made _ place birth ask.from dir (objects number).contents)
+    let was_made = made (site_in service number) (objects number) ask done place birth is in
+    let id = identity service.digest birth in
+    let dir : DirRef = record { id = id; born = place } in
+    let none : content_in service objects dir ≡ None =
+        content_here service objects number done.state dir was_made.passed.here ∙ ap (if_born place) was_made.passed.is_new in
+    unseen_so service objects (with_state number done.state objects) dir (Some (empty_content id place birth ask.from))
+    (made_becomes service objects number done.state id place birth ask.from was_made.passed.here was_made.passed.is_new (ap (λ (s : State). s.contents) was_made.did))
+    (λ there. refl) (λ name. sym (ap (thing_found name) none))
 
 pub returns-clause-cancelling : goal.returns-clause-cancelling
 returns-clause-cancelling c = λ service objects number ask dir done ordered is.
@@ -43,9 +52,14 @@ returns-clause-cancelling c = λ service objects number ask dir done ordered is.
 pub returns-clause-sealing : goal.returns-clause-sealing
 returns-clause-sealing c = λ service objects number ask chain done is.
     let seals = sealed_so (site_in service number) (objects number) ask done chain is in
-    unseen_where_same service objects number done.state (λ other. ap (λ (s : State). slots_at other s.contents) seals.did ∙ slots_kept (dir_of seals.passed.entry.access) other _ (objects number).contents (λ c. refl) (λ c. refl))
+    let dir = dir_of seals.passed.entry.access in
+    let change = λ (c : Content). record c { seal = Some ask.from } in
+    unseen_beside_slots service objects number done.state dir change (λ c. refl)
+    (changed_becomes service objects number done.state dir seals.passed.is_asked.here change (λ c. refl) (ap (λ (s : State). s.contents) seals.did))
 
 pub returns-clause-unsealing : goal.returns-clause-unsealing
 returns-clause-unsealing c = λ service objects number ask dir done is.
-    let new = ap (λ (s : State). s.contents) (unsealed (site_in service number) (objects number) ask done dir is).did in
-    unseen_where_same service objects number done.state (λ other. ap (λ (cs : List Content). slots_at other cs) new ∙ slots_kept dir other _ (objects number).contents (λ c. refl) (λ c. refl))
+    let was_unsealed = unsealed (site_in service number) (objects number) ask done dir is in
+    let change = λ (c : Content). record c { seal = seal_left ask.from c.seal } in
+    unseen_beside_slots service objects number done.state dir change (λ c. refl)
+    (changed_becomes service objects number done.state dir was_unsealed.passed.here change (λ c. refl) (ap (λ (s : State). s.contents) was_unsealed.did))

@@ -5,7 +5,7 @@ use Rattle.inf_base.specs.Same.{dir_of}
 use Rattle.inf_content.specs.Contents.{slots_at}
 use Rattle.inf_content.specs.Slots.{slot_in, without_slot}
 use Rattle.inf_laws_directory.specs.Changes.{Takes}
-use Rattle.inf_laws_directory.specs.Objects.{directories_of, site_in}
+use Rattle.inf_laws_directory.specs.Objects.{content_in, site_in}
 use Rattle.inf_laws_directory.specs.Serves.{StandsAs, directories_after}
 use Rattle.inf_laws_directory.specs.Things.{thing_in, thing_under}
 use Rattle.inf_laws_directory.proofs.ContentFacts.{slots_sorted}
@@ -26,8 +26,8 @@ returns-clause-stood c = λ service objects number ask chain target parent dir n
     let same_parent : taken.entry ≡ parent = cc (taken.is_asked.last, at_parent) in
     let named = named_so taken.target target dir taken.name name taken.named same_target at_name in
     let stood = subst (λ (slots : List (List ℕ × Slot)). StandsAs (dir_of taken.target.access) (thing_in (slot_in taken.name slots))) (sym (slots_here service objects number done.state place has.here)) (unlinked_stood (site_in service number) (objects number) ask chain taken) in
-    let there = subst₂ (λ (e : Entry) (n : List ℕ). StandsAs (dir_of taken.target.access) (thing_under n (dir_of e.access) (directories_of service objects))) same_parent named stood in
-    subst (λ (e : Entry). StandsAs (dir_of e.access) (thing_under name (dir_of parent.access) (directories_of service objects))) same_target there
+    let there = subst₂ (λ (e : Entry) (n : List ℕ). StandsAs (dir_of taken.target.access) (thing_under n (dir_of e.access) (content_in service objects))) same_parent named stood in
+    subst (λ (e : Entry). StandsAs (dir_of e.access) (thing_under name (dir_of parent.access) (content_in service objects))) same_target there
 
 pub returns-clause-takes : goal.returns-clause-takes
 returns-clause-takes c = λ service objects number ask chain target parent dir name done ordered is at_last at_name at_parent.
@@ -39,7 +39,7 @@ returns-clause-takes c = λ service objects number ask chain target parent dir n
     let same_target : taken.target ≡ target = cc (taken.last, at_last) in
     let same_parent : taken.entry ≡ parent = cc (taken.is_asked.last, at_parent) in
     let named = named_so taken.target target dir taken.name name taken.named same_target at_name in
-    subst₂ (λ (e : Entry) (n : List ℕ). Takes (directories_of service objects) (directories_after service objects number done.state) (dir_of e.access) n) same_parent named
+    subst₂ (λ (e : Entry) (n : List ℕ). Takes (content_in service objects) (directories_after service objects number done.state) (dir_of e.access) n) same_parent named
     (taken_by service objects number done.state place (without_slot taken.name) has taken.name
     (λ other apart. ap thing_in (without_slot_apart taken.name other slots apart))
     (ap thing_in (without_slot_gone taken.name slots (slots_sorted place (objects number).contents ordered.names))))

@@ -9,4 +9,7 @@ returns c = λ old new root tree stands looks. record {
   shows = λ path. ap (option_map shown_thing) (looks_same_at old new root looks path) ∙ stands.shows path;
   once = λ path other access same at other_at is.
       stands.once path other access same (sym (looks_same_at old new root looks path) ∙ at) (sym (looks_same_at old new root looks other) ∙ other_at) is;
+  there = λ path access at.
+      let reached = sym (looks_same_at old new root looks path) ∙ at in
+      (looks path access reached).stays (stands.there path access reached);
 }

@@ -1,8 +1,9 @@
 use Rattle.std.proofs.Common.{◌≡◌, get_or, subst}
 use Rattle.inf_base.specs.declared.answer.Answer.{Answer}
-use Rattle.inf_laws_history.proofs.BearerCauses.{again_is_because}
+use Rattle.inf_laws_history.proofs.BusyCauses.{again_is_because}
 use Rattle.inf_laws_history.proofs.BehindEntries.{behind_entries}
-use Rattle.inf_laws_history.proofs.ToldResults.{IsCausedFor, results_rest}
+use Rattle.inf_laws_history.proofs.ResultCauses.{IsCausedFor}
+use Rattle.inf_laws_history.proofs.ToldResults.{results_rest}
 use Rattle.inf_laws_history.proofs.causes.again_names_a_change_in_flight.Goals as goal
 use Rattle.inf_message.specs.declared.call_result.CallResult.{CallResult}
 

@@ -5,7 +5,8 @@ use Rattle.inf_base.specs.declared.triple.Triple.{Triple}
 use Rattle.inf_laws_history.specs.Causes.{IsClashBecause}
 use Rattle.inf_message.specs.declared.call_result.CallResult.{CallResult}
 use Rattle.inf_laws_history.proofs.ClashCauses.{clash_is_of_two_births}
-use Rattle.inf_laws_history.proofs.ToldResults.{IsCausedFor, results_rest}
+use Rattle.inf_laws_history.proofs.ResultCauses.{IsCausedFor}
+use Rattle.inf_laws_history.proofs.ToldResults.{results_rest}
 use Rattle.inf_laws_history.proofs.causes.clashes_are_of_two_births.Goals as goal
 
 pub returns : goal.returns

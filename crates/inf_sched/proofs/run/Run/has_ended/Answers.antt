@@ -3,7 +3,7 @@ use Rattle.inf_core.specs.Core.{world_in}
 use Rattle.inf_sched.specs.Run.{Playing, scene_of}
 use Rattle.inf_sched.specs.Scene.{has_ended}
 use Rattle.inf_sched.proofs.OpeningFacts.{ended_same}
-use Rattle.inf_sched.proofs.RunFacts.{got_there}
+use Rattle.inf_sched.proofs.RunQueues.{got_there}
 use Rattle.inf_sched.proofs.run.Run.has_ended.Goals as goal
 
 pub returns-else-has_given_up : goal.returns-else-has_given_up

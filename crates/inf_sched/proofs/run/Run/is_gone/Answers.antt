@@ -2,7 +2,7 @@ use Rattle.std.proofs.Common.{◌≡◌, ◌<◌, length, subst, ◌∙◌, rule
 use Rattle.inf_sched.specs.Run.{Playing, scene_of}
 use Rattle.inf_sched.specs.Scene.{is_gone}
 use Rattle.inf_sched.proofs.OpeningFacts.{gone_same_as}
-use Rattle.inf_sched.proofs.RunFacts.{got_there}
+use Rattle.inf_sched.proofs.RunQueues.{got_there}
 use Rattle.inf_sched.proofs.run.Run.is_gone.Goals as goal
 
 pub returns : goal.returns

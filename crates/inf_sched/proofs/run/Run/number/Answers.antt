@@ -2,7 +2,7 @@ use Rattle.std.proofs.Common.{◌≡◌, ◌<◌, false, length, subst, ◌∙�
 use Rattle.inf_core.specs.Core.{world_in}
 use Rattle.inf_sched.specs.Run.{Playing, scene_of}
 use Rattle.inf_sched.specs.Scene.{is_gone, number_in}
-use Rattle.inf_sched.proofs.RunFacts.{got_there}
+use Rattle.inf_sched.proofs.RunQueues.{got_there}
 use Rattle.inf_sched.proofs.OpeningFacts.{number_same}
 use Rattle.inf_sched.proofs.run.Run.number.Goals as goal
 

@@ -2,7 +2,8 @@ use Rattle.std.proofs.Common.{◌≡◌, Some, subst, ◌∙◌, rules, arith}
 use Rattle.inf_core.specs.Core.{world_in}
 use Rattle.inf_sched.specs.Run.{Playing}
 use Rattle.inf_sched.specs.Waiting.{is_for, oldest}
-use Rattle.inf_sched.proofs.RunFacts.{got_there, if_waiting, kept_front_by, oldest_of_is}
+use Rattle.inf_sched.proofs.RunFacts.{kept_front_by}
+use Rattle.inf_sched.proofs.RunQueues.{got_there, if_waiting, oldest_of_is}
 use Rattle.inf_sched.proofs.run.Run.oldest_of.Goals as goal
 
 pub returns-clause-oldest : goal.returns-clause-oldest

@@ -2,7 +2,8 @@ use Rattle.std.proofs.Common.{◌≡◌, None, subst, ◌∙◌, rules, arith}
 use Rattle.inf_core.specs.Core.{world_in}
 use Rattle.inf_sched.specs.Run.{Playing}
 use Rattle.inf_sched.specs.Waiting.{is_for, oldest}
-use Rattle.inf_sched.proofs.RunFacts.{got_there, if_waiting, kept_front_to, oldest_to_is}
+use Rattle.inf_sched.proofs.RunFacts.{kept_front_to}
+use Rattle.inf_sched.proofs.RunQueues.{got_there, if_waiting, oldest_to_is}
 use Rattle.inf_sched.proofs.run.Run.oldest_to.Goals as goal
 
 pub returns-clause-oldest : goal.returns-clause-oldest

@@ -1,6 +1,7 @@
 use Rattle.std.proofs.Common.{◌<◌, length, rules, arith}
 use Rattle.inf_core.specs.Core.{world_in}
-use Rattle.inf_sched.proofs.RunFacts.{got_there, kept_in, kept_served, makes_serve, serves_in, waiting_client, waits_in}
+use Rattle.inf_sched.proofs.RunFacts.{kept_in, kept_served, makes_serve, serves_in, waits_in}
+use Rattle.inf_sched.proofs.RunQueues.{got_there, waiting_client}
 use Rattle.inf_sched.proofs.ServeFacts.{same_world}
 use Rattle.inf_sched.proofs.run.Run.serve.Goals as goal
 

@@ -1,7 +1,8 @@
 use Rattle.std.proofs.Common.{◌<◌, length, rules, arith}
 use Rattle.inf_core.specs.Core.{world_in}
 use Rattle.inf_sched.specs.Run.{Asked, HasGivenUp, HasRested}
-use Rattle.inf_sched.proofs.RunFacts.{asked_server, asks_in, gives_up, got_there, has_no_ask, kept_gave_up, kept_in, kept_pushed, kept_rested, makes_ask, rests_in, rests_same}
+use Rattle.inf_sched.proofs.RunFacts.{asks_in, gives_up, has_no_ask, kept_gave_up, kept_in, kept_pushed, kept_rested, makes_ask, rests_in, rests_same}
+use Rattle.inf_sched.proofs.RunQueues.{asked_server, got_there}
 use Rattle.inf_sched.proofs.ServeFacts.{same_world}
 use Rattle.inf_sched.proofs.run.Run.step.Goals as goal
 

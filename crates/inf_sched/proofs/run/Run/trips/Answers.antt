@@ -3,7 +3,7 @@ use Rattle.inf_core.specs.Core.{world_in}
 use Rattle.inf_message.specs.History.{trips_of}
 use Rattle.inf_sched.specs.Run.{Playing}
 use Rattle.inf_sched.proofs.ShownFacts.{trips_same}
-use Rattle.inf_sched.proofs.RunFacts.{got_there}
+use Rattle.inf_sched.proofs.RunQueues.{got_there}
 use Rattle.inf_sched.proofs.run.Run.trips.Goals as goal
 
 pub returns : goal.returns

@@ -1,0 +1,188 @@
+-- What clients send is built, along short chains and to a server that is there: flows, and the courses of paths.
+use Rattle.std.proofs.Common.{◌≡◌, ℕ, ◌+◌, ◌<◌, ◌≤◌, Bool, true, false, if◌then◌else◌, List, [], ◌∷◌, length, Option, None, Some, Result, Ok, Err, refl, subst, nat_le, nat_lt, All, arith, rules}
+use Rattle.std.proofs.lemmas.Bool.Decides.{nat_tests}
+use Rattle.inf_base.specs.declared.call.Call.{Call}
+use Rattle.inf_base.specs.declared.call.Call.TheVariants as call
+use Rattle.inf_base.specs.declared.directory.DirRef.{DirRef}
+use Rattle.inf_base.specs.declared.entry.Entry.{Entry}
+use Rattle.inf_base.specs.declared.errno.Errno.{Errno}
+use Rattle.inf_base.specs.declared.errno.Errno.TheVariants as errno
+use Rattle.inf_base.specs.declared.id.Id.{Id}
+use Rattle.inf_base.specs.declared.limits.TheConstants.{MOST_NAME_BYTES, MOST_PATH_NAMES}
+use Rattle.inf_base.specs.declared.triple.Triple.{Triple}
+use Rattle.inf_base.specs.declared.triple.Triple.TheVariants as triple
+use Rattle.inf_base.specs.Path.{first_fault, is_absolute, is_reserved, name_fault, or_later, path_of, pieces_of, unless_at_fault}
+use Rattle.inf_base.specs.Same.{dir_of}
+use Rattle.inf_duty.specs.Duty.{asked}
+use Rattle.inf_flow_dir.specs.Client.{Stage, act, compose, round, winds}
+use Rattle.inf_flow_dir.specs.Flow.{Flow, Who, after_unlink, birth_of, clean_up, finishes, forget_in, last_dir, last_entry, last_id, lift, links, lives_at, makes, message_of, reserves, row_of, seals, to, unlinks, way_to}
+use Rattle.inf_flow_dir.specs.Group.{Course, course_at, course_in, next_course, rmdir_stop, split, text_of}
+use Rattle.inf_flow_dir.specs.Turn.{Turn, goes_on, winds_up}
+use Rattle.inf_duty.proofs.BegunKept.{if_both}
+use Rattle.inf_message.specs.declared.request.Request.{Request}
+use Rattle.inf_message.specs.declared.request.Request.TheVariants as request
+use Rattle.inf_message.specs.declared.step.Message.{Message}
+use Rattle.inf_server.specs.Chains.{HasShortChains}
+use Rattle.inf_server.specs.Machine.{is_built, is_built_op}
+
+-- ---- messages
+
+-- what servers may be asked, of so many beside the coordinator
+pub record IsKnown (servers number : ℕ) (asked : Request) : Type 0 where
+  pub built : is_built asked ≡ true
+  pub short_chains : HasShortChains asked
+  pub there : 1 ≤ servers → number < servers
+
+abbrev pub IsKnownMessage : ℕ → Message → Type 0
+IsKnownMessage servers m = IsKnown servers m.number m.request
+
+abbrev pub AreKnown : ℕ → List Message → Type 0
+AreKnown servers [] = Unit {0}
+AreKnown servers (m ∷ ms) = IsKnownMessage servers m × AreKnown servers ms
+
+-- the server that keeps an identifier is there
+pub known : (who : Who) (id : Id) (asked : Request) → is_built asked ≡ true → HasShortChains asked → IsKnownMessage who.servers (to who id asked)
+known who id asked built short = record { built = built; short_chains = short; there = λ some. omega arith }
+
+abbrev pub IsShort : List Entry → Type 0
+IsShort chain = length chain ≤ MOST_PATH_NAMES + 1
+
+abbrev pub AreShort : List (List Entry) → Type 0
+AreShort chains = All (λ (chain : List Entry). length chain ≤ MOST_PATH_NAMES + 1) chains
+
+pub no_chain : AreShort []
+no_chain = search rules
+
+one_chain : (chain : List Entry) → IsShort chain → AreShort (chain ∷ [])
+one_chain chain short = search (rules, arith)
+
+-- ---- flows
+
+abbrev pub IsKnownFlow : Flow → Type 0
+IsKnownFlow (finishes chain what) = IsShort chain × (is_built_op what ≡ true)
+IsKnownFlow (reserves chain name mode) = IsShort chain
+IsKnownFlow (makes chain name mode version id) = IsShort chain
+IsKnownFlow (links chain name mode version dir) = IsShort chain
+IsKnownFlow (seals chain) = IsShort chain
+IsKnownFlow (unlinks chain) = IsShort chain
+
+module _ (who : Who) where
+  pub flow_known : (flow : Flow) → IsKnownFlow flow → IsKnownMessage who.servers (message_of who flow)
+  flow_known (finishes chain with) is = known who (last_id who chain) (request.Finish chain with) is.1 (one_chain chain is.0)
+  flow_known (reserves chain name mode) is = known who (last_id who chain) (request.Reserve chain name) refl (one_chain chain is)
+  flow_known (makes chain name mode version id) is =
+      known who id (request.Make (birth_of who chain name version)) refl no_chain
+  flow_known (links chain name mode version dir) is =
+      known who (last_id who chain) (request.Link chain name dir mode) refl (one_chain chain is)
+  flow_known (seals chain) is = known who (last_id who chain) (request.Seal chain) refl (one_chain chain is)
+  flow_known (unlinks chain) is = known who (last_id who (way_to chain)) (request.Unlink chain) refl (one_chain chain is)
+
+  cancel_known : (dir : DirRef) → IsKnownMessage who.servers (lift who dir request.Cancel)
+  cancel_known dir = known who dir.id (request.Cancel dir) refl no_chain
+
+  drop_known : (dir : DirRef) → IsKnownMessage who.servers (lift who dir request.Drop)
+  drop_known dir = known who dir.id (request.Drop dir) refl no_chain
+
+  unseal_known : (dir : DirRef) → IsKnownMessage who.servers (lift who dir request.Unseal)
+  unseal_known dir = known who dir.id (request.Unseal dir) refl no_chain
+
+  pub clean_up_known : (flow : Flow) → AreKnown who.servers (clean_up who flow)
+  clean_up_known (finishes chain with) = tt
+  clean_up_known (reserves chain name mode) = tt
+  clean_up_known (makes chain name mode version id) = (cancel_known (last_dir chain), tt)
+  clean_up_known (links chain name mode version dir) = (drop_known dir, (cancel_known (last_dir chain), tt))
+  clean_up_known (seals chain) = tt
+  clean_up_known (unlinks chain) = (unseal_known (last_dir chain), tt)
+
+  forget_known : (dir : DirRef) (birth : Triple) → AreKnown who.servers (forget_in who dir birth)
+  forget_known dir triple.Root = tt
+  forget_known dir (triple.Of parent name version) = (known who parent (request.Forget parent dir) refl no_chain, tt)
+
+  row_known : (parent : Id) (last : Option Entry) → AreKnown who.servers (row_of who parent last)
+  row_known parent None = tt
+  row_known parent (Some entry) =
+      if_both (AreKnown who.servers) (lives_at parent entry.key entry.access.birth) _ _ tt (forget_known (dir_of entry.access) entry.access.birth)
+
+  pub after_unlink_known : (chain : List Entry) → AreKnown who.servers (after_unlink who chain)
+  after_unlink_known chain = (drop_known (last_dir chain), row_known (last_id who (way_to chain)) (last_entry chain))
+
+-- ---- stages and turns
+
+abbrev pub IsKnownStage : ℕ → Stage → Type 0
+IsKnownStage servers compose = Unit {0}
+IsKnownStage servers (round keys) = Unit {0}
+IsKnownStage servers (act flow) = IsKnownFlow flow
+IsKnownStage servers (winds ending m ms) = IsKnownMessage servers m × AreKnown servers ms
+
+abbrev pub IsKnownTurn : ℕ → Turn → Type 0
+IsKnownTurn servers (goes_on next) = IsKnownStage servers next
+IsKnownTurn servers (winds_up ending more) = AreKnown servers more
+
+-- ---- courses
+
+-- the names that are looked up are those of a path, and what is done then is of a kind that servers know
+pub record IsKnownCourse (course : Course) : Type 0 where
+  pub looked : length course.looked ≤ MOST_PATH_NAMES
+  pub arrives : (chain : List Entry) → IsShort chain → IsKnownFlow (course.arrive chain)
+  pub stops_at : (name : List ℕ) (rest : List (List ℕ)) → is_built_op (course.stop name rest) ≡ true
+
+abbrev pub IfKnown : Option Course → Type 0
+IfKnown None = Unit {0}
+IfKnown (Some course) = IsKnownCourse course
+
+split_short : (name : List ℕ) (rest : List (List ℕ)) → length (split name rest).0 ≤ length rest
+split_short name [] = omega arith
+split_short name (next ∷ rest) = omega (arith, split_short next rest)
+
+course_in_known : (asked : Call) (names : List (List ℕ) × List ℕ) → length names.0 ≤ MOST_PATH_NAMES → IfKnown (course_in asked names)
+course_in_known (call.Create path mode) (way, name) few = record { looked = few; arrives = λ chain short. (short, refl); stops_at = λ at rest. refl }
+course_in_known (call.Stat path) (way, name) few = record { looked = few; arrives = λ chain short. (short, refl); stops_at = λ at rest. refl }
+course_in_known (call.Mkdir path mode) (way, name) few = record { looked = few; arrives = λ chain short. short; stops_at = λ at rest. refl }
+course_in_known other names few = tt
+
+rmdir_known : (name : List ℕ) (rest : List (List ℕ)) → is_built_op (rmdir_stop name rest) ≡ true
+rmdir_known name [] = refl
+rmdir_known name (next ∷ rest) = refl
+
+-- the first name that is at fault decides, and one too many is at fault
+later_none : (fault later : Option Errno) → or_later fault later ≡ None → later ≡ None
+later_none None later none = none
+later_none (Some error) later none = absurd (cc)
+
+few_before : (b : Bool) (error : Errno) (fault later : Option Errno) → or_later (if b then Some error else fault) later ≡ None → b ≡ false
+few_before true error fault later none = absurd (cc)
+few_before false error fault later none = refl
+
+names_few : (before : ℕ) (names : List (List ℕ)) → before ≤ MOST_PATH_NAMES → first_fault before names ≡ None → before + length names ≤ MOST_PATH_NAMES
+names_few before [] few none = omega arith
+names_few before (name ∷ names) few none =
+    let later = first_fault (before + 1) names in
+    let fault : Option Errno = if nat_lt MOST_NAME_BYTES (length name) then Some errno.ENAMETOOLONG else (if is_reserved name then Some errno.EINVAL else None) in
+    let more : nat_le MOST_PATH_NAMES before ≡ false = few_before (nat_le MOST_PATH_NAMES before) errno.ENAMETOOLONG fault later none in
+    let one_more : before + 1 ≤ MOST_PATH_NAMES = grind (arith, nat_tests) in
+    let rest : before + 1 + length names ≤ MOST_PATH_NAMES = names_few (before + 1) names one_more (later_none (name_fault before name) later none) in
+    omega (arith, rest)
+
+unfaulted : (pieces : List (List ℕ)) (fault : Option Errno) (names : List (List ℕ)) → (fault ≡ None → length pieces ≤ MOST_PATH_NAMES)
+    → unless_at_fault pieces fault ≡ Ok names → length names ≤ MOST_PATH_NAMES
+unfaulted pieces None names few is =
+    let same : pieces ≡ names = cc in
+    subst (λ (ns : List (List ℕ)). length ns ≤ MOST_PATH_NAMES) same (few refl)
+unfaulted pieces (Some error) names few is = absurd (cc)
+
+path_few : (text : List ℕ) (names : List (List ℕ)) → path_of text ≡ Ok names → length names ≤ MOST_PATH_NAMES
+path_few text names is = by (is_absolute text) is
+  where
+    by : (b : Bool) → (if b then unless_at_fault (pieces_of text) (first_fault 0 (pieces_of text)) else Err errno.EINVAL) ≡ Ok names → length names ≤ MOST_PATH_NAMES
+    by true same = unfaulted (pieces_of text) (first_fault 0 (pieces_of text)) names (λ none. let few = names_few 0 (pieces_of text) (omega arith) none in omega (arith, few)) same
+    by false same = absurd (cc)
+
+course_at_known : (asked : Call) (path : Result (List (List ℕ)) Errno) → ((names : List (List ℕ)) → path ≡ Ok names → length names ≤ MOST_PATH_NAMES)
+    → IfKnown (course_at asked path)
+course_at_known (call.Rmdir path) (Ok (name ∷ names)) few = record { looked = few (name ∷ names) refl; arrives = λ chain short. short; stops_at = rmdir_known }
+course_at_known asked (Ok (name ∷ names)) few = course_in_known asked (split name names) (omega (arith, split_short name names, few (name ∷ names) refl))
+course_at_known asked other few = tt
+
+pub next_known : (left : List Call) → IfKnown (next_course left)
+next_known [] = tt
+next_known (next ∷ left) = course_at_known next (path_of (text_of next)) (path_few (text_of next))
