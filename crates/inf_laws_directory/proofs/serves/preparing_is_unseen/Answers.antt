@@ -29,9 +29,12 @@ returns-clause-reserving c = λ service objects number ask chain name done is.
     (λ other. reserved_unseen name other ask.from access (slots_at dir (objects number).contents) put.free)
 
 pub returns-clause-making : goal.returns-clause-making
-returns-clause-making c = λ service objects number place ask birth done is.
-    let new = ap (λ (s : State). s.contents) (made (site_in service number) (objects number) ask done place birth is).did in
-    unseen_where_same service objects number done.state (λ dir. ap (λ (cs : List Content). slots_at dir cs) new ∙ slots_made _ place birth ask.from dir (objects number).contents)
+returns-clause-making c = λ service objects at ask birth done is.
+    let new = ap (λ (s : State). s.contents)
+    (made (site_in service at.number) (objects at.number) ask done at.ask_place birth is).did in
+    unseen_where_same service objects at.number done.state
+    (λ dir. ap (λ (cs : List Content). slots_at dir cs) new
+    ∙ slots_made _ at.ask_place birth ask.from dir (objects at.number).contents)
 
 pub returns-clause-cancelling : goal.returns-clause-cancelling
 returns-clause-cancelling c = λ service objects number ask dir done ordered is.
