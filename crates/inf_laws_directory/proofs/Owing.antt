@@ -113,8 +113,8 @@ module _ (service : Service) (objects : Objects) (at : At) (root : Access) (tree
   abbrev next : Objects
   next = with_state at.number new objects
 
-  abbrev pub IsOwed : Phase → Request → Call → Reply → Type 0
-  IsOwed phase requested asked given = Owes (record {
+  abbrev moment : Phase → Request → Reply → Moment
+  moment phase requested given = record {
     service = service;
     at = at;
     old = objects;
@@ -123,7 +123,10 @@ module _ (service : Service) (objects : Objects) (at : At) (root : Access) (tree
     tree = tree;
     before = phases;
     after = with_phase ask.from (next_phase service at phase requested given) phases;
-  }) ask.caller asked requested given
+  }
+
+  abbrev pub IsOwed : Phase → Request → Call → Reply → Type 0
+  IsOwed phase requested asked given = Owes (moment phase requested given) ask.caller asked requested given
 
   abbrev served_of : Request → Result Response Reply
   served_of requested = on_request site state at.ask_place ask requested
@@ -141,7 +144,7 @@ module _ (service : Service) (objects : Objects) (at : At) (root : Access) (tree
         let stays : with_phase ask.from (next_phase service at phase requested given) phases ≡ phases =
         ap (λ (p : Phase). with_phase ask.from p phases)
         (phase_stays service at phase requested given leaves ∙ sym in_hand) ∙ same_phases ask.from phases in
-        owes_kept _ ask.caller asked requested given leaves refused
+        owes_kept (moment phase requested given) ask.caller asked requested given leaves refused
         (subst (λ (after : Phases). GoesOnOlder service at.ask_place objects next root tree phases after) (sym stays)
         (older service at.ask_place objects next root tree phases phases goes))
 
