@@ -13,6 +13,7 @@ use Rattle.inf_message.specs.declared.reply.Reply.TheVariants as reply
 use Rattle.inf_message.specs.declared.request.Request.{Request}
 use Rattle.inf_message.specs.declared.request.Request.TheVariants as request
 use Rattle.inf_server.specs.Chains.{before_last, last_of}
+use Rattle.inf_laws_directory.specs.At.{At}
 use Rattle.inf_laws_directory.specs.Objects.{Service}
 use Rattle.inf_laws_directory.specs.Phases.{Phase, has_made, has_reserved, has_sealed, has_unlinked, idle}
 
@@ -39,22 +40,24 @@ abbrev pub after_drop : Phase → Phase
 after_drop (has_made parent name birth made) = has_reserved parent name birth
 after_drop other_phase = idle
 
-abbrev pub after_make : Service → ℕ → Phase → Phase
-after_make service place (has_reserved parent name birth) =
-    has_made parent name birth (record { id = identity service.digest birth; born = place })
-after_make service place other_phase = other_phase
+abbrev pub after_make : Service → At → Phase → Phase
+after_make service at (has_reserved parent name birth) =
+    has_made parent name birth (record { id = identity service.digest birth; born = at.ask_place })
+after_make service at other_phase = other_phase
 
--- by the place of the Ask, the request and the reply
-abbrev pub next_phase : Service → ℕ → Phase → Request → Reply → Phase
-next_phase service place phase (request.Reserve chain name) (reply.Reserved version) = reserved_at_end (last_of chain) phase name version
-next_phase service place phase (request.Make birth) reply.Fine = after_make service place phase
-next_phase service place phase (request.Link chain name dir mode) reply.Fine = idle
-next_phase service place phase (request.Cancel dir) reply.Fine = idle
-next_phase service place phase (request.Drop dir) reply.Fine = after_drop phase
-next_phase service place phase (request.Seal chain) reply.Fine = sealed_at_end (last_of (before_last chain)) (last_of chain) phase
-next_phase service place phase (request.Unlink chain) reply.Fine = unlinked_at_end (last_of chain) phase
-next_phase service place phase (request.Unseal dir) reply.Fine = idle
-next_phase service place phase any_request any_reply = phase
+-- by the Serve, the request and the reply
+abbrev pub next_phase : Service → At → Phase → Request → Reply → Phase
+next_phase service at phase (request.Reserve chain name) (reply.Reserved version) =
+    reserved_at_end (last_of chain) phase name version
+next_phase service at phase (request.Make birth) reply.Fine = after_make service at phase
+next_phase service at phase (request.Link chain name dir mode) reply.Fine = idle
+next_phase service at phase (request.Cancel dir) reply.Fine = idle
+next_phase service at phase (request.Drop dir) reply.Fine = after_drop phase
+next_phase service at phase (request.Seal chain) reply.Fine =
+    sealed_at_end (last_of (before_last chain)) (last_of chain) phase
+next_phase service at phase (request.Unlink chain) reply.Fine = unlinked_at_end (last_of chain) phase
+next_phase service at phase (request.Unseal dir) reply.Fine = idle
+next_phase service at phase any_request any_reply = phase
 
 -- the chain ends in this directory
 abbrev pub EndsIn : Option Entry → DirRef → Type 0
@@ -62,18 +65,20 @@ EndsIn None dir = ⊥
 EndsIn (Some last) dir = dir_of last.access ≡ dir
 
 -- a call with nothing in hand looks, finishes, reserves, seals or forgets; one that has something in hand goes on with it,
--- or lets it go
-abbrev pub Fits : Phase → Request → Type 0
-Fits idle (request.Lookup asked) = Unit {0}
-Fits idle (request.Finish chain asked) = Unit {0}
-Fits idle (request.Reserve chain name) = Unit {0}
-Fits idle (request.Seal chain) = Unit {0}
-Fits idle (request.Forget parent dir) = Unit {0}
-Fits (has_reserved parent name birth) (request.Make asked) = asked ≡ birth
-Fits (has_reserved parent name birth) (request.Cancel dir) = dir ≡ parent
-Fits (has_made parent name birth made) (request.Link chain asked dir mode) = EndsIn (last_of chain) parent × (asked ≡ name) × (dir ≡ made)
-Fits (has_made parent name birth made) (request.Drop dir) = dir ≡ made
-Fits (has_sealed parent name target) (request.Unlink chain) = EndsIn (last_of (before_last chain)) parent × EndsIn (last_of chain) target
-Fits (has_sealed parent name target) (request.Unseal dir) = dir ≡ target
-Fits (has_unlinked target) (request.Drop dir) = dir ≡ target
-Fits any_phase any_request = ⊥
+-- or lets it go. No such request is bound to a server or to a place
+abbrev pub Fits : At → Phase → Request → Type 0
+Fits at idle (request.Lookup asked) = Unit {0}
+Fits at idle (request.Finish chain asked) = Unit {0}
+Fits at idle (request.Reserve chain name) = Unit {0}
+Fits at idle (request.Seal chain) = Unit {0}
+Fits at idle (request.Forget parent dir) = Unit {0}
+Fits at (has_reserved parent name birth) (request.Make asked) = asked ≡ birth
+Fits at (has_reserved parent name birth) (request.Cancel dir) = dir ≡ parent
+Fits at (has_made parent name birth made) (request.Link chain asked dir mode) =
+    EndsIn (last_of chain) parent × (asked ≡ name) × (dir ≡ made)
+Fits at (has_made parent name birth made) (request.Drop dir) = dir ≡ made
+Fits at (has_sealed parent name target) (request.Unlink chain) =
+    EndsIn (last_of (before_last chain)) parent × EndsIn (last_of chain) target
+Fits at (has_sealed parent name target) (request.Unseal dir) = dir ≡ target
+Fits at (has_unlinked target) (request.Drop dir) = dir ≡ target
+Fits at any_phase any_request = ⊥

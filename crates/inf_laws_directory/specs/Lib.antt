@@ -1,4 +1,5 @@
 pub mod Answers
+pub mod At
 pub mod Born
 pub mod Changes
 pub mod Fits

@@ -17,6 +17,7 @@ use Rattle.inf_message.specs.declared.request.Request.TheVariants as request
 use Rattle.inf_server.specs.Chains.{before_last, last_of}
 use Rattle.inf_tree.specs.Tree.{Node}
 use Rattle.inf_laws_directory.specs.Answers.{IsCallOn}
+use Rattle.inf_laws_directory.specs.At.{At}
 use Rattle.inf_laws_directory.specs.Objects.{Objects, Service}
 use Rattle.inf_laws_directory.specs.Phases.{Phases}
 use Rattle.inf_laws_directory.specs.Replays.{IsPathOf, IsRefused, MayWrite}
@@ -77,10 +78,10 @@ Aims service objects root phases caller asked (request.Unseal dir) = Unit {0}
 Aims service objects root phases caller asked (request.Forget parent dir) = Unit {0}
 Aims service objects root phases caller asked any_request = ⊥
 
--- the moment of a Serve: what stood, and the Ask's place
+-- the moment of a Serve: what stood before and after it
 pub record Moment : Type 0 where
   pub service : Service
-  pub place : ℕ
+  pub at : At
   pub old : Objects
   pub new : Objects
   pub root : Access
@@ -89,7 +90,7 @@ pub record Moment : Type 0 where
   pub after : Phases
 
 abbrev pub Goes : Moment → Type 0
-Goes m = GoesOnOlder m.service m.place m.old m.new m.root m.tree m.before m.after
+Goes m = GoesOnOlder m.service m.at.ask_place m.old m.new m.root m.tree m.before m.after
 
 abbrev pub Settles : Moment → Caller → Call → Answer → Type 0
 Settles m caller asked given = Decides m.service m.old m.new m.root m.tree m.before m.after caller asked given

@@ -1,9 +1,10 @@
 //! One law over all requests: whatever a server may do with a request that fits what its call has in hand, what stood
 //! for a tree before stands for the tree after, and what decides the call decides it as the tree does.
 
-ghost use Rattle.std.specs.Prelude.{◌≡◌, ℕ};
+ghost use Rattle.std.specs.Prelude.{◌≡◌};
 ghost use Rattle.inf_base.specs.declared.access.Access.{Access};
 ghost use Rattle.inf_base.specs.declared.call.Call.{Call};
+ghost use Rattle.inf_laws_directory.specs.At.{At};
 ghost use Rattle.inf_laws_directory.specs.Fits.{Fits, next_phase};
 ghost use Rattle.inf_laws_directory.specs.Objects.{Objects, Service, site_in, with_state};
 ghost use Rattle.inf_laws_directory.specs.Owes.{Aims, Owes};
@@ -24,20 +25,20 @@ use crate::stands::unseen_changes_stand;
 
 /// What is served owes nothing.
 pub fn what_is_served_stands()
-    ensures { (service : Service) (objects : Objects) (number place : ℕ) (root : Access) (tree : Node) (phases : Phases)
+    ensures { (service : Service) (objects : Objects) (at : At) (root : Access) (tree : Node) (phases : Phases)
         (ask : Ask) (asked : Call) (given : Reply) (new : State)
-        → IsStanding service objects root tree phases → Fits (phases ask.from) ask.request
-        → Aims service objects root phases ask.caller asked ask.request → IsUnborn service objects place
-        → Serves (site_in service number) (objects number) place ask given new
+        → IsStanding service objects root tree phases → Fits at (phases ask.from) ask.request
+        → Aims service objects root phases ask.caller asked ask.request → IsUnborn service objects at.ask_place
+        → Serves (site_in service at.number) (objects at.number) at.ask_place ask given new
         → Owes (record {
           service = service;
-          place = place;
+          at = at;
           old = objects;
-          new = with_state number new objects;
+          new = with_state at.number new objects;
           root = root;
           tree = tree;
           before = phases;
-          after = with_phase ask.from (next_phase service place (phases ask.from) ask.request given) phases;
+          after = with_phase ask.from (next_phase service at (phases ask.from) ask.request given) phases;
         }) ask.caller asked ask.request given }
 {
     unseen_changes_stand();

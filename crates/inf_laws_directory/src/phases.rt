@@ -12,6 +12,7 @@ ghost use Rattle.inf_base.specs.declared.triple.Triple.{Triple};
 ghost use Rattle.inf_base.specs.declared.triple.Triple.TheVariants as triple;
 ghost use Rattle.inf_base.specs.Identity.{identity};
 ghost use Rattle.inf_base.specs.Same.{dir_of};
+ghost use Rattle.inf_laws_directory.specs.At.{At};
 ghost use Rattle.inf_laws_directory.specs.Leads.{Leads};
 ghost use Rattle.inf_laws_directory.specs.Objects.{Objects, Service, shown_of, site_in, with_state};
 ghost use Rattle.inf_laws_directory.specs.Owned.{AreOwned};
@@ -68,14 +69,14 @@ pub fn reserving_keeps()
 
 /// Its content object is made, with a birth that nothing has.
 pub fn making_keeps()
-    ensures { (service : Service) (objects : Objects) (number place : ℕ) (root : Access) (phases : Phases) (ask : Ask)
+    ensures { (service : Service) (objects : Objects) (at : At) (root : Access) (phases : Phases) (ask : Ask)
         (parent : DirRef) (name : List ℕ) (birth : Triple) (done : Response)
         → AreOwned service objects root phases → phases ask.from ≡ has_reserved parent name birth
-        → IsUnborn service objects place
-        → make (site_in service number) (objects number) place ask birth ≡ Ok done
-        → KeepsOlder service place objects (with_state number done.state objects) root phases
+        → IsUnborn service objects at.ask_place
+        → make (site_in service at.number) (objects at.number) at.ask_place ask birth ≡ Ok done
+        → KeepsOlder service at.ask_place objects (with_state at.number done.state objects) root phases
         (with_phase ask.from
-        (has_made parent name birth (record { id = identity service.digest birth; born = place })) phases) }
+        (has_made parent name birth (record { id = identity service.digest birth; born = at.ask_place })) phases) }
 {}
 
 /// It is linked under the name that was kept.

@@ -21,6 +21,7 @@ ghost use Rattle.inf_base.specs.Same.{dir_of};
 ghost use Rattle.inf_laws_directory.specs.Objects.{Objects, Service, site_in, with_state};
 ghost use Rattle.inf_laws_directory.specs.Phases.{Phases, has_made, has_reserved, has_sealed, has_unlinked, idle, with_phase};
 ghost use Rattle.inf_laws_directory.specs.Replays.{IsPathOf, IsRefused, MayWrite};
+ghost use Rattle.inf_laws_directory.specs.At.{At};
 ghost use Rattle.inf_laws_directory.specs.Answers.{IsCallOn};
 ghost use Rattle.inf_laws_directory.specs.Told.{IsUnborn};
 ghost use Rattle.inf_laws_directory.specs.Standing.{Decides, GoesOn, GoesOnOlder, IsStanding, IsToldAlong};
@@ -194,14 +195,14 @@ pub fn served_looks_stand()
 
 /// A content object that is made is not seen.
 pub fn served_makes_stand()
-    ensures { (service : Service) (objects : Objects) (number place : ℕ) (root : Access) (tree : Node) (phases : Phases)
+    ensures { (service : Service) (objects : Objects) (at : At) (root : Access) (tree : Node) (phases : Phases)
         (ask : Ask) (parent : DirRef) (name : List ℕ) (birth : Triple) (done : Response)
         → IsStanding service objects root tree phases → phases ask.from ≡ has_reserved parent name birth
-        → IsUnborn service objects place
-        → make (site_in service number) (objects number) place ask birth ≡ Ok done
-        → GoesOnOlder service place objects (with_state number done.state objects) root tree phases
+        → IsUnborn service objects at.ask_place
+        → make (site_in service at.number) (objects at.number) at.ask_place ask birth ≡ Ok done
+        → GoesOnOlder service at.ask_place objects (with_state at.number done.state objects) root tree phases
         (with_phase ask.from
-        (has_made parent name birth (record { id = identity service.digest birth; born = place })) phases) }
+        (has_made parent name birth (record { id = identity service.digest birth; born = at.ask_place })) phases) }
 {
     preparing_is_unseen();
     unseen_changes_stand();

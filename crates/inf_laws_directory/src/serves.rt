@@ -12,6 +12,7 @@ ghost use Rattle.inf_base.specs.Same.{dir_of};
 ghost use Rattle.inf_content.specs.Order.{AreInOrder};
 ghost use Rattle.inf_content.specs.Slot.{linked, reserves};
 ghost use Rattle.inf_content.specs.Slots.{first};
+ghost use Rattle.inf_laws_directory.specs.At.{At};
 ghost use Rattle.inf_laws_directory.specs.Changes.{Puts, Takes};
 ghost use Rattle.inf_laws_directory.specs.Objects.{Objects, Service, content_in, site_in, slots_kept};
 ghost use Rattle.inf_laws_directory.specs.Serves.{IsUnseen, IsUnseenBeside, StandsAs, directories_after};
@@ -47,10 +48,9 @@ pub fn preparing_is_unseen()
         (name : List ℕ) (done : Response)
         → reserve (site_in service number) (objects number) ask chain name ≡ Ok done
         → IsUnseen (content_in service objects) (directories_after service objects number done.state) }
-    ensures making { (service : Service) (objects : Objects) (number place : ℕ) (ask : Ask) (birth : Triple)
-        (done : Response)
-        → make (site_in service number) (objects number) place ask birth ≡ Ok done
-        → IsUnseen (content_in service objects) (directories_after service objects number done.state) }
+    ensures making { (service : Service) (objects : Objects) (at : At) (ask : Ask) (birth : Triple) (done : Response)
+        → make (site_in service at.number) (objects at.number) at.ask_place ask birth ≡ Ok done
+        → IsUnseen (content_in service objects) (directories_after service objects at.number done.state) }
     ensures cancelling { (service : Service) (objects : Objects) (number : ℕ) (ask : Ask) (dir : DirRef) (done : Response)
         → AreInOrder (objects number).contents → cancel (site_in service number) (objects number) ask dir ≡ Ok done
         → IsUnseen (content_in service objects) (directories_after service objects number done.state) }

@@ -8,6 +8,7 @@ ghost use Rattle.inf_base.specs.declared.item.Item.{Item};
 ghost use Rattle.inf_base.specs.declared.key.Key.{Key};
 ghost use Rattle.inf_base.specs.declared.key.Key.TheVariants as key;
 ghost use Rattle.inf_base.specs.declared.key.LookKey.TheVariants as look;
+ghost use Rattle.inf_laws_directory.specs.At.{At};
 ghost use Rattle.inf_laws_directory.specs.Looked.{IsKeyIn, IsLookup};
 ghost use Rattle.inf_laws_directory.specs.Objects.{Objects, Service, site_in, with_state};
 ghost use Rattle.inf_laws_directory.specs.Owes.{MayWriteAt};
@@ -62,48 +63,48 @@ pub fn the_root_stays()
 
 /// Only lookups are told of an access object, under the key that they asked for; listings are told to nobody yet.
 pub fn lookups_answer_what_was_asked()
-    ensures top { (service : Service) (number place : ℕ) (state new : State) (ask : Ask) (given : Reply) (k : Key)
+    ensures top { (service : Service) (at : At) (state new : State) (ask : Ask) (given : Reply) (k : Key)
         (access : Access)
-        → Serves (site_in service number) state place ask given new → ask.request ≡ request.Lookup look.Top
+        → Serves (site_in service at.number) state at.ask_place ask given new → ask.request ≡ request.Lookup look.Top
         → given ≡ reply.Found k access → k ≡ key.Top }
-    ensures names { (service : Service) (number place : ℕ) (state new : State) (ask : Ask) (given : Reply) (id : Id)
+    ensures names { (service : Service) (at : At) (state new : State) (ask : Ask) (given : Reply) (id : Id)
         (name : List ℕ) (k : Key) (access : Access)
-        → Serves (site_in service number) state place ask given new → ask.request ≡ request.Lookup (look.At id name)
-        → given ≡ reply.Found k access → IsKeyIn id name k }
-    ensures lookups { (service : Service) (number place : ℕ) (state new : State) (ask : Ask) (given : Reply) (k : Key)
+        → Serves (site_in service at.number) state at.ask_place ask given new
+        → ask.request ≡ request.Lookup (look.At id name) → given ≡ reply.Found k access → IsKeyIn id name k }
+    ensures lookups { (service : Service) (at : At) (state new : State) (ask : Ask) (given : Reply) (k : Key)
         (access : Access)
-        → Serves (site_in service number) state place ask given new → given ≡ reply.Found k access
+        → Serves (site_in service at.number) state at.ask_place ask given new → given ≡ reply.Found k access
         → IsLookup ask.request }
-    ensures no_listing { (service : Service) (number place : ℕ) (state new : State) (ask : Ask) (items : List Item)
-        → Serves (site_in service number) state place ask (reply.Listing items) new → ⊥ }
+    ensures no_listing { (service : Service) (at : At) (state new : State) (ask : Ask) (items : List Item)
+        → Serves (site_in service at.number) state at.ask_place ask (reply.Listing items) new → ⊥ }
 {}
 
 /// What a Serve tells of an access object is true.
 pub fn what_is_told_is_true()
-    ensures { (service : Service) (objects : Objects) (number place : ℕ) (root : Access) (phases : Phases) (ask : Ask)
+    ensures { (service : Service) (objects : Objects) (at : At) (root : Access) (phases : Phases) (ask : Ask)
         (k : Key) (access : Access) (new : State)
         → RootStands service objects root
-        → Serves (site_in service number) (objects number) place ask (reply.Found k access) new
+        → Serves (site_in service at.number) (objects at.number) at.ask_place ask (reply.Found k access) new
         → IsToldAs service objects root phases k access }
 {}
 
 /// The root's access object stands after a Serve as it stood.
 pub fn the_root_is_kept()
-    ensures { (service : Service) (objects : Objects) (number place : ℕ) (root : Access) (ask : Ask) (given : Reply)
+    ensures { (service : Service) (objects : Objects) (at : At) (root : Access) (ask : Ask) (given : Reply)
         (new : State)
         → RootStands service objects root
-        → Serves (site_in service number) (objects number) place ask given new
-        → RootStands service (with_state number new objects) root }
+        → Serves (site_in service at.number) (objects at.number) at.ask_place ask given new
+        → RootStands service (with_state at.number new objects) root }
 {}
 
 /// A name is kept, and a directory sealed, for a caller that may write to the directory that this changes.
 pub fn permissions_are_asked_first()
-    ensures reservations { (service : Service) (number place : ℕ) (state new : State) (ask : Ask) (given : Reply)
+    ensures reservations { (service : Service) (at : At) (state new : State) (ask : Ask) (given : Reply)
         (chain : List Entry) (name : List ℕ) (version : ℕ)
-        → Serves (site_in service number) state place ask given new → ask.request ≡ request.Reserve chain name
+        → Serves (site_in service at.number) state at.ask_place ask given new → ask.request ≡ request.Reserve chain name
         → given ≡ reply.Reserved version → MayWriteAt ask.caller chain }
-    ensures seals { (service : Service) (number place : ℕ) (state new : State) (ask : Ask) (given : Reply)
+    ensures seals { (service : Service) (at : At) (state new : State) (ask : Ask) (given : Reply)
         (chain : List Entry)
-        → Serves (site_in service number) state place ask given new → ask.request ≡ request.Seal chain
+        → Serves (site_in service at.number) state at.ask_place ask given new → ask.request ≡ request.Seal chain
         → given ≡ reply.Fine → MayWriteAt ask.caller (before_last chain) }
 {}

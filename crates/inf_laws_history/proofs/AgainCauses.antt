@@ -31,6 +31,7 @@ use Rattle.inf_message.specs.declared.reply.Reply.{Reply}
 use Rattle.inf_message.specs.declared.request.Request.{Request}
 use Rattle.inf_message.specs.declared.request.Request.TheVariants as request
 use Rattle.inf_server.specs.State.{State, is_here}
+use Rattle.inf_laws_directory.specs.At.{At}
 use Rattle.inf_laws_directory.specs.Fits.{Fits}
 use Rattle.inf_laws_directory.specs.Objects.{content_in, slots_kept}
 use Rattle.inf_laws_directory.specs.Owned.{IsUnheld}
@@ -39,7 +40,7 @@ use Rattle.inf_laws_directory.proofs.CallFacts.{same_call_self}
 use Rattle.inf_laws_history.proofs.BlockedRequests.{HasSealed, HasTaken, IsFirst, IsInTheWay, any_at, is_of_self, takes}
 use Rattle.inf_laws_server.specs.Blocked.{IsSealedBy, IsTakenBy}
 use Rattle.inf_laws_history.proofs.PhaseFits.{fits}
-use Rattle.inf_laws_history.proofs.StepFacts.{in_hands}
+use Rattle.inf_laws_history.proofs.StepFacts.{in_hands, next_serve}
 
 -- ---- what is in flight
 
@@ -135,17 +136,17 @@ module _ (world : World) (h : List Event) (number : ℕ) (by : CallRef) where
 -- ---- whose it is
 
 -- what a call with nothing in hand sends first fits no phase but that
-first_fits : (phase : Phase) (asked : Request) → IsFirst asked → Fits phase asked → phase ≡ idle
-first_fits idle asked first fits_it = refl
-first_fits (has_reserved parent name birth) (request.Lookup k) first fits_it = absurd fits_it
-first_fits (has_reserved parent name birth) (request.Seal chain) first fits_it = absurd fits_it
-first_fits (has_made parent name birth made) (request.Lookup k) first fits_it = absurd fits_it
-first_fits (has_made parent name birth made) (request.Seal chain) first fits_it = absurd fits_it
-first_fits (has_sealed parent name target) (request.Lookup k) first fits_it = absurd fits_it
-first_fits (has_sealed parent name target) (request.Seal chain) first fits_it = absurd fits_it
-first_fits (has_unlinked target) (request.Lookup k) first fits_it = absurd fits_it
-first_fits (has_unlinked target) (request.Seal chain) first fits_it = absurd fits_it
-first_fits phase other_request first fits_it = absurd first
+first_fits : (at : At) (phase : Phase) (asked : Request) → IsFirst asked → Fits at phase asked → phase ≡ idle
+first_fits at idle asked first fits_it = refl
+first_fits at (has_reserved parent name birth) (request.Lookup k) first fits_it = absurd fits_it
+first_fits at (has_reserved parent name birth) (request.Seal chain) first fits_it = absurd fits_it
+first_fits at (has_made parent name birth made) (request.Lookup k) first fits_it = absurd fits_it
+first_fits at (has_made parent name birth made) (request.Seal chain) first fits_it = absurd fits_it
+first_fits at (has_sealed parent name target) (request.Lookup k) first fits_it = absurd fits_it
+first_fits at (has_sealed parent name target) (request.Seal chain) first fits_it = absurd fits_it
+first_fits at (has_unlinked target) (request.Lookup k) first fits_it = absurd fits_it
+first_fits at (has_unlinked target) (request.Seal chain) first fits_it = absurd fits_it
+first_fits at phase other_request first fits_it = absurd first
 
 module _ (world : World) (h : List Event) (kept : Kept world h) where
   -- what a server keeps is kept by the service
@@ -197,9 +198,10 @@ module _ (world : World) (h : List Event) (kept : Kept world h) where
     pub waits : Waits (client_after world may.posted.ask.from.client h) place number may.posted.ask
     waits = subst (λ (n : ℕ). Waits asker place n ask) may.to (kept.pending place may.posted may.made may.waits)
 
-    pub asker_fits : Fits (kept.phases may.posted.ask.from) may.posted.ask.request
+    pub asker_fits : Fits (next_serve h number place) (kept.phases may.posted.ask.from) may.posted.ask.request
     asker_fits =
-        fits world.digest (IsTrue world h kept.objects kept.root kept.phases) asker place number ask kept.phases (in_hands world h kept ask.from.client)
+        fits world.digest (IsTrue world h kept.objects kept.root kept.phases) asker (next_serve h number place) ask kept.phases
+        (in_hands world h kept ask.from.client)
         (kept.clients ask.from.client).knows waits
 
     -- of the asking client's calls, only the asking one can have something in hand
@@ -213,7 +215,10 @@ module _ (world : World) (h : List Event) (kept : Kept world h) where
         → by ≡ may.posted.ask.from → ⊥
     apart_by by (inl apart) some same =
         both_ways _ apart (ap (λ (c : CallRef). is_same_call c may.posted.ask.from) same ∙ same_call_self may.posted.ask.from)
-    apart_by by (inr first) some same = some (ap kept.phases same ∙ first_fits (kept.phases may.posted.ask.from) may.posted.ask.request first asker_fits)
+    apart_by by (inr first) some same =
+        some (ap kept.phases same
+        ∙ first_fits (next_serve h number place)
+        (kept.phases may.posted.ask.from) may.posted.ask.request first asker_fits)
 
     -- the call in the way is another client's
     pub way_is_other : (by : CallRef) (at : _) → IsInTheWay (site_of world number) (server_after world number h) may.posted.ask.from may.posted.ask.request by at

@@ -19,7 +19,8 @@ use Rattle.inf_flow_dir.specs.Heard.{heard}
 use Rattle.inf_flow_dir.specs.Turn.{act_turn, after_round}
 use Rattle.inf_laws_client.specs.Asked.{AreAskedFor}
 use Rattle.inf_laws_client.specs.Paths.{StandsOnPath}
-use Rattle.inf_laws_history.specs.Causes.{IsBehindEntry, before}
+use Rattle.inf_laws_directory.specs.At.{At}
+use Rattle.inf_laws_history.specs.Causes.{HasServe, IsBehindEntry, before}
 use Rattle.inf_laws_history.specs.Kept.{Kept}
 use Rattle.inf_laws_history.specs.Legal.{Legal, MayServe}
 use Rattle.inf_laws_history.specs.Objects.{WasAskedIn}
@@ -45,20 +46,27 @@ use Rattle.inf_message.proofs.HistoryLaws.{asked_stays, asked_within, event_stay
 
 -- ---- what lasts
 
+serve_stays : (e : Event) (h : List Event) (at : At) (posted : Posted) (given : Reply) → HasServe h at posted given
+    → HasServe (e ∷ h) at posted given
+serve_stays e h at posted given is =
+    let within = (event_within at.serve_place (event.Serve at.number at.ask_place given) h is.told).within in
+    record {
+      told = event_stays at.serve_place e h within ∙ is.told;
+      asked = ap (asked_at at.ask_place) (before_stays at.serve_place e h (omega (arith, within))) ∙ is.asked;
+    }
+
 behind_stays : (e : Event) (h : List Event) (call : CallRef) (ask_place born : ℕ) → ask_place ≤ length h → IsBehindEntry h call ask_place born
     → IsBehindEntry (e ∷ h) call ask_place born
 behind_stays e h call ask_place born within is = record {
-  place = is.place;
+  at = is.at;
   posted = is.posted;
-  asked = asked_stays is.place e h (asked_within is.place is.posted h is.asked).within ∙ is.asked;
-  own = is.own;
-  earlier = is.earlier;
-  next = λ at other above below found. is.next at other above below (sym (asked_stays at e h (omega (arith, below, within))) ∙ found);
-  number = is.number;
-  told_at = is.told_at;
   key = is.key;
   access = is.access;
-  told = event_stays is.told_at e h (event_within is.told_at (event.Serve is.number is.place (reply.Found is.key is.access)) h is.told).within ∙ is.told;
+  served = serve_stays e h is.at is.posted (reply.Found is.key is.access) is.served;
+  own = is.own;
+  earlier = is.earlier;
+  next = λ between other above below found.
+      is.next between other above below (sym (asked_stays between e h (omega (arith, below, within))) ∙ found);
   same = is.same;
 }
 
@@ -127,17 +135,18 @@ module _ (h : List Event) (call : CallRef) (sent : List Sent) (are : AreServed h
         let two = two_of h call.client sent is.index is.ahead is.busy next is.first is.second in
         let births : is.born ≡ born = (let one = same.hears in cc) in
         record {
-          place = is.ahead.place;
+          at = record { number = ahead.number; ask_place = is.ahead.place; serve_place = is.stamp };
           posted = ahead.posted;
-          asked = asked_before is.stamp is.ahead.place ahead.posted h ahead.asked;
+          key = is.key;
+          access = is.access;
+          served = record {
+            told = ahead.stands ∙ ap (λ (r : Reply). Some (event.Serve ahead.number is.ahead.place r))
+                (heard_found ahead.given is.key is.access ahead.hears);
+            asked = ahead.asked;
+          };
           own = ahead.own;
           earlier = subst (λ p. is.ahead.place < p) (sym same.asked_at_is) two.less;
           next = subst (λ p. NoneBetween h call.client is.ahead.place p) (sym same.asked_at_is) two.none;
-          number = ahead.number;
-          told_at = is.stamp;
-          key = is.key;
-          access = is.access;
-          told = ahead.stands ∙ ap (λ (r : Reply). Some (event.Serve ahead.number is.ahead.place r)) (heard_found ahead.given is.key is.access ahead.hears);
           same = is.same ∙ births;
         });
   }

@@ -92,15 +92,12 @@ again_is_because world keeps h legal results out result by is placed =
     let counts : Counts h result.call result.answer is.place =
     subst (λ (at : Option ℕ). IfSome at (λ place. Counts h result.call result.answer place)) is.placed placed in
     record {
-      place = is.place;
+      at = record { number = is.number; ask_place = is.ask_place; serve_place = is.place };
       placed = is.placed;
-      number = is.number;
-      ask_place = is.ask_place;
       spot = is.spot;
       born = is.born;
-      told = is.told;
       posted = is.posted;
-      asked = is.asked;
+      served = record { told = is.told; asked = is.asked };
       own = is.own;
       behind = λ id name looks. counts.counts is.number is.ask_place by is.spot is.born is.posted id name is.told is.asked looks;
       other = clients;

@@ -88,13 +88,10 @@ clash_is_of_two_births world h legal result own kept is =
     let same : legally.1.posted ≡ is.posted = let one = legally.1.made in let two = is.asked in cc in
     let makes : legally.1.posted.ask.request ≡ request.Make own = ap (λ (p : Posted). p.ask.request) same ∙ is.makes in
     record {
-      place = is.place;
+      at = record { number = is.number; ask_place = is.ask_place; serve_place = is.place };
       placed = is.placed;
-      number = is.number;
-      ask_place = is.ask_place;
-      told = is.told;
       posted = is.posted;
-      asked = is.asked;
+      served = record { told = is.told; asked = is.asked };
       caller = is.caller;
       makes = is.makes;
       unlike = clash_unlike world (before is.place h) legally.0 is.number is.ask_place own kept legally.1 makes;

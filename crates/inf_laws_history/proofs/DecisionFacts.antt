@@ -37,7 +37,7 @@ use Rattle.inf_tree.specs.Tree.{Node}
 pub record Comes (m : Moment) (decided : List Decided) : Type 0 where
   pub tree : Node
   pub standing : IsStanding m.service m.new m.root tree m.after
-  pub told : (key : Key) (access : Access) → (access.born ≡ m.place → ⊥)
+  pub told : (key : Key) (access : Access) → (access.born ≡ m.at.ask_place → ⊥)
       → IsToldAs m.service m.old m.root m.before key access → IsToldAs m.service m.new m.root m.after key access
   pub replays : Replays m.tree decided
   pub leaves : replayed m.tree decided ≡ tree

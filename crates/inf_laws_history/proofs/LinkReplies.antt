@@ -20,6 +20,7 @@ use Rattle.inf_duty.specs.World.{World}
 use Rattle.inf_flow_dir.specs.Client.{ClientState, Stage, act, call_ref, compose, round, winds}
 use Rattle.inf_flow_dir.specs.Flow.{Flow, Who, finishes, id_or_root, last_id, links, makes, message_of, reserves as keeps_name, seals, unlinks}
 use Rattle.inf_flow_dir.specs.Group.{group}
+use Rattle.inf_laws_directory.specs.At.{At}
 use Rattle.inf_laws_directory.specs.Fits.{EndsIn, Fits}
 use Rattle.inf_laws_directory.specs.Owned.{Has}
 use Rattle.inf_laws_directory.specs.Phases.{Phase, Phases, has_made}
@@ -36,6 +37,7 @@ use Rattle.inf_laws_history.proofs.GroupMessages.{look_in, only_one}
 use Rattle.inf_laws_history.proofs.PastLinks.{LinksAt, asker_links}
 use Rattle.inf_laws_history.proofs.PhaseFacts.{IsCleanUp}
 use Rattle.inf_laws_history.proofs.PhaseFits.{IsSentHome, sent_home}
+use Rattle.inf_laws_history.proofs.StepFacts.{next_serve}
 use Rattle.inf_laws_history.proofs.ResultCauses.{asked_before, serve_may}
 use Rattle.inf_message.specs.declared.ask.Ask.{Ask}
 use Rattle.inf_message.specs.declared.event.Event.{Event}
@@ -176,8 +178,10 @@ module _ (world : World) (h : List Event) (kept : Kept world h) (legal : Legal w
   end : HasEnd (last_of chain) has.parent
   end =
       let fits = asker_fits world h kept number place reply.Other may in
-      let of_phase = subst (λ (p : Phase). Fits p may.posted.ask.request) has.phase_is fits in
-      has_end (last_of chain) has.parent (subst (λ (r : Request). Fits (has_made has.parent has.name (triple.Of has.parent.id has.name has.version) dir) r) is of_phase).0
+      let at = next_serve h number place in
+      let of_phase = subst (λ (p : Phase). Fits at p may.posted.ask.request) has.phase_is fits in
+      let made = has_made has.parent has.name (triple.Of has.parent.id has.name has.version) dir in
+      has_end (last_of chain) has.parent (subst (λ (r : Request). Fits at made r) is of_phase).0
 
   server_is : number ≡ server_of has.parent.id world.setup.servers
   server_is =
@@ -212,12 +216,16 @@ module _ (world : World) (h : List Event) (kept : Kept world h) (legal : Legal w
 
 -- a server that is asked to link a directory never replies that this was not asked of it
 pub links_are_not_other : (world : World) → ((h : List Event) → Legal world h → Kept world h) → (h : List Event) → Legal world h
-    → (place number ask_place : ℕ) (given : Reply) (posted : Posted) → event_at place h ≡ Some (event.Serve number ask_place given)
-    → asked_at ask_place h ≡ Some posted → (chain : List Entry) (name : List ℕ) (dir : DirRef) (mode : ℕ)
+    → (at : At) (given : Reply) (posted : Posted)
+    → event_at at.serve_place h ≡ Some (event.Serve at.number at.ask_place given)
+    → asked_at at.ask_place h ≡ Some posted → (chain : List Entry) (name : List ℕ) (dir : DirRef) (mode : ℕ)
     → posted.ask.request ≡ request.Link chain name dir mode → given ≢ reply.Other
-links_are_not_other world keeps h legal place number ask_place given posted told asked chain name dir mode is_link other =
-    let legally = serve_may world h legal place number ask_place reply.Other (told ∙ ap (λ (r : Reply). Some (event.Serve number ask_place r)) other) in
-    let found = asked_before place ask_place legally.1.posted h legally.1.made in
+links_are_not_other world keeps h legal at given posted told asked chain name dir mode is_link other =
+    let there : event_at at.serve_place h ≡ Some (event.Serve at.number at.ask_place reply.Other) =
+    told ∙ ap (λ (r : Reply). Some (event.Serve at.number at.ask_place r)) other in
+    let legally = serve_may world h legal at.serve_place at.number at.ask_place reply.Other there in
+    let found = asked_before at.serve_place at.ask_place legally.1.posted h legally.1.made in
     let same : legally.1.posted ≡ posted = cc in
-    never world (before place h) (keeps (before place h) legally.0) legally.0 number ask_place legally.1 chain name dir mode
+    let earlier : List Event = before at.serve_place h in
+    never world earlier (keeps earlier legally.0) legally.0 at.number at.ask_place legally.1 chain name dir mode
     (ap (λ (p : Posted). p.ask.request) same ∙ is_link)

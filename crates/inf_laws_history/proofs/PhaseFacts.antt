@@ -21,6 +21,7 @@ use Rattle.inf_flow_dir.specs.Heard.{heard}
 use Rattle.inf_flow_dir.specs.Turn.{Turn, after_record, goes_on, is_complete, later_place, recorded, served, settled, turn_at, turned, winds_up}
 use Rattle.inf_laws_client.specs.Asked.{AreAskedFor, AsksItsGroup}
 use Rattle.inf_laws_client.specs.Told.{KnowsOnly, StandsOn}
+use Rattle.inf_laws_directory.specs.At.{At}
 use Rattle.inf_laws_directory.specs.Fits.{next_phase}
 use Rattle.inf_laws_directory.specs.Objects.{Service}
 use Rattle.inf_laws_directory.specs.Owes.{MayWriteAt}
@@ -191,15 +192,18 @@ round_in_hand digest phases s keys sent place told none others =
     (round_has digest s.who (phases (call_ref s)) none s.left now.sent))
     (record { phase = none; others = others; may = tt })
 
-module _ (service : Service) (A : ℕ → Request → Type 0) (T : Key → Access → Type 0) (s : ClientState) (index place number serve_place : ℕ)
-    (asked : Request) (given : Reply) (phases : Phases) where
+module _ (service : Service) (A : ℕ → Request → Type 0) (T : Key → Access → Type 0) (s : ClientState) (index : ℕ)
+    (at : At) (asked : Request) (given : Reply) (phases : Phases) where
   abbrev after : Request → Phases
-  after r = with_phase (call_ref s) (next_phase service place (phases (call_ref s)) r given) phases
+  after r = with_phase (call_ref s) (next_phase service at (phases (call_ref s)) r given) phases
 
   abbrev Comes : Stage → List Sent → Request → Type 0
-  Comes stage sent r = InHand service.digest (after r) (served service.digest place (told_reply serve_place given) (staged s stage sent))
+  Comes stage sent r =
+      InHand service.digest (after r)
+      (served service.digest at.ask_place (told_reply at.serve_place given) (staged s stage sent))
 
-  come : (m : Message) (stage : Stage) (sent : List Sent) → IsAlone m sent place number asked → Comes stage (one_ask place None) m.request
+  come : (m : Message) (stage : Stage) (sent : List Sent) → IsAlone m sent at.ask_place at.number asked
+      → Comes stage (one_ask at.ask_place None) m.request
       → Comes stage sent asked
   come m stage sent is one =
       subst (λ (r : Request). Comes stage sent r) (ap (λ (x : Message). x.request) is.message)
@@ -207,42 +211,53 @@ module _ (service : Service) (A : ℕ → Request → Type 0) (T : Key → Acces
 
   stage_in_hand : (stage : Stage) (sent : List Sent) → HasPhase service.digest s.who stage (phases (call_ref s)) → OthersIdle phases s
       → StageMay s.who.caller stage → StandsOn T stage → AreAskedFor A (group s.who stage) sent
-      → slice_get sent index ≡ Some (record { place = place; told = None })
-      → slice_get (group s.who stage) index ≡ Some (record { number = number; request = asked }) → MayGoOn s.who.caller asked given
+      → slice_get sent index ≡ Some (record { place = at.ask_place; told = None })
+      → slice_get (group s.who stage) index ≡ Some (record { number = at.number; request = asked })
+      → MayGoOn s.who.caller asked given
       → (IsCleanUp stage → given ≡ reply.Fine) → Comes stage sent asked
   stage_in_hand compose sent phase others may stands asks there is goes cleans = absurd cc
   stage_in_hand (round keys) sent phase others may stands asks there is goes cleans =
-      let look = look_in s.who keys index number asked is in
+      let look = look_in s.who keys index at.number asked is in
       subst (λ (r : Request). Comes (round keys) sent r) (sym look.is)
-      (subst (λ (ps : Phases). InHand service.digest ps (served service.digest place (told_reply serve_place given) (staged s (round keys) sent))) (sym (same_phases (call_ref s) phases))
-      (round_in_hand service.digest phases s keys sent place (told_reply serve_place given) phase others))
+      (subst (λ (ps : Phases). InHand service.digest ps
+          (served service.digest at.ask_place (told_reply at.serve_place given) (staged s (round keys) sent)))
+      (sym (same_phases (call_ref s) phases))
+      (round_in_hand service.digest phases s keys sent at.ask_place (told_reply at.serve_place given) phase others))
   stage_in_hand (act flow) sent phase others may stands asks there is goes cleans =
       let m = message_of s.who flow in
-      let one = alone A m sent index place number asked there is asks in
+      let one = alone A m sent index at.ask_place at.number asked there is asks in
       let same : asked ≡ m.request = sym (ap (λ (x : Message). x.request) one.message) in
       come m (act flow) sent one
-      (one_in_hand service.digest phases s (act flow) place (told_reply serve_place given) (next_phase service place (phases (call_ref s)) m.request given) refl
-      (act_has service s.who place serve_place (phases (call_ref s)) flow given phase.0 phase.1 may stands.links_up
+      (one_in_hand service.digest phases s (act flow) at.ask_place (told_reply at.serve_place given)
+      (next_phase service at (phases (call_ref s)) m.request given) refl
+      (act_has service s.who at (phases (call_ref s)) flow given phase.0 phase.1 may stands.links_up
       (subst (λ (r : Request). MayGoOn s.who.caller r given) same goes)) others)
   stage_in_hand (winds ending m ms) sent phase others may stands asks there is goes cleans =
-      let one = alone A m sent index place number asked there is asks in
-      let lifts = ap (next_phase service place (phases (call_ref s)) m.request) (cleans tt) ∙ lifted_by service place s.who.servers (phases (call_ref s)) m phase.0 in
+      let one = alone A m sent index at.ask_place at.number asked there is asks in
+      let lifts = ap (next_phase service at (phases (call_ref s)) m.request) (cleans tt)
+      ∙ lifted_by service at s.who.servers (phases (call_ref s)) m phase.0 in
       come m (winds ending m ms) sent one
-      (one_in_hand service.digest phases s (winds ending m ms) place (told_reply serve_place given) (next_phase service place (phases (call_ref s)) m.request given) refl
+      (one_in_hand service.digest phases s (winds ending m ms) at.ask_place (told_reply at.serve_place given)
+      (next_phase service at (phases (call_ref s)) m.request given) refl
       (subst (λ (p : Phase). Lifts s.who.servers p ms) (sym lifts) phase.1) others)
 
-pub served_in_hand : (service : Service) (A : ℕ → Request → Type 0) (T : Key → Access → Type 0) (s : ClientState) (place number serve_place : ℕ)
-    (ask : Ask) (given : Reply) (phases : Phases)
+pub served_in_hand : (service : Service) (A : ℕ → Request → Type 0) (T : Key → Access → Type 0) (s : ClientState)
+    (at : At) (ask : Ask) (given : Reply) (phases : Phases)
     → s.who.servers ≡ service.servers
-    → InHand service.digest phases s → AsksItsGroup A s → KnowsOnly T s → Waits s place number ask → Answering s ask given
-    → InHand service.digest (with_phase ask.from (next_phase service place (phases ask.from) ask.request given) phases)
-    (served service.digest place (told_reply serve_place (heard given)) s)
-served_in_hand service A T s place number serve_place ask given phases servers hand asks knows waits answering =
+    → InHand service.digest phases s → AsksItsGroup A s → KnowsOnly T s → Waits s at.ask_place at.number ask
+    → Answering s ask given
+    → InHand service.digest (with_phase ask.from (next_phase service at (phases ask.from) ask.request given) phases)
+    (served service.digest at.ask_place (told_reply at.serve_place (heard given)) s)
+served_in_hand service A T s at ask given phases servers hand asks knows waits answering =
     let may : MayGoOn s.who.caller ask.request given =
     subst (λ (caller : Caller). MayGoOn caller ask.request given) waits.caller (record { reserves = answering.reserves; seals = answering.seals }) in
-    subst (λ (r : Reply). InHand service.digest (with_phase ask.from (next_phase service place (phases ask.from) ask.request given) phases) (served service.digest place (told_reply serve_place r) s))
+    subst (λ (r : Reply). InHand service.digest
+        (with_phase ask.from (next_phase service at (phases ask.from) ask.request given) phases)
+        (served service.digest at.ask_place (told_reply at.serve_place r) s))
     (sym answering.same)
-    (subst (λ (by : CallRef). InHand service.digest (with_phase by (next_phase service place (phases by) ask.request given) phases) (served service.digest place (told_reply serve_place given) s))
+    (subst (λ (by : CallRef). InHand service.digest
+        (with_phase by (next_phase service at (phases by) ask.request given) phases)
+        (served service.digest at.ask_place (told_reply at.serve_place given) s))
     (sym waits.from)
-    (stage_in_hand service A T s waits.index place number serve_place ask.request given phases s.stage s.sent hand.phase hand.others hand.may knows.stands
-    asks.asked waits.sent waits.message may answering.cleans))
+    (stage_in_hand service A T s waits.index at ask.request given phases s.stage s.sent hand.phase hand.others
+    hand.may knows.stands asks.asked waits.sent waits.message may answering.cleans))

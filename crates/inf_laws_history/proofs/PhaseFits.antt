@@ -13,6 +13,7 @@ use Rattle.inf_flow_dir.specs.Flow.{Flow, Who, dir_in, finishes, links, makes, m
 use Rattle.inf_flow_dir.specs.Group.{group}
 use Rattle.inf_flow_dir.specs.Heard.{heard}
 use Rattle.inf_laws_client.specs.Told.{KnowsOnly, LinksUp, StandsOn, chain_of}
+use Rattle.inf_laws_directory.specs.At.{At}
 use Rattle.inf_laws_directory.specs.Fits.{EndsIn, Fits}
 use Rattle.inf_laws_directory.specs.Objects.{Service, site_in}
 use Rattle.inf_laws_directory.specs.Phases.{Phase, Phases, has_made, has_reserved, has_sealed, has_unlinked, idle}
@@ -39,50 +40,68 @@ ends_in : (found : Option Entry) (last : Entry) → found ≡ Some last → Ends
 ends_in None last is = absurd cc
 ends_in (Some entry) last is = refl
 
-flow_fits : (who : Who) (flow : Flow) (phase : Phase) → FlowHas who flow phase → FlowMay who.caller flow → LinksUp (chain_of flow)
-    → Fits phase (message_of who flow).request
-flow_fits who (finishes chain asked) phase has may up = subst (λ (p : Phase). Fits p (request.Finish chain asked)) (sym has) tt
-flow_fits who (reserves chain name mode) phase has may up = subst (λ (p : Phase). Fits p (request.Reserve chain name)) (sym has) tt
-flow_fits who (makes chain name mode version id) phase has may up =
-    subst (λ (p : Phase). Fits p (message_of who (makes chain name mode version id)).request) (sym has) refl
-flow_fits who (links chain name mode version dir) phase has may up =
-    subst (λ (p : Phase). Fits p (message_of who (links chain name mode version dir)).request) (sym has) (ends_in (last_of chain) may.last may.ends, refl, refl)
-flow_fits who (seals chain) phase has may up = subst (λ (p : Phase). Fits p (request.Seal chain)) (sym has) tt
-flow_fits who (unlinks chain) phase has may up =
+flow_fits : (at : At) (who : Who) (flow : Flow) (phase : Phase) → FlowHas who flow phase → FlowMay who.caller flow
+    → LinksUp (chain_of flow)
+    → Fits at phase (message_of who flow).request
+flow_fits at who (finishes chain asked) phase has may up =
+    subst (λ (p : Phase). Fits at p (request.Finish chain asked)) (sym has) tt
+flow_fits at who (reserves chain name mode) phase has may up =
+    subst (λ (p : Phase). Fits at p (request.Reserve chain name)) (sym has) tt
+flow_fits at who (makes chain name mode version id) phase has may up =
+    subst (λ (p : Phase). Fits at p (message_of who (makes chain name mode version id)).request) (sym has) refl
+flow_fits at who (links chain name mode version dir) phase has may up =
+    subst (λ (p : Phase). Fits at p (message_of who (links chain name mode version dir)).request) (sym has)
+    (ends_in (last_of chain) may.last may.ends, refl, refl)
+flow_fits at who (seals chain) phase has may up = subst (λ (p : Phase). Fits at p (request.Seal chain)) (sym has) tt
+flow_fits at who (unlinks chain) phase has may up =
     let under = ends_under chain may.last up may.ends in
-    subst (λ (p : Phase). Fits p (request.Unlink chain)) (sym has.is)
+    subst (λ (p : Phase). Fits at p (request.Unlink chain)) (sym has.is)
     (ends_in (last_of (before_last chain)) may.last may.ends, ends_in (last_of chain) under.target under.is)
 
-lifted_fits : (servers : ℕ) (phase : Phase) (m : Message) → IsLiftedBy servers phase m → Fits phase m.request
-lifted_fits servers idle m is = subst (λ (x : Message). Fits idle x.request) (sym is.is) tt
-lifted_fits servers (has_reserved parent name birth) m is = subst (λ (x : Message). Fits (has_reserved parent name birth) x.request) (sym is) refl
-lifted_fits servers (has_made parent name birth made) m is = subst (λ (x : Message). Fits (has_made parent name birth made) x.request) (sym is) refl
-lifted_fits servers (has_sealed parent name target) m is = subst (λ (x : Message). Fits (has_sealed parent name target) x.request) (sym is) refl
-lifted_fits servers (has_unlinked target) m is = subst (λ (x : Message). Fits (has_unlinked target) x.request) (sym is) refl
+lifted_fits : (at : At) (servers : ℕ) (phase : Phase) (m : Message) → IsLiftedBy servers phase m
+    → Fits at phase m.request
+lifted_fits at servers idle m is = subst (λ (x : Message). Fits at idle x.request) (sym is.is) tt
+lifted_fits at servers (has_reserved parent name birth) m is =
+    subst (λ (x : Message). Fits at (has_reserved parent name birth) x.request) (sym is) refl
+lifted_fits at servers (has_made parent name birth made) m is =
+    subst (λ (x : Message). Fits at (has_made parent name birth made) x.request) (sym is) refl
+lifted_fits at servers (has_sealed parent name target) m is =
+    subst (λ (x : Message). Fits at (has_sealed parent name target) x.request) (sym is) refl
+lifted_fits at servers (has_unlinked target) m is =
+    subst (λ (x : Message). Fits at (has_unlinked target) x.request) (sym is) refl
 
-stage_fits : (digest : List ℕ → Id) (T : Key → Access → Type 0) (who : Who) (stage : Stage) (index number : ℕ) (asked : Request) (phase : Phase) → HasPhase digest who stage phase
-    → StageMay who.caller stage → StandsOn T stage → slice_get (group who stage) index ≡ Some (record { number = number; request = asked })
-    → Fits phase asked
-stage_fits digest T who compose index number asked phase has may stands is = absurd cc
-stage_fits digest T who (round keys) index number asked phase has may stands is =
-    let look = look_in who keys index number asked is in
-    subst (λ (r : Request). Fits phase r) (sym look.is) (subst (λ (p : Phase). Fits p (request.Lookup look.k)) (sym has) tt)
-stage_fits digest T who (act flow) index number asked phase has may stands is =
-    subst (λ (x : Message). Fits phase x.request) (only_one (message_of who flow) index number asked is) (flow_fits who flow phase has.0 may stands.links_up)
-stage_fits digest T who (winds ending m ms) index number asked phase has may stands is =
-    subst (λ (x : Message). Fits phase x.request) (only_one m index number asked is) (lifted_fits who.servers phase m has.0)
+stage_fits : (digest : List ℕ → Id) (T : Key → Access → Type 0) (who : Who) (stage : Stage) (index : ℕ) (at : At)
+    (asked : Request) (phase : Phase) → HasPhase digest who stage phase
+    → StageMay who.caller stage → StandsOn T stage
+    → slice_get (group who stage) index ≡ Some (record { number = at.number; request = asked })
+    → Fits at phase asked
+stage_fits digest T who compose index at asked phase has may stands is = absurd cc
+stage_fits digest T who (round keys) index at asked phase has may stands is =
+    let look = look_in who keys index at.number asked is in
+    subst (λ (r : Request). Fits at phase r) (sym look.is)
+    (subst (λ (p : Phase). Fits at p (request.Lookup look.k)) (sym has) tt)
+stage_fits digest T who (act flow) index at asked phase has may stands is =
+    subst (λ (x : Message). Fits at phase x.request) (only_one (message_of who flow) index at.number asked is)
+    (flow_fits at who flow phase has.0 may stands.links_up)
+stage_fits digest T who (winds ending m ms) index at asked phase has may stands is =
+    subst (λ (x : Message). Fits at phase x.request) (only_one m index at.number asked is)
+    (lifted_fits at who.servers phase m has.0)
 
-pub fits_phase : (digest : List ℕ → Id) (T : Key → Access → Type 0) (s : ClientState) (place number : ℕ) (ask : Ask) (phases : Phases)
-    → HasPhase digest s.who s.stage (phases (call_ref s)) → StageMay s.who.caller s.stage → KnowsOnly T s → Waits s place number ask
-    → Fits (phases ask.from) ask.request
-fits_phase digest T s place number ask phases phase may knows waits =
-    subst (λ (by : CallRef). Fits (phases by) ask.request) (sym waits.from)
-    (stage_fits digest T s.who s.stage waits.index number ask.request (phases (call_ref s)) phase may knows.stands waits.message)
+pub fits_phase : (digest : List ℕ → Id) (T : Key → Access → Type 0) (s : ClientState) (at : At) (ask : Ask)
+    (phases : Phases)
+    → HasPhase digest s.who s.stage (phases (call_ref s)) → StageMay s.who.caller s.stage → KnowsOnly T s
+    → Waits s at.ask_place at.number ask
+    → Fits at (phases ask.from) ask.request
+fits_phase digest T s at ask phases phase may knows waits =
+    subst (λ (by : CallRef). Fits at (phases by) ask.request) (sym waits.from)
+    (stage_fits digest T s.who s.stage waits.index at ask.request (phases (call_ref s)) phase may knows.stands
+    waits.message)
 
 -- what a client asks fits what its call has in hand
-pub fits : (digest : List ℕ → Id) (T : Key → Access → Type 0) (s : ClientState) (place number : ℕ) (ask : Ask) (phases : Phases)
-    → InHand digest phases s → KnowsOnly T s → Waits s place number ask → Fits (phases ask.from) ask.request
-fits digest T s place number ask phases hand knows waits = fits_phase digest T s place number ask phases hand.phase hand.may knows waits
+pub fits : (digest : List ℕ → Id) (T : Key → Access → Type 0) (s : ClientState) (at : At) (ask : Ask) (phases : Phases)
+    → InHand digest phases s → KnowsOnly T s → Waits s at.ask_place at.number ask
+    → Fits at (phases ask.from) ask.request
+fits digest T s at ask phases hand knows waits = fits_phase digest T s at ask phases hand.phase hand.may knows waits
 
 -- ---- clean-ups are done
 

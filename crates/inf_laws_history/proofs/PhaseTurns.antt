@@ -21,6 +21,7 @@ use Rattle.inf_flow_dir.specs.Flow.{Flow, HasBirthId, Who, birth_of, clean_up, d
 use Rattle.inf_flow_dir.specs.Group.{Course, course_at, course_in, next_course, split, text_of}
 use Rattle.inf_flow_dir.specs.Turn.{Next, Turn, after_act, after_make, after_round, by_next, fails, follow, from_root, goes_on, is_busy, next_entry, steps, stops, told_entry, winds_up}
 use Rattle.inf_laws_client.specs.Told.{IsIn, LinksFrom, LinksUp, chain_of}
+use Rattle.inf_laws_directory.specs.At.{At}
 use Rattle.inf_laws_directory.specs.Fits.{after_make as made_after, next_phase, reserved_at_end, sealed_at_end, sealed_under, unlinked_at_end}
 use Rattle.inf_laws_directory.specs.Objects.{Service}
 use Rattle.inf_laws_directory.specs.Owes.{MayWriteAt}
@@ -57,17 +58,17 @@ clean_up_lifts who (seals chain) phase has = has
 clean_up_lifts who (unlinks chain) phase has = subst (λ (p : Phase). Lifts who.servers p (clean_up who (unlinks chain))) (sym has.is) (refl, refl)
 
 -- one message of a clean-up, done, lifts what it is to lift
-pub lifted_by : (service : Service) (place servers : ℕ) (phase : Phase) (m : Message) → IsLiftedBy servers phase m
-    → next_phase service place phase m.request reply.Fine ≡ lifted phase
-lifted_by service place servers idle m is = ap (λ (x : Message). next_phase service place idle x.request reply.Fine) is.is
-lifted_by service place servers (has_reserved parent name birth) m is =
-    ap (λ (x : Message). next_phase service place (has_reserved parent name birth) x.request reply.Fine) is
-lifted_by service place servers (has_made parent name birth made) m is =
-    ap (λ (x : Message). next_phase service place (has_made parent name birth made) x.request reply.Fine) is
-lifted_by service place servers (has_sealed parent name target) m is =
-    ap (λ (x : Message). next_phase service place (has_sealed parent name target) x.request reply.Fine) is
-lifted_by service place servers (has_unlinked target) m is =
-    ap (λ (x : Message). next_phase service place (has_unlinked target) x.request reply.Fine) is
+pub lifted_by : (service : Service) (at : At) (servers : ℕ) (phase : Phase) (m : Message) → IsLiftedBy servers phase m
+    → next_phase service at phase m.request reply.Fine ≡ lifted phase
+lifted_by service at servers idle m is = ap (λ (x : Message). next_phase service at idle x.request reply.Fine) is.is
+lifted_by service at servers (has_reserved parent name birth) m is =
+    ap (λ (x : Message). next_phase service at (has_reserved parent name birth) x.request reply.Fine) is
+lifted_by service at servers (has_made parent name birth made) m is =
+    ap (λ (x : Message). next_phase service at (has_made parent name birth made) x.request reply.Fine) is
+lifted_by service at servers (has_sealed parent name target) m is =
+    ap (λ (x : Message). next_phase service at (has_sealed parent name target) x.request reply.Fine) is
+lifted_by service at servers (has_unlinked target) m is =
+    ap (λ (x : Message). next_phase service at (has_unlinked target) x.request reply.Fine) is
 
 -- ---- after a message of a flow that does not succeed
 
@@ -156,59 +157,66 @@ pub record MayGoOn (caller : Caller) (asked : Request) (given : Reply) : Type 0 
       → MayWriteAt caller chain
   pub seals : (chain : List Entry) → asked ≡ request.Seal chain → given ≡ reply.Fine → MayWriteAt caller (before_last chain)
 
-module _ (service : Service) (who : Who) (place serve_place : ℕ) (phase : Phase) where
+module _ (service : Service) (who : Who) (at : At) (phase : Phase) where
   abbrev Comes : Flow → Reply → Type 0
-  Comes flow given = TurnHas service.digest who (next_phase service place phase (message_of who flow).request given) (after_act service.digest who flow place serve_place given)
+  Comes flow given =
+      TurnHas service.digest who (next_phase service at phase (message_of who flow).request given)
+      (after_act service.digest who flow at.ask_place at.serve_place given)
 
   finish_has : (chain : List Entry) (asked : Op) (given : Reply) → FlowHas who (finishes chain asked) phase → Comes (finishes chain asked) given
   finish_has chain (op.Create name mode) reply.Fine has = has
   finish_has chain (op.Stat name) (reply.Stat kind meta) has = has
-  finish_has chain asked given has = fails_has service.digest who (finishes chain asked) serve_place given phase has
+  finish_has chain asked given has = fails_has service.digest who (finishes chain asked) at.serve_place given phase has
 
   reserve_has : (chain : List Entry) (name : List ℕ) (mode : ℕ) (given : Reply) → FlowHas who (reserves chain name mode) phase
       → ((version : ℕ) → given ≡ reply.Reserved version → MayWriteAt who.caller chain) → Comes (reserves chain name mode) given
   reserve_has chain name mode (reply.Reserved version) has may =
-      let at = may version refl in
-      ((reserved_same who (last_of chain) at.last phase name version at.ends, refl), at)
-  reserve_has chain name mode given has may = fails_has service.digest who (reserves chain name mode) serve_place given phase has
+      let writes = may version refl in
+      ((reserved_same who (last_of chain) writes.last phase name version writes.ends, refl), writes)
+  reserve_has chain name mode given has may =
+      fails_has service.digest who (reserves chain name mode) at.serve_place given phase has
 
   make_has : (chain : List Entry) (name : List ℕ) (mode version : ℕ) (id : Id) (given : Reply) → FlowHas who (makes chain name mode version id) phase
       → id ≡ identity service.digest (birth_of who chain name version) → FlowMay who.caller (makes chain name mode version id)
       → Comes (makes chain name mode version id) given
   make_has chain name mode version id reply.Fine has of_birth may = (
     (
-      ap (made_after service place) has
-          ∙ ap (λ (i : Id). has_made (last_dir chain) name (birth_of who chain name version) (record { id = i; born = place })) (sym of_birth),
+      ap (made_after service at) has
+          ∙ ap (λ (i : Id). has_made (last_dir chain) name (birth_of who chain name version)
+              (record { id = i; born = at.ask_place })) (sym of_birth),
       of_birth,
     ),
     may,
   )
   make_has chain name mode version id given has of_birth may =
-      make_fails service.digest who (makes chain name mode version id) (birth_of who chain name version) serve_place given phase has
+      make_fails service.digest who (makes chain name mode version id) (birth_of who chain name version)
+      at.serve_place given phase has
 
   link_has : (chain : List Entry) (name : List ℕ) (mode version : ℕ) (dir : DirRef) (given : Reply) → FlowHas who (links chain name mode version dir) phase
       → Comes (links chain name mode version dir) given
   link_has chain name mode version dir reply.Fine has = refl
-  link_has chain name mode version dir given has = fails_has service.digest who (links chain name mode version dir) serve_place given phase has
+  link_has chain name mode version dir given has =
+      fails_has service.digest who (links chain name mode version dir) at.serve_place given phase has
 
   seal_has : (chain : List Entry) (given : Reply) → FlowHas who (seals chain) phase → LinksUp chain
       → (given ≡ reply.Fine → MayWriteAt who.caller (before_last chain)) → Comes (seals chain) given
   seal_has chain reply.Fine has up may =
-      let at = may refl in
-      let under = ends_under chain at.last up at.ends in
-      let sealed : SealsIn chain (next_phase service place phase (request.Seal chain) reply.Fine) = record {
+      let writes = may refl in
+      let under = ends_under chain writes.last up writes.ends in
+      let sealed : SealsIn chain (next_phase service at phase (request.Seal chain) reply.Fine) = record {
         name = under.name;
-        is = sealed_same (last_of (before_last chain)) (last_of chain) phase at.last under.target under.dir under.name at.ends under.is under.key;
+        is = sealed_same (last_of (before_last chain)) (last_of chain) phase
+            writes.last under.target under.dir under.name writes.ends under.is under.key;
       } in
-      ((sealed, tt), at)
-  seal_has chain given has up may = fails_has service.digest who (seals chain) serve_place given phase has
+      ((sealed, tt), writes)
+  seal_has chain given has up may = fails_has service.digest who (seals chain) at.serve_place given phase has
 
   unlink_has : (chain : List Entry) (given : Reply) → FlowHas who (unlinks chain) phase → LinksUp chain → FlowMay who.caller (unlinks chain)
       → Comes (unlinks chain) given
   unlink_has chain reply.Fine has up may =
       let under = ends_under chain may.last up may.ends in
       unlinked_lifts who (last_id who (way_to chain)) (last_of chain) under.target phase under.is
-  unlink_has chain given has up may = fails_has service.digest who (unlinks chain) serve_place given phase has
+  unlink_has chain given has up may = fails_has service.digest who (unlinks chain) at.serve_place given phase has
 
   -- whatever is replied to a flow's message, the turn needs what is in hand then
   pub act_has : (flow : Flow) (given : Reply) → FlowHas who flow phase → HasBirthId service.digest who flow → FlowMay who.caller flow → LinksUp (chain_of flow)

@@ -20,6 +20,7 @@ use Rattle.inf_laws_client.specs.Told.{KnowsOnly, TellsOnly}
 use Rattle.inf_laws_client.proofs.AskedFacts.{answers_lookup, answers_top}
 use Rattle.inf_laws_client.proofs.KnowsFacts.{served_knows, weaker_knows}
 use Rattle.inf_laws_client.proofs.PathClients.{served_keeps}
+use Rattle.inf_laws_directory.specs.At.{At}
 use Rattle.inf_laws_directory.specs.Fits.{next_phase}
 use Rattle.inf_laws_directory.specs.Objects.{Objects, Service, site_in, with_state}
 use Rattle.inf_laws_directory.specs.Owes.{Moment, Owes}
@@ -45,7 +46,7 @@ use Rattle.inf_laws_history.proofs.PendingFacts.{pending_serve}
 use Rattle.inf_laws_history.proofs.PhaseFacts.{InHand, apart_in_hand, served_in_hand}
 use Rattle.inf_laws_history.proofs.PhaseFits.{fits, is_answering}
 use Rattle.inf_laws_history.proofs.ServeFacts.{serve_comes}
-use Rattle.inf_laws_history.proofs.StepFacts.{HasNext, ServedStands, client_is, has_next, in_hands, is_kept, moment_of, others_have, replayed_both, replays_both, states_served}
+use Rattle.inf_laws_history.proofs.StepFacts.{HasNext, ServedStands, client_is, has_next, in_hands, is_kept, moment_of, next_serve, others_have, replayed_both, replays_both, states_served}
 use Rattle.inf_message.specs.declared.ask.Ask.{Ask}
 use Rattle.inf_message.specs.declared.event.Event.{Event}
 use Rattle.inf_message.specs.declared.event.Event.TheVariants as event
@@ -77,6 +78,9 @@ module _ (stands : ServedStands) (world : World) (h : List Event) (number place 
   abbrev now : List Event
   now = event.Serve number place given ∷ h
 
+  abbrev at : At
+  at = next_serve h number place
+
   abbrev service : Service
   service = service_of world
 
@@ -93,7 +97,7 @@ module _ (stands : ServedStands) (world : World) (h : List Event) (number place 
   objects = with_state number may.after kept.objects
 
   abbrev phases : Phases
-  phases = with_phase ask.from (next_phase service place (kept.phases ask.from) ask.request given) kept.phases
+  phases = with_phase ask.from (next_phase service at (kept.phases ask.from) ask.request given) kept.phases
 
   -- ---- what the Ask rests on
 
@@ -118,12 +122,13 @@ module _ (stands : ServedStands) (world : World) (h : List Event) (number place 
   hand = in_hands world h kept ask.from.client
 
   abbrev moment : Moment
-  moment = moment_of service number place kept.objects kept.root kept.tree kept.phases ask given may.after
+  moment = moment_of service at kept.objects kept.root kept.tree kept.phases ask given may.after
 
   owed : Owes moment ask.caller next.asked ask.request given
   owed =
-      stands service kept.objects number place kept.root kept.tree kept.phases ask next.asked given may.after kept.standing
-      (fits world.digest (IsToldAs service kept.objects kept.root kept.phases) asker place number ask kept.phases hand knows_told waits)
+      stands service kept.objects at kept.root kept.tree kept.phases ask next.asked given may.after kept.standing
+      (fits world.digest (IsToldAs service kept.objects kept.root kept.phases) asker at ask kept.phases hand
+      knows_told waits)
       (aims service kept.objects kept.root kept.phases asker next.asked next.more (kept.phases (call_ref asker)) place number ask next.is knows_told
       (kept.clients ask.from.client).path (has_course world ask.from.client h) hand.phase hand.may waits)
       (unborn world h kept.objects place may.waits counted kept.born kept.root kept.phases kept.standing.owned) replies
@@ -196,14 +201,15 @@ module _ (stands : ServedStands) (world : World) (h : List Event) (number place 
   asker_hand : InHand world.digest phases (client_after world ask.from.client now)
   asker_hand =
       let who = who_after world h ask.from.client in
-      served_in_hand service (WasAskedIn h) (IsToldAs service kept.objects kept.root kept.phases) asker place number (suc (length h)) ask given kept.phases
-      (ap (λ (w : Who). w.servers) who) hand (kept.clients ask.from.client).asks knows_told waits
+      served_in_hand service (WasAskedIn h) (IsToldAs service kept.objects kept.root kept.phases) asker at ask
+      given kept.phases (ap (λ (w : Who). w.servers) who) hand (kept.clients ask.from.client).asks knows_told waits
       (is_answering service asker place number ask given kept.phases (kept.objects number) may.after (ap (λ (w : Who). w.servers) who) hand waits replies)
 
   other_hand : (client : ℕ) → (ask.from.client ≡ client → ⊥) → InHand world.digest phases (client_after world client now)
   other_hand client apart =
       subst (λ (s : ClientState). InHand world.digest phases s) (sym (others_stay world h client number place given may.posted may.made apart))
-      (apart_in_hand world.digest ask.from (next_phase service place (kept.phases ask.from) ask.request given) kept.phases (client_after world client h)
+      (apart_in_hand world.digest ask.from (next_phase service at (kept.phases ask.from) ask.request given) kept.phases
+      (client_after world client h)
       (λ same. apart (same ∙ client_is world h client)) (in_hands world h kept client))
 
   hand_now : (client : ℕ) → InHand world.digest phases (client_after world client now)

@@ -1,5 +1,5 @@
 -- What a step of a history has to keep for each client, and what one Serve does to the servers' states.
-use Rattle.std.proofs.Common.{◌≡◌, ◌≢◌, ℕ, ◌<◌, Bool, true, false, if◌then◌else◌, eqb, List, [], ◌∷◌, ◌++◌, length, Some, refl, sym, ap, ◌∙◌, subst, arith}
+use Rattle.std.proofs.Common.{◌≡◌, ◌≢◌, ℕ, suc, ◌<◌, Bool, true, false, if◌then◌else◌, eqb, List, [], ◌∷◌, ◌++◌, length, Some, refl, sym, ap, ◌∙◌, subst, arith}
 use Rattle.std.proofs.lemmas.Bool.Decides.{Decides-eqb}
 use Rattle.inf_base.specs.declared.access.Access.{Access}
 use Rattle.inf_base.specs.declared.call.Call.{Call}
@@ -10,6 +10,7 @@ use Rattle.inf_flow_dir.specs.Flow.{Who}
 use Rattle.inf_laws_client.specs.Asked.{AsksItsGroup}
 use Rattle.inf_laws_client.specs.Paths.{KeepsToPath}
 use Rattle.inf_laws_client.specs.Told.{KnowsOnly}
+use Rattle.inf_laws_directory.specs.At.{At}
 use Rattle.inf_laws_directory.specs.Fits.{Fits, next_phase}
 use Rattle.inf_laws_directory.specs.Objects.{Objects, Service, site_in, with_state}
 use Rattle.inf_laws_directory.specs.Owes.{Aims, Moment, Owes}
@@ -59,24 +60,29 @@ has_next (asked ∷ more) some = record { asked = asked; more = more; is = refl 
 
 -- ---- what the law of one Serve says
 
-abbrev pub moment_of : Service → ℕ → ℕ → Objects → Access → Node → Phases → Ask → Reply → State → Moment
-moment_of service number place objects root tree phases ask given new = record {
+-- the Serve that joins these events next
+abbrev pub next_serve : List Event → ℕ → ℕ → At
+next_serve h number ask_place = record { number = number; ask_place = ask_place; serve_place = suc (length h) }
+
+abbrev pub moment_of : Service → At → Objects → Access → Node → Phases → Ask → Reply → State → Moment
+moment_of service at objects root tree phases ask given new = record {
   service = service;
-  place = place;
+  at = at;
   old = objects;
-  new = with_state number new objects;
+  new = with_state at.number new objects;
   root = root;
   tree = tree;
   before = phases;
-  after = with_phase ask.from (next_phase service place (phases ask.from) ask.request given) phases;
+  after = with_phase ask.from (next_phase service at (phases ask.from) ask.request given) phases;
 }
 
 abbrev pub ServedStands : Type 0
-ServedStands = (service : Service) (objects : Objects) (number place : ℕ) (root : Access) (tree : Node) (phases : Phases) (ask : Ask) (asked : Call)
-    (given : Reply) (new : State) → IsStanding service objects root tree phases → Fits (phases ask.from) ask.request
-    → Aims service objects root phases ask.caller asked ask.request → IsUnborn service objects place
-    → Serves (site_in service number) (objects number) place ask given new
-    → Owes (moment_of service number place objects root tree phases ask given new) ask.caller asked ask.request given
+ServedStands = (service : Service) (objects : Objects) (at : At) (root : Access) (tree : Node) (phases : Phases)
+    (ask : Ask) (asked : Call) (given : Reply) (new : State) → IsStanding service objects root tree phases
+    → Fits at (phases ask.from) ask.request
+    → Aims service objects root phases ask.caller asked ask.request → IsUnborn service objects at.ask_place
+    → Serves (site_in service at.number) (objects at.number) at.ask_place ask given new
+    → Owes (moment_of service at objects root tree phases ask given new) ask.caller asked ask.request given
 
 -- ---- the servers' states
 

@@ -9,6 +9,7 @@ use Rattle.inf_base.specs.declared.triple.Triple.{Triple}
 use Rattle.inf_base.specs.Content.{Content}
 use Rattle.inf_base.specs.Identity.{identity}
 use Rattle.inf_content.specs.Contents.{content_of_id}
+use Rattle.inf_laws_directory.specs.At.{At}
 use Rattle.inf_laws_history.specs.Flight.{InFlight, touches}
 use Rattle.inf_laws_history.specs.Legal.{server_after}
 use Rattle.inf_laws_history.specs.UnderWay.{WasUnderWay}
@@ -16,6 +17,7 @@ use Rattle.inf_duty.specs.World.{World}
 use Rattle.inf_message.specs.declared.call_result.CallResult.{CallResult}
 use Rattle.inf_message.specs.declared.event.Event.{Event}
 use Rattle.inf_message.specs.declared.event.Event.TheVariants as event
+use Rattle.inf_message.specs.declared.reply.Reply.{Reply}
 use Rattle.inf_message.specs.declared.reply.Reply.TheVariants as reply
 use Rattle.inf_message.specs.declared.reply.Spot.{Spot}
 use Rattle.inf_message.specs.declared.request.Request.TheVariants as request
@@ -27,48 +29,47 @@ abbrev pub before : ℕ → List Event → List Event
 before place [] = []
 before place (e ∷ h) = if nat_lt (suc (length h)) place then e ∷ h else before place h
 
+-- the history has this Serve: at its place the server replied so to this Ask, which stands before
+pub record HasServe (h : List Event) (at : At) (posted : Posted) (given : Reply) : Type 0 where
+  pub told : event_at at.serve_place h ≡ Some (event.Serve at.number at.ask_place given)
+  pub asked : asked_at at.ask_place (before at.serve_place h) ≡ Some posted
+
 -- the client's Ask before this one was the same call's, and a server told it of a directory of this birth: the entry that
 -- stands before in the call's chain
 pub record IsBehindEntry (h : List Event) (call : CallRef) (ask_place born : ℕ) : Type 0 where
-  pub place : ℕ
+  pub at : At
   pub posted : Posted
-  pub asked : asked_at place h ≡ Some posted
-  pub own : posted.ask.from ≡ call
-  pub earlier : place < ask_place
-  pub next : (between : ℕ) (other : Posted) → place < between → between < ask_place → asked_at between h ≡ Some other
-      → other.ask.from.client ≢ call.client
-  pub number : ℕ
-  pub told_at : ℕ
   pub key : Key
   pub access : Access
-  pub told : event_at told_at h ≡ Some (event.Serve number place (reply.Found key access))
+  pub served : HasServe h at posted (reply.Found key access)
+  pub own : posted.ask.from ≡ call
+  pub earlier : at.ask_place < ask_place
+  pub next : (between : ℕ) (other : Posted) → at.ask_place < between → between < ask_place
+      → asked_at between h ≡ Some other → other.ask.from.client ≢ call.client
   pub same : access.born ≡ born
 
 -- the call of this result was answered Again, for it met a change of this other call
 pub record IsAgainBecause (world : World) (h : List Event) (results : List CallResult) (result : CallResult) (by : CallRef) : Type 0 where
-  -- the result has a place
-  pub place : ℕ
-  pub placed : result.place ≡ Some place
-  -- there a server replied that a change of the other call is in the way, at this spot
-  pub number : ℕ
-  pub ask_place : ℕ
+  -- the result has the place of a Serve
+  pub at : At
+  pub placed : result.place ≡ Some at.serve_place
+  -- there a server replied to an Ask of the call that a change of the other call is in the way, at this spot
   pub spot : Spot
   pub born : ℕ
-  pub told : event_at place h ≡ Some (event.Serve number ask_place (reply.Busy by spot born))
-  -- it replied to an earlier Ask of the call
   pub posted : Posted
-  pub asked : asked_at ask_place (before place h) ≡ Some posted
+  pub served : HasServe h at posted (reply.Busy by spot born)
   pub own : posted.ask.from ≡ result.call
   -- a lookup under a name counts only where the birth told is that of the entry before it
-  pub behind : (id : Id) (name : List ℕ) → posted.ask.request ≡ request.Lookup (look.At id name) → IsBehindEntry h result.call ask_place born
+  pub behind : (id : Id) (name : List ℕ) → posted.ask.request ≡ request.Lookup (look.At id name)
+      → IsBehindEntry h result.call at.ask_place born
   -- the other call is another client's
   pub other : by.client ≢ result.call.client
   -- by its result it was under way
-  pub under_way : WasUnderWay world results place by
+  pub under_way : WasUnderWay world results at.serve_place by
   -- just before, a change of it was in flight
-  pub in_flight : InFlight world (before place h) by
+  pub in_flight : InFlight world (before at.serve_place h) by
   -- and at the server that replied it touched what was asked for, at the spot told
-  pub touched : touches by spot posted.ask.request (server_after world number (before place h)) ≡ true
+  pub touched : touches by spot posted.ask.request (server_after world at.number (before at.serve_place h)) ≡ true
 
 -- the server keeps a directory of this identifier, and it is of this birth
 pub record KeepsBirth (state : State) (id : Id) (birth : Triple) : Type 0 where
@@ -78,20 +79,16 @@ pub record KeepsBirth (state : State) (id : Id) (birth : Triple) : Type 0 where
 
 -- the call of this result was answered IdClash, for the directory that it was to make has the identifier of another
 pub record IsClashBecause (world : World) (h : List Event) (result : CallResult) (own kept : Triple) : Type 0 where
-  -- the result has a place
-  pub place : ℕ
-  pub placed : result.place ≡ Some place
-  -- there a server replied that it keeps a directory of the other birth
-  pub number : ℕ
-  pub ask_place : ℕ
-  pub told : event_at place h ≡ Some (event.Serve number ask_place (reply.Clash kept))
-  -- to an earlier Ask of the call, which was to make the directory of its birth
+  -- the result has the place of a Serve
+  pub at : At
+  pub placed : result.place ≡ Some at.serve_place
+  -- there a server replied that it keeps a directory of the other birth, to an Ask of the call to make that of its own
   pub posted : Posted
-  pub asked : asked_at ask_place (before place h) ≡ Some posted
+  pub served : HasServe h at posted (reply.Clash kept)
   pub caller : posted.ask.from ≡ result.call
   pub makes : posted.ask.request ≡ request.Make own
   -- the births differ, and their identifiers are equal
   pub unlike : own ≢ kept
   pub clash : identity world.digest own ≡ identity world.digest kept
   -- and just before, that server kept the directory of the other one
-  pub keeps : KeepsBirth (server_after world number (before place h)) (identity world.digest own) kept
+  pub keeps : KeepsBirth (server_after world at.number (before at.serve_place h)) (identity world.digest own) kept

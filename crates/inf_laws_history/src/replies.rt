@@ -4,6 +4,7 @@ ghost use Rattle.std.specs.Prelude.{◌≡◌, ◌≢◌, ℕ, List, Some};
 ghost use Rattle.inf_base.specs.declared.directory.DirRef.{DirRef};
 ghost use Rattle.inf_base.specs.declared.entry.Entry.{Entry};
 ghost use Rattle.inf_duty.specs.World.{World};
+ghost use Rattle.inf_laws_directory.specs.At.{At};
 ghost use Rattle.inf_laws_history.specs.Legal.{Legal};
 ghost use Rattle.inf_message.specs.declared.event.Event.{Event};
 ghost use Rattle.inf_message.specs.declared.event.Event.TheVariants as event;
@@ -17,8 +18,9 @@ use crate::laws::every_legal_history_keeps;
 /// A server that is asked to link a directory never replies that this was not asked of it: it keeps the parent, and the
 /// name is reserved for the call.
 pub fn links_are_never_replied_other()
-    ensures { (world : World) (h : List Event) → Legal world h → (place number ask_place : ℕ) (given : Reply) (posted : Posted)
-        → event_at place h ≡ Some (event.Serve number ask_place given) → asked_at ask_place h ≡ Some posted
+    ensures { (world : World) (h : List Event) → Legal world h → (at : At) (given : Reply) (posted : Posted)
+        → event_at at.serve_place h ≡ Some (event.Serve at.number at.ask_place given)
+        → asked_at at.ask_place h ≡ Some posted
         → (chain : List Entry) (name : List ℕ) (dir : DirRef) (mode : ℕ) → posted.ask.request ≡ request.Link chain name dir mode
         → given ≢ reply.Other }
 {

@@ -10,6 +10,7 @@ use Rattle.inf_message.specs.declared.ask.Ask.{Ask}
 use Rattle.inf_server.specs.Births.{make}
 use Rattle.inf_server.specs.Response.{Response}
 use Rattle.inf_server.specs.State.{State}
+use Rattle.inf_laws_directory.specs.At.{At}
 use Rattle.inf_laws_directory.specs.Objects.{Objects, Service, content_in, site_in, with_state}
 use Rattle.inf_content.specs.Order.{AreInOrder}
 use Rattle.inf_laws_directory.specs.Owned.{AreOwned, Has, IsUnlinked, KeepsName}
@@ -31,21 +32,22 @@ not_there : (found : Option Content) → found ≡ None → is_some found ≡ tr
 not_there None none there = cc
 not_there (Some c) none there = cc
 
-module _ (service : Service) (objects : Objects) (number place : ℕ) (root : Access) (phases : Phases) (ask : Ask)
+module _ (service : Service) (objects : Objects) (at : At) (root : Access) (phases : Phases) (ask : Ask)
     (parent : DirRef) (name : List ℕ) (birth : Triple) (end : Response)
     (owned : AreOwned service objects root phases) (phase : phases ask.from ≡ has_reserved parent name birth)
-    (unborn : IsUnborn service objects place) (is : make (site_in service number) (objects number) place ask birth ≡ Ok end) where
+    (unborn : IsUnborn service objects at.ask_place)
+    (is : make (site_in service at.number) (objects at.number) at.ask_place ask birth ≡ Ok end) where
   abbrev next : Objects
-  next = with_state number end.state objects
+  next = with_state at.number end.state objects
 
   abbrev id : Id
   id = identity service.digest birth
 
   abbrev dir : DirRef
-  dir = record { id = id; born = place }
+  dir = record { id = id; born = at.ask_place }
 
   abbrev new : Content
-  new = empty_content id place birth ask.from
+  new = empty_content id at.ask_place birth ask.from
 
   abbrev then : Phase
   then = has_made parent name birth dir
@@ -53,14 +55,15 @@ module _ (service : Service) (objects : Objects) (number place : ℕ) (root : Ac
   kept : KeepsName service objects ask.from parent name birth
   kept = subst (λ (p : Phase). Has service objects ask.from p) phase (owned.has ask.from)
 
-  was_made : Did (site_in service number) (objects number) place ask (request.Make birth) end
-  was_made = made (site_in service number) (objects number) ask end place birth is
+  was_made : Did (site_in service at.number) (objects at.number) at.ask_place ask (request.Make birth) end
+  was_made = made (site_in service at.number) (objects at.number) ask end at.ask_place birth is
 
-  contents_made : end.state.contents ≡ made_at id place birth ask.from (objects number).contents
+  contents_made : end.state.contents ≡ made_at id at.ask_place birth ask.from (objects at.number).contents
   contents_made = ap (λ (s : State). s.contents) was_made.did
 
   comes : Becomes service objects next dir (Some new)
-  comes = made_becomes service objects number end.state id place birth ask.from was_made.passed.here was_made.passed.is_new contents_made
+  comes = made_becomes service objects at.number end.state id at.ask_place birth ask.from was_made.passed.here
+      was_made.passed.is_new contents_made
 
   none_there : content_in service objects dir ≡ None
   none_there = unborn.contents dir refl
@@ -73,7 +76,9 @@ module _ (service : Service) (objects : Objects) (number place : ℕ) (root : Ac
 
   may_make : MayBecome service objects next root phases ask.from then dir (Some new)
   may_make = record {
-    order = orders_after objects number end.state owned.order (subst AreInOrder (sym contents_made) (made_in_order id place birth ask.from (objects number).contents (owned.order number)));
+    order = orders_after objects at.number end.state owned.order
+        (subst AreInOrder (sym contents_made)
+        (made_in_order id at.ask_place birth ask.from (objects at.number).contents (owned.order at.number)));
     becomes = comes;
     same_slots = same_slots;
     not_loose = λ call apart loose. not_there _ none_there (loose_in service objects root phases owned call dir loose).hands.present;
@@ -95,7 +100,7 @@ module _ (service : Service) (objects : Objects) (number place : ℕ) (root : Ac
     root_apart = λ same. not_there _ none_there (subst (λ (d : DirRef). is_some (content_in service objects d) ≡ true) (sym same) owned.root_kept);
   }
 
-  making : KeepsOlder service place objects next root phases (with_phase ask.from then phases)
+  making : KeepsOlder service at.ask_place objects next root phases (with_phase ask.from then phases)
   making = record {
     owned = content_step_owned service objects next root phases ask.from then dir (Some new) owned may_make;
     told = λ k access older. content_step_told service objects next root phases ask.from then dir (Some new) owned may_make k access

@@ -32,14 +32,14 @@ returns-clause-reserving c = λ service objects number ask chain name done is.
     (λ other. reserved_unseen name other ask.from access (slots_at dir (objects number).contents) put.free)
 
 pub returns-clause-making : goal.returns-clause-making
-returns-clause-making c = λ service objects number place ask birth done is.
-    let was_made = made (site_in service number) (objects number) ask done place birth is in
+returns-clause-making c = λ service objects at ask birth done is.
+    let was_made = made (site_in service at.number) (objects at.number) ask done at.ask_place birth is in
     let id = identity service.digest birth in
-    let dir : DirRef = record { id = id; born = place } in
+    let dir : DirRef = record { id = id; born = at.ask_place } in
     let none : content_in service objects dir ≡ None =
-        content_here service objects number done.state dir was_made.passed.here ∙ ap (if_born place) was_made.passed.is_new in
-    unseen_so service objects (with_state number done.state objects) dir (Some (empty_content id place birth ask.from))
-    (made_becomes service objects number done.state id place birth ask.from was_made.passed.here was_made.passed.is_new (ap (λ (s : State). s.contents) was_made.did))
+        content_here service objects at.number done.state dir was_made.passed.here ∙ ap (if_born at.ask_place) was_made.passed.is_new in
+    unseen_so service objects (with_state at.number done.state objects) dir (Some (empty_content id at.ask_place birth ask.from))
+    (made_becomes service objects at.number done.state id at.ask_place birth ask.from was_made.passed.here was_made.passed.is_new (ap (λ (s : State). s.contents) was_made.did))
     (λ there. refl) (λ name. sym (ap (thing_found name) none))
 
 pub returns-clause-cancelling : goal.returns-clause-cancelling
