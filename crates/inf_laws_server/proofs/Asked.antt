@@ -1,5 +1,6 @@
 -- The directory asked, and what a call finds under a name of it.
 use Rattle.std.proofs.Common.{◌≡◌, ℕ, Bool, true, false, cond, List, Option, Some, None, is_some, Result, Ok, Err, ok_or, refl, sym, ap, subst}
+use Rattle.std.specs.List.{list_all}
 use Rattle.inf_base.specs.declared.access.Access.{Access}
 use Rattle.inf_base.specs.declared.caller.CallRef.{CallRef}
 use Rattle.inf_base.specs.declared.directory.DirRef.{DirRef}
@@ -18,7 +19,7 @@ use Rattle.inf_message.specs.declared.reply.Reply.TheVariants as reply
 use Rattle.inf_message.specs.declared.reply.Spot.{Spot}
 use Rattle.inf_message.specs.declared.reply.Spot.TheVariants as spot
 use Rattle.inf_message.specs.declared.request.Request.{Request}
-use Rattle.inf_server.specs.Chains.{last_of}
+use Rattle.inf_server.specs.Chains.{has_entry}
 use Rattle.inf_server.specs.Checks.{asked_of, unsealed}
 use Rattle.inf_server.specs.Names.{found_by, in_the_way, is_missing, unless_held, unless_taken}
 use Rattle.inf_server.specs.Removals.{is_the_directory}
@@ -66,28 +67,30 @@ sealed_by_other site state from asked entry last here (Some sealer) is given ref
           apart = apart;
         })
 
-asked_comes : (site : Site) (state : State) (from : CallRef) (chain : List Entry)
-    → Comes (FailsAsked site state from (last_of chain)) (IsAsked site state from (last_of chain)) (asked_of site state from chain)
-asked_comes site state from chain =
-    let fails = FailsAsked site state from (last_of chain) in
-    let holds = IsAsked site state from (last_of chain) in
-    behind_some fails holds (last_of chain) reply.Other _ (λ none. tt) (λ entry last.
-    behind_check fails holds (is_here site entry.access.id) reply.Other _ (λ elsewhere. tt) (λ here.
-    behind_check fails holds (is_some (content_at (dir_of entry.access) state.contents)) reply.Gone _ (λ gone. tt) (λ there.
-    behind_unit fails holds (unsealed from entry.access.born (seal_of (content_at (dir_of entry.access) state.contents))) _
-    (sealed_by_other site state from (last_of chain) entry last here (seal_of (content_at (dir_of entry.access) state.contents)) refl)
-    (λ opens. record { last = last; here = here; there = there; open_to = opens }))))
+module _ (site : Site) (state : State) (from : CallRef) (sought : Option Entry) (carried : List (List Entry)) where
+  abbrev FailsSought : Reply → Type 0
+  FailsSought = FailsAsked site state from sought
 
-pub asked : (site : Site) (state : State) (from : CallRef) (chain : List Entry) (entry : Entry) → asked_of site state from chain ≡ Ok entry
-    → IsAsked site state from (last_of chain) entry
-asked site state from chain entry is =
-    subst (λ (r : Result Entry Reply). Comes (FailsAsked site state from (last_of chain)) (IsAsked site state from (last_of chain)) r) is
-    (asked_comes site state from chain)
+  abbrev IsSought : Entry → Type 0
+  IsSought = IsAsked site state from sought carried
 
--- and the other way round
-pub asked_again : (site : Site) (state : State) (from : CallRef) (chain : List Entry) (entry : Entry) → IsAsked site state from (last_of chain) entry
-    → asked_of site state from chain ≡ Ok entry
-asked_again site state from chain entry is = rw (is.last, is.here, is.there, is.open_to) refl
+  asked_comes : Comes FailsSought IsSought (asked_of site state from sought carried)
+  asked_comes =
+      behind_some FailsSought IsSought sought reply.Other _ (λ none. tt) (λ entry last.
+      behind_check FailsSought IsSought (is_here site entry.access.id) reply.Other _ (λ elsewhere. tt) (λ here.
+      behind_check FailsSought IsSought (list_all has_entry carried) reply.Other _ (λ empty. tt) (λ carries.
+      let found = content_at (dir_of entry.access) state.contents in
+      behind_check FailsSought IsSought (is_some found) reply.Gone _ (λ gone. tt) (λ there.
+      behind_unit FailsSought IsSought (unsealed from entry.access.born (seal_of found)) _
+      (sealed_by_other site state from sought entry last here (seal_of found) refl)
+      (λ opens. record { last = last; here = here; carries = carries; there = there; open_to = opens })))))
+
+  pub asked : (entry : Entry) → asked_of site state from sought carried ≡ Ok entry → IsAsked site state from sought carried entry
+  asked entry is = subst (λ (r : Result Entry Reply). Comes FailsSought IsSought r) is asked_comes
+
+  -- and the other way round
+  pub asked_again : (entry : Entry) → IsAsked site state from sought carried entry → asked_of site state from sought carried ≡ Ok entry
+  asked_again entry is = rw (is.last, is.here, is.carries, is.there, is.open_to) refl
 
 -- ---- what a call finds
 
@@ -97,7 +100,8 @@ FailsFound site state from asked name reply.Gone = Unit {0}
 FailsFound site state from asked name (reply.Busy by at born) = StopsAtName site state from asked name by at
 FailsFound site state from asked name other_reply = ⊥
 
-module _ (site : Site) (state : State) (from : CallRef) (last : Option Entry) (name : List ℕ) (entry : Entry) (is_asked : IsAsked site state from last entry) where
+module _ (site : Site) (state : State) (from : CallRef) (last : Option Entry) (carried : List (List Entry)) (name : List ℕ) (entry : Entry)
+    (is_asked : IsAsked site state from last carried entry) where
   abbrev fails : Reply → Type 0
   fails = FailsFound site state from last name
 
@@ -218,23 +222,23 @@ module _ (site : Site) (state : State) (ask : Ask) (wanted : Request) (of_chain 
   from_found last name blocks (reply.Busy by at born) fails = blocks by at fails
   from_found last name blocks other_reply fails = absurd fails
 
-  pub at_directory : {B : Type 0} (holds : B → Type 0) (chain : List Entry) (next : Entry → Result B Reply)
-      → ((by : CallRef) (at : Spot) → StopsAtSeal site state ask.from (last_of chain) by at → Blocks site state ask.from wanted by at)
-      → ((entry : Entry) → IsAsked site state ask.from (last_of chain) entry → Comes Why holds (next entry))
-      → Comes Why holds (asked_of site state ask.from chain >>= next)
-  at_directory holds chain next blocks rest =
-      behind Why (IsAsked site state ask.from (last_of chain)) holds (asked_of site state ask.from chain) next
-      (weaken (FailsAsked site state ask.from (last_of chain)) Why (IsAsked site state ask.from (last_of chain)) (asked_of site state ask.from chain)
-      (from_asked (last_of chain) blocks) (asked_comes site state ask.from chain))
+  pub at_directory : {B : Type 0} (holds : B → Type 0) (last : Option Entry) (carried : List (List Entry)) (next : Entry → Result B Reply)
+      → ((by : CallRef) (at : Spot) → StopsAtSeal site state ask.from last by at → Blocks site state ask.from wanted by at)
+      → ((entry : Entry) → IsAsked site state ask.from last carried entry → Comes Why holds (next entry))
+      → Comes Why holds (asked_of site state ask.from last carried >>= next)
+  at_directory holds last carried next blocks rest =
+      behind Why (IsAsked site state ask.from last carried) holds (asked_of site state ask.from last carried) next
+      (weaken (FailsAsked site state ask.from last) Why (IsAsked site state ask.from last carried) (asked_of site state ask.from last carried)
+      (from_asked last blocks) (asked_comes site state ask.from last carried))
       (λ entry is is_asked. rest entry is_asked)
 
-  pub at_name : {B : Type 0} (holds : B → Type 0) (last : Option Entry) (name : List ℕ) (next : Seen → Result B Reply)
-      (entry : Entry) (is_asked : IsAsked site state ask.from last entry)
+  pub at_name : {B : Type 0} {carried : List (List Entry)} (holds : B → Type 0) (last : Option Entry) (name : List ℕ) (next : Seen → Result B Reply)
+      (entry : Entry) (is_asked : IsAsked site state ask.from last carried entry)
       → ((by : CallRef) (at : Spot) → StopsAtName site state ask.from last name by at → Blocks site state ask.from wanted by at)
       → ((found : Seen) → found_by ask.from (dir_of entry.access) name state.contents ≡ Ok found → Comes Why holds (next found))
       → Comes Why holds (found_by ask.from (dir_of entry.access) name state.contents >>= next)
-  at_name holds last name next entry is_asked blocks rest =
+  at_name {carried = carried} holds last name next entry is_asked blocks rest =
       behind Why Anything holds (found_by ask.from (dir_of entry.access) name state.contents) next
       (weaken (FailsFound site state ask.from last name) Why Anything (found_by ask.from (dir_of entry.access) name state.contents)
-      (from_found last name blocks) (found_comes site state ask.from last name entry is_asked))
+      (from_found last name blocks) (found_comes site state ask.from last carried name entry is_asked))
       (λ found is any. rest found is)

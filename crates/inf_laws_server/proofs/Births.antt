@@ -1,5 +1,5 @@
 -- What makes a directory, gone through.
-use Rattle.std.proofs.Common.{◌≡◌, inl, inr, ℕ, Bool, true, false, cond, List, Option, Some, None, is_some, Result, Ok, Err, refl, subst}
+use Rattle.std.proofs.Common.{◌≡◌, inl, inr, ℕ, Bool, true, false, cond, List, [], ◌∷◌, Option, Some, None, is_some, Result, Ok, Err, refl, subst}
 use Rattle.inf_base.specs.declared.caller.CallRef.{CallRef}
 use Rattle.inf_base.specs.declared.directory.DirRef.{DirRef}
 use Rattle.inf_base.specs.declared.entry.Entry.{Entry}
@@ -20,6 +20,7 @@ use Rattle.inf_message.specs.declared.reply.Reply.TheVariants as reply
 use Rattle.inf_message.specs.declared.reply.Spot.TheVariants as spot
 use Rattle.inf_message.specs.declared.request.Request.{Request}
 use Rattle.inf_message.specs.declared.request.Request.TheVariants as request
+use Rattle.inf_server.specs.Chains.{last_of}
 use Rattle.inf_server.specs.Births.{cancel, link, make, reserve, unless_there}
 use Rattle.inf_server.specs.State.{Site, State, is_here}
 use Rattle.inf_laws_server.specs.Replies.{Fails}
@@ -82,7 +83,7 @@ module _ (site : Site) (state : State) (place : ℕ) (ask : Ask) where
   link_comes chain name dir mode =
       let wanted = request.Link chain name dir mode in
       let holds = Did site state place ask wanted in
-      at_directory site state ask wanted refl tt holds chain _ (λ by at stops. stops) (λ entry is_asked.
+      at_directory site state ask wanted refl tt holds (last_of chain) (chain ∷ []) _ (λ by at stops. stops) (λ entry is_asked.
       behind_check (Fails site state ask wanted) holds (is_some (first (reserves ask.from) (slots_at (dir_of entry.access) state.contents)))
       reply.Other _ (λ none. tt) (λ kept.
       record { passed = record { entry = entry; is_asked = is_asked; kept = kept }; said = refl; did = refl; succeeds = refl }))

@@ -1,5 +1,5 @@
 -- Changes of a server's state: what each keeps, and of which request it is.
-use Rattle.std.proofs.Common.{◌≡◌, ℕ, Bool, true, false, List, Some, refl}
+use Rattle.std.proofs.Common.{◌≡◌, ℕ, Bool, true, false, List, [], ◌∷◌, Some, refl}
 use Rattle.inf_base.specs.declared.caller.CallRef.{CallRef}
 use Rattle.inf_base.specs.declared.caller.Caller.{Caller}
 use Rattle.inf_base.specs.declared.directory.DirRef.{DirRef}
@@ -68,7 +68,7 @@ pub record IsLinking (site : Site) (state : State) (ask : Ask) (asked : Request)
   pub name : List ℕ
   pub is_link : asked ≡ request.Link chain name linked mode
   pub entry : Entry
-  pub is_asked : IsAsked site state ask.from (last_of chain) entry
+  pub is_asked : IsAsked site state ask.from (last_of chain) (chain ∷ []) entry
   pub in_dir : dir ≡ dir_of entry.access
   pub own : by ≡ ask.from
   pub callers : caller ≡ ask.caller

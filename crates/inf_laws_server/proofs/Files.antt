@@ -40,12 +40,12 @@ module _ (site : Site) (state : State) (place : ℕ) (ask : Ask) (wanted : Reque
     (denies : (error : Errno) → DeniesName site state ask chain name error → Denies site state ask wanted error) where
   pub new_name_comes : (next : Entry → Result Response Reply)
       → ((may : MayPut site state ask chain name) → Came site state place ask wanted (next may.entry))
-      → Came site state place ask wanted (asked_of site state ask.from chain >>= (λ entry. searched ask.caller chain >> (writable ask.caller entry
+      → Came site state place ask wanted (asked_of site state ask.from (last_of chain) (chain ∷ []) >>= (λ entry. searched ask.caller chain >> (writable ask.caller entry
       >> (found_by ask.from (dir_of entry.access) name state.contents >>= (λ found. check (is_missing found) (reply.Refused errno.EEXIST) >> next entry)))))
   new_name_comes next rest =
       let why = Fails site state ask wanted in
       let holds = Did site state place ask wanted in
-      at_directory site state ask wanted of_chain strays holds chain _ (λ by at stops. blocks by at (inl stops)) (λ entry is_asked.
+      at_directory site state ask wanted of_chain strays holds (last_of chain) (chain ∷ []) _ (λ by at stops. blocks by at (inl stops)) (λ entry is_asked.
       behind_check why holds (list_all (lets ask.caller want.Search) chain) (reply.Refused errno.EACCES) _
       (λ closed. denies errno.EACCES (inl (record { entry = entry; is_asked = is_asked; closed = closed; error_is = refl }))) (λ search.
       behind_check why holds (lets ask.caller want.Write entry) (reply.Refused errno.EACCES) _
@@ -86,7 +86,7 @@ module _ (site : Site) (state : State) (place : ℕ) (ask : Ask) (chain : List E
       new_name_comes site state place ask (finish (op.Create name mode)) refl tt chain name (λ by at blocks. blocks) (λ error denies. denies) _
       (λ may. record { passed = may; said = refl; did = refl; succeeds = refl })
 
-  stat_found : (name : List ℕ) (entry : Entry) → IsAsked site state ask.from (last_of chain) entry → list_all (lets ask.caller want.Search) chain ≡ true
+  stat_found : (name : List ℕ) (entry : Entry) → IsAsked site state ask.from (last_of chain) (chain ∷ []) entry → list_all (lets ask.caller want.Search) chain ≡ true
       → (found : Seen) → found_by ask.from (dir_of entry.access) name state.contents ≡ Ok found
       → Came site state place ask (finish (op.Stat name)) (stat_of found >>= (λ told. done told state))
   stat_found name entry is_asked search seen.Gone is = refl
@@ -129,13 +129,13 @@ module _ (site : Site) (state : State) (place : ℕ) (ask : Ask) (chain : List E
       let wanted = finish (op.Stat name) in
       let why = Fails site state ask wanted in
       let holds = Did site state place ask wanted in
-      at_directory site state ask wanted refl tt holds chain _ (λ by at stops. inl stops) (λ entry is_asked.
+      at_directory site state ask wanted refl tt holds (last_of chain) (chain ∷ []) _ (λ by at stops. inl stops) (λ entry is_asked.
       behind_check why holds (list_all (lets ask.caller want.Search) chain) (reply.Refused errno.EACCES) _
       (λ closed. inl (record { entry = entry; is_asked = is_asked; closed = closed; error_is = refl })) (λ search.
       at_name site state ask wanted refl tt holds (last_of chain) name _ entry is_asked (λ by at stops. inr stops)
       (stat_found name entry is_asked search)))
 
-  walk_found : (name : List ℕ) (entry : Entry) → IsAsked site state ask.from (last_of chain) entry → list_all (lets ask.caller want.Search) chain ≡ true
+  walk_found : (name : List ℕ) (entry : Entry) → IsAsked site state ask.from (last_of chain) (chain ∷ []) entry → list_all (lets ask.caller want.Search) chain ≡ true
       → (found : Seen) → found_by ask.from (dir_of entry.access) name state.contents ≡ Ok found
       → Came site state place ask (finish (op.Walk name)) (Err (no_directory found))
   walk_found name entry is_asked search seen.Gone is = refl
@@ -151,13 +151,13 @@ module _ (site : Site) (state : State) (place : ℕ) (ask : Ask) (chain : List E
       let wanted = finish (op.Walk name) in
       let why = Fails site state ask wanted in
       let holds = Did site state place ask wanted in
-      at_directory site state ask wanted refl tt holds chain _ (λ by at stops. inl stops) (λ entry is_asked.
+      at_directory site state ask wanted refl tt holds (last_of chain) (chain ∷ []) _ (λ by at stops. inl stops) (λ entry is_asked.
       behind_check why holds (list_all (lets ask.caller want.Search) chain) (reply.Refused errno.EACCES) _
       (λ closed. inl (record { entry = entry; is_asked = is_asked; closed = closed; error_is = refl })) (λ search.
       at_name site state ask wanted refl tt holds (last_of chain) name _ entry is_asked (λ by at stops. inr stops)
       (walk_found name entry is_asked search)))
 
-  none_found : (name : List ℕ) (entry : Entry) → IsAsked site state ask.from (last_of chain) entry → list_all (lets ask.caller want.Search) chain ≡ true
+  none_found : (name : List ℕ) (entry : Entry) → IsAsked site state ask.from (last_of chain) (chain ∷ []) entry → list_all (lets ask.caller want.Search) chain ≡ true
       → lets ask.caller want.Write entry ≡ true
       → (found : Seen) → found_by ask.from (dir_of entry.access) name state.contents ≡ Ok found
       → Came site state place ask (finish (op.RmdirName name)) (Err (no_directory found))
@@ -174,7 +174,7 @@ module _ (site : Site) (state : State) (place : ℕ) (ask : Ask) (chain : List E
       let wanted = finish (op.RmdirName name) in
       let why = Fails site state ask wanted in
       let holds = Did site state place ask wanted in
-      at_directory site state ask wanted refl tt holds chain _ (λ by at stops. inl stops) (λ entry is_asked.
+      at_directory site state ask wanted refl tt holds (last_of chain) (chain ∷ []) _ (λ by at stops. inl stops) (λ entry is_asked.
       behind_check why holds (list_all (lets ask.caller want.Search) chain) (reply.Refused errno.EACCES) _
       (λ closed. inl (record { entry = entry; is_asked = is_asked; closed = closed; error_is = refl })) (λ search.
       behind_check why holds (lets ask.caller want.Write entry) (reply.Refused errno.EACCES) _

@@ -61,7 +61,7 @@ module _ (site : Site) (state : State) (place : ℕ) (ask : Ask) where
   -- ---- the seal
 
   module _ (chain : List Entry) (parent : Entry) (above : last_of (before_last chain) ≡ Some parent) (entry : Entry)
-      (is_asked : IsAsked site state ask.from (last_of chain) entry)
+      (is_asked : IsAsked site state ask.from (last_of chain) (chain ∷ []) entry)
       (search : list_all (lets ask.caller want.Search) (before_last chain) ≡ true) (write : lets ask.caller want.Write parent ≡ true) where
     abbrev slots : List (List ℕ × Slot)
     slots = slots_at (dir_of entry.access) state.contents
@@ -107,7 +107,7 @@ module _ (site : Site) (state : State) (place : ℕ) (ask : Ask) where
       let why = Fails site state ask wanted in
       let holds = Did site state place ask wanted in
       behind_some why holds (last_of (before_last chain)) reply.Other _ (λ none. tt) (λ parent above.
-      at_directory site state ask wanted refl tt holds chain _ (λ by at stops. inl stops) (λ entry is_asked.
+      at_directory site state ask wanted refl tt holds (last_of chain) (chain ∷ []) _ (λ by at stops. inl stops) (λ entry is_asked.
       behind_check why holds (list_all (lets ask.caller want.Search) (before_last chain)) (reply.Refused errno.EACCES) _
       (λ closed. record {
         parent = parent;
@@ -155,7 +155,7 @@ module _ (site : Site) (state : State) (place : ℕ) (ask : Ask) where
       let holds = Did site state place ask wanted in
       behind_some why holds (last_of chain) reply.Other _ (λ none. tt) (λ target last.
       behind_some why holds (name_in target.key) reply.Other _ (λ none. tt) (λ name named.
-      at_directory site state ask wanted refl tt holds (before_last chain) _ (λ by at stops. inl stops) (λ entry is_asked.
+      at_directory site state ask wanted refl tt holds (last_of (before_last chain)) (chain ∷ []) _ (λ by at stops. inl stops) (λ entry is_asked.
       at_name site state ask wanted refl tt holds (last_of (before_last chain)) name _ entry is_asked
       (λ by at stops. inr (record { target = target; last = last; name = name; named = named; stops = stops })) (λ found is_found.
       behind_check why holds (is_the_directory target.access found) reply.Other _ (λ other. tt) (λ it.

@@ -13,6 +13,7 @@ use Rattle.inf_content.specs.Slots.{filled_in, first, first_changed, told_of_fil
 use Rattle.inf_message.specs.declared.ask.Ask.{Ask}
 use Rattle.inf_message.specs.declared.reply.Reply.TheVariants as reply
 use Rattle.inf_server.specs.Births.{link}
+use Rattle.inf_server.specs.Chains.{last_of}
 use Rattle.inf_server.specs.Checks.{asked_of}
 use Rattle.inf_server.specs.State.{Site, State}
 
@@ -68,7 +69,7 @@ abbrev pub told_link : State → Entry → Link → CallRef → Option (DirRef �
 told_link state entry link by = told_of_filled entry.access.id link (first (reserves by) (slots_at (dir_of entry.access) state.contents))
 
 pub link_refused : (site : Site) (state : State) (ask : Ask) (chain : List Entry) (entry : Entry) (dir : DirRef) (mode : ℕ)
-    → asked_of site state ask.from chain ≡ Ok entry → told_link state entry (Some (dir, mode, ask.caller)) ask.from ≡ None
+    → asked_of site state ask.from (last_of chain) (chain ∷ []) ≡ Ok entry → told_link state entry (Some (dir, mode, ask.caller)) ask.from ≡ None
     → link site state ask chain dir mode ≡ Err reply.Other
 link_refused site state ask chain entry dir mode asked told =
     rw (asked, first_is_none ask.from entry.access.id (Some (dir, mode, ask.caller)) (slots_at (dir_of entry.access) state.contents) told) refl
