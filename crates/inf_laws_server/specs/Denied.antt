@@ -42,7 +42,8 @@ pub record IsUnwritable (site : Site) (state : State) (ask : Ask) (asked : Optio
   pub error_is : error ≡ errno.EACCES
 
 -- what was found under the name of the directory asked
-pub record IsDeniedBy (site : Site) (state : State) (ask : Ask) (chain : List Entry) (name : List ℕ) (may : Entry → Type 0)
+pub record IsDeniedBy (site : Site) (state : State) (ask : Ask) (chain : List Entry) (name : List ℕ)
+    (may : Entry → Type 0)
     (says : Seen → Errno → Type 0) (error : Errno) : Type 0 where
   pub entry : Entry
   pub is_asked : IsAsked site state ask.from (last_of chain) (chain ∷ []) entry
@@ -106,7 +107,8 @@ pub record DeniesSeal (site : Site) (state : State) (ask : Ask) (chain : List En
   pub parent : Entry
   pub above : last_of (before_last chain) ≡ Some parent
   pub because : IsClosed site state ask (last_of chain) (chain ∷ []) (before_last chain) error
-      ⊎ IsUnwritable site state ask (last_of chain) (chain ∷ []) (before_last chain) error ⊎ IsFull site state ask chain error
+      ⊎ IsUnwritable site state ask (last_of chain) (chain ∷ []) (before_last chain) error
+      ⊎ IsFull site state ask chain error
 
 abbrev pub Denies : Site → State → Ask → Request → Errno → Type 0
 Denies site state ask (request.Finish chain with) error = DeniesOp site state ask chain with error

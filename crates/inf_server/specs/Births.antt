@@ -27,10 +27,17 @@ use Rattle.inf_server.specs.Names.{found_by, is_missing}
 use Rattle.inf_server.specs.Response.{Response, done}
 use Rattle.inf_server.specs.State.{Site, State, is_here, with_contents}
 
--- the access object to come is the caller's; it has the identifier of its birth, and no birth, no mode until it is linked
+-- the access object to come is the caller's; it has the identifier of its birth, and no birth, no mode until it is
+-- linked
 abbrev pub access_to_come : Site → Caller → Triple → Access
-access_to_come site caller birth =
-    record { id = identity site.digest birth; born = 0; mode = 0; owner = caller.uid; group = caller.gid; birth = birth }
+access_to_come site caller birth = record {
+  id = identity site.digest birth;
+  born = 0;
+  mode = 0;
+  owner = caller.uid;
+  group = caller.gid;
+  birth = birth;
+}
 
 -- the name is kept free for the call, with the least version that no directory of this name took that lives elsewhere
 abbrev pub reserve : Site → State → Ask → List Entry → List ℕ → Result Response Reply
@@ -42,7 +49,8 @@ reserve site state ask chain name = do
   check (is_missing found) (reply.Refused errno.EEXIST)
   let version = least_version entry.access.id name state.renames
   let access = access_to_come site ask.caller (triple.Of entry.access.id name version)
-  done (reply.Reserved version) (with_contents (reserved_at (dir_of entry.access) name ask.from access state.contents) state)
+  let contents = reserved_at (dir_of entry.access) name ask.from access state.contents
+  done (reply.Reserved version) (with_contents contents state)
 
 -- another directory has the identifier, or this one is there already: its sealer or maker is in the way
 abbrev pub unless_there : Made → Result (Unit {0}) Reply
@@ -63,7 +71,8 @@ abbrev pub link : Site → State → Ask → List Entry → DirRef → ℕ → R
 link site state ask chain dir mode = do
   entry ← asked_of site state ask.from (last_of chain) (chain ∷ [])
   check (is_some (first (reserves ask.from) (slots_at (dir_of entry.access) state.contents))) reply.Other
-  done reply.Fine (with_contents (filled_at (dir_of entry.access) ask.from (Some (dir, mode, ask.caller)) state.contents) state)
+  let contents = filled_at (dir_of entry.access) ask.from (Some (dir, mode, ask.caller)) state.contents
+  done reply.Fine (with_contents contents state)
 
 -- what the call reserves or holds in a directory is lifted
 abbrev pub cancel : Site → State → Ask → DirRef → Result Response Reply

@@ -30,7 +30,8 @@ create site state ask chain name mode = do
   writable ask.caller entry
   found ← found_by ask.from (dir_of entry.access) name state.contents
   check (is_missing found) (reply.Refused errno.EEXIST)
-  done reply.Fine (with_contents (with_file_at (dir_of entry.access) name (new_file ask.caller mode) state.contents) state)
+  let contents = with_file_at (dir_of entry.access) name (new_file ask.caller mode) state.contents
+  done reply.Fine (with_contents contents state)
 
 -- what is told of what was found; a directory has length 0
 abbrev pub stat_of : Seen → Result Reply Reply

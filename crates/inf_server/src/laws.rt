@@ -32,8 +32,9 @@ pub fn states_follow_serves()
 pub fn others_are_turned_away()
     ensures lookups { (here : Site) (state : State) → is_here here (root_id here) ≡ false
         → lookup_top here state ≡ Err reply.Other }
-    ensures asked { (here : Site) (state : State) (by : CallRef) (asked : Option Entry) (carried : List (List Entry)) (entry : Entry)
-        → asked ≡ Some entry → is_here here entry.access.id ≡ false → asked_of here state by asked carried ≡ Err reply.Other }
+    ensures asked { (here : Site) (state : State) (by : CallRef) (asked : Option Entry) (carried : List (List Entry))
+        (entry : Entry) → asked ≡ Some entry → is_here here entry.access.id ≡ false
+        → asked_of here state by asked carried ≡ Err reply.Other }
     ensures none_asked { (here : Site) (state : State) (by : CallRef) (carried : List (List Entry))
         → asked_of here state by None carried ≡ Err reply.Other }
     ensures empty_chains { (here : Site) (state : State) (by : CallRef) (entry : Entry) (carried : List (List Entry))
@@ -47,6 +48,8 @@ pub fn others_are_turned_away()
 
 /// The coordinator, whose number is that of the servers, keeps no directory.
 pub fn coordinators_keep_nothing()
-    ensures contents { (servers : ℕ) (digest : List ℕ → Id) → 1 ≤ servers → (opening (site servers servers digest)).contents ≡ [] }
-    ensures top { (servers : ℕ) (digest : List ℕ → Id) → 1 ≤ servers → (opening (site servers servers digest)).top ≡ None }
+    ensures contents { (servers : ℕ) (digest : List ℕ → Id) → 1 ≤ servers
+        → (opening (site servers servers digest)).contents ≡ [] }
+    ensures top { (servers : ℕ) (digest : List ℕ → Id) → 1 ≤ servers
+        → (opening (site servers servers digest)).top ≡ None }
 {}

@@ -154,7 +154,8 @@ impl<R: IdRule> Server<R> {
     fn change(&mut self, ask: &Ask) -> Result<(), Refusal>
         requires { is_change ask.now.request ≡ true }
         ensures done { OnOk result (
-            on_change (site_of R.digest_of self.old) self.old.state ask.now ask.now.request ≡ done reply.Fine self.new.state) }
+            on_change (site_of R.digest_of self.old) self.old.state ask.now ask.now.request
+            ≡ done reply.Fine self.new.state) }
         ensures refused { IfErr result (λ refusal.
             on_change (site_of R.digest_of self.old) self.old.state ask.now ask.now.request ≡ Err (reply_of refusal)) }
         ensures unchanged { OnErr result (self.new ≡ self.old) }
@@ -197,8 +198,8 @@ impl<R: IdRule> Server<R> {
         }
     }
 
-    /// The entry of the directory asked, by a request that carries these chains: the directory is kept here, stands, and
-    /// no other call sealed it.
+    /// The entry of the directory asked, by a request that carries these chains: the directory is kept here, stands,
+    /// and no other call sealed it.
     fn asked<'a>(
         &self,
         by: CallRef,
