@@ -32,13 +32,14 @@ open_to by born (Some kept) is sealer sealed = by_call (is_same_call kept by) re
     by_call true same is = let it : sealer ≡ kept = cc in it ∙ same_call kept by same
     by_call false apart is = cc
 
-pub asked_open : (site : Site) (state : State) (by : CallRef) (last : Option Entry) (entry : Entry) → IsAsked site state by last entry
+pub asked_open : {carried : List (List Entry)} (site : Site) (state : State) (by : CallRef) (last : Option Entry) (entry : Entry)
+    → IsAsked site state by last carried entry
     → (sealer : CallRef) → seal_of (content_at (dir_of entry.access) state.contents) ≡ Some sealer → sealer ≡ by
 asked_open site state by last entry is = open_to by entry.access.born (seal_of (content_at (dir_of entry.access) state.contents)) is.open_to
 
-pub asked_not_sealed : (service : Service) (objects : Objects) (number : ℕ) (root : Access) (phases : Phases) (owned : AreOwned service objects root phases)
+pub asked_not_sealed : {carried : List (List Entry)} (service : Service) (objects : Objects) (number : ℕ) (root : Access) (phases : Phases) (owned : AreOwned service objects root phases)
     (by : CallRef) (last : Option Entry) (entry : Entry)
-    → IsAsked (site_in service number) (objects number) by last entry → (IsSealing (phases by) (dir_of entry.access) → ⊥)
+    → IsAsked (site_in service number) (objects number) by last carried entry → (IsSealing (phases by) (dir_of entry.access) → ⊥)
     → (call : CallRef) → IsSealing (phases call) (dir_of entry.access) → ⊥
 asked_not_sealed service objects number root phases owned by last entry is not_by call sealing =
     let kept = content_here service objects number (objects number) (dir_of entry.access) is.here in

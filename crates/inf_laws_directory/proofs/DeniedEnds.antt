@@ -1,5 +1,5 @@
 -- A request that was refused asked the directory at the end of its chain.
-use Rattle.std.proofs.Common.{◌⊎◌, inl, inr, ℕ, List}
+use Rattle.std.proofs.Common.{◌⊎◌, inl, inr, ℕ, List, [], ◌∷◌}
 use Rattle.inf_base.specs.declared.entry.Entry.{Entry}
 use Rattle.inf_base.specs.declared.errno.Errno.{Errno}
 use Rattle.inf_message.specs.declared.ask.Ask.{Ask}
@@ -12,7 +12,7 @@ use Rattle.inf_laws_server.specs.Passed.{IsAsked}
 
 pub record HasAsked (site : Site) (state : State) (ask : Ask) (chain : List Entry) : Type 0 where
   pub value : Entry
-  pub is_asked : IsAsked site state ask.from (last_of chain) value
+  pub is_asked : IsAsked site state ask.from (last_of chain) (chain ∷ []) value
 
 module _ (site : Site) (state : State) (ask : Ask) (chain : List Entry) where
   module _ (name : List ℕ) (error : Errno) where
@@ -35,8 +35,8 @@ module _ (site : Site) (state : State) (ask : Ask) (chain : List Entry) where
     asked_if_none (inr (inr is)) = record { value = is.entry; is_asked = is.is_asked }
 
   module _ (error : Errno) where
-    by_reason : IsClosed site state ask (last_of chain) (before_last chain) error
-        ⊎ IsUnwritable site state ask (last_of chain) (before_last chain) error ⊎ IsFull site state ask chain error → HasAsked site state ask chain
+    by_reason : IsClosed site state ask (last_of chain) (chain ∷ []) (before_last chain) error
+        ⊎ IsUnwritable site state ask (last_of chain) (chain ∷ []) (before_last chain) error ⊎ IsFull site state ask chain error → HasAsked site state ask chain
     by_reason (inl is) = record { value = is.entry; is_asked = is.is_asked }
     by_reason (inr (inl is)) = record { value = is.entry; is_asked = is.is_asked }
     by_reason (inr (inr is)) = record { value = is.entry; is_asked = is.is_asked }

@@ -1,5 +1,5 @@
 -- A directory that was asked is there in the service, and no other call has sealed it.
-use Rattle.std.proofs.Common.{◌≡◌, ℕ, true, List, Some, is_some, sym, ap, ◌∙◌}
+use Rattle.std.proofs.Common.{◌≡◌, ℕ, true, List, [], ◌∷◌, Some, is_some, sym, ap, ◌∙◌}
 use Rattle.inf_base.specs.declared.caller.CallRef.{CallRef}
 use Rattle.inf_base.specs.declared.entry.Entry.{Entry}
 use Rattle.inf_base.specs.Same.{dir_of}
@@ -16,7 +16,7 @@ pub record IsOpen (service : Service) (objects : Objects) (by : CallRef) (chain 
   pub unsealed : (sealer : CallRef) → seal_of (content_in service objects (dir_of entry.access)) ≡ Some sealer → sealer ≡ by
 
 pub is_open : (service : Service) (objects : Objects) (number : ℕ) (by : CallRef) (chain : List Entry) (entry : Entry)
-    → IsAsked (site_in service number) (objects number) by (last_of chain) entry → IsOpen service objects by chain entry
+    → IsAsked (site_in service number) (objects number) by (last_of chain) (chain ∷ []) entry → IsOpen service objects by chain entry
 is_open service objects number by chain entry is =
     let here = content_here service objects number (objects number) (dir_of entry.access) is.here in
     record {

@@ -105,7 +105,7 @@ module _ (service : Service) (objects : Objects) (number : ℕ) (root : Access) 
   passes = list_all (lets ask.caller want.Search) chain
 
   abbrev IsEnd : Entry → Type 0
-  IsEnd entry = IsAsked site state ask.from (last_of chain) entry
+  IsEnd entry = IsAsked site state ask.from (last_of chain) (chain ∷ []) entry
 
   -- the directory asked is the one where the chain ends
   is_last : (entry : Entry) → last_of chain ≡ Some entry → entry ≡ last
@@ -142,7 +142,7 @@ module _ (service : Service) (objects : Objects) (number : ℕ) (root : Access) 
 
       -- a chain that does not let the caller search refuses both
       pub closed_refused : (rest : List (List ℕ)) → path_of text ≡ Ok (path ++ name ∷ rest) → (error : Errno)
-          → IsClosed site state ask (last_of chain) chain error → Refuses error
+          → IsClosed site state ask (last_of chain) (chain ∷ []) chain error → Refuses error
       closed_refused rest names error is =
           subst Refuses (sym is.error_is) (unsearched dirs root tree ask.caller path name chain last at.stands at.leads at.ends rest asked_call text on names is.closed)
 
@@ -210,7 +210,7 @@ module _ (service : Service) (objects : Objects) (number : ℕ) (root : Access) 
       abbrev StaysStanding : Errno → Type 0
       StaysStanding error = IsRefused tree ask.caller (call.Rmdir text) error
 
-      pub unwritable_stays : (error : Errno) → IsUnwritable site state ask (last_of chain) chain error → StaysStanding error
+      pub unwritable_stays : (error : Errno) → IsUnwritable site state ask (last_of chain) (chain ∷ []) chain error → StaysStanding error
       unwritable_stays error is =
           subst StaysStanding (sym is.error_is)
           (unwritten dirs root tree ask.caller path name chain last at.stands at.leads at.ends text names (closed_at_end is.written is.ends is.closed))

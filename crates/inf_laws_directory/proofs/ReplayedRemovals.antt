@@ -99,7 +99,7 @@ module _ (service : Service) (objects : Objects) (number : ℕ) (root : Access) 
   abbrev Refuses : Errno → Type 0
   Refuses error = IsRefused tree ask.caller (call.Rmdir text) error
 
-  full_refused : AreInOrder state.contents → (entry : Entry) → IsAsked site state ask.from (last_of chain) entry → passes ≡ true → may_write ≡ true
+  full_refused : AreInOrder state.contents → (entry : Entry) → IsAsked site state ask.from (last_of chain) (chain ∷ []) entry → passes ≡ true → may_write ≡ true
       → has_free (slots_at (dir_of entry.access) state.contents) ≡ true → Refuses errno.ENOTEMPTY
   full_refused ordered entry is_asked open_to may full =
       let dir = dir_of entry.access in
@@ -111,8 +111,8 @@ module _ (service : Service) (objects : Objects) (number : ℕ) (root : Access) 
       ∙ ap (changes tree) (permits service objects number root tree ask path (before_last chain) parent above (Err errno.ENOTEMPTY) open_to may)
 
   abbrev IsDenied : Errno → Type 0
-  IsDenied error = IsClosed site state ask (last_of chain) (before_last chain) error
-      ⊎ IsUnwritable site state ask (last_of chain) (before_last chain) error ⊎ IsFull site state ask chain error
+  IsDenied error = IsClosed site state ask (last_of chain) (chain ∷ []) (before_last chain) error
+      ⊎ IsUnwritable site state ask (last_of chain) (chain ∷ []) (before_last chain) error ⊎ IsFull site state ask chain error
 
   denied_refused : AreInOrder state.contents → (error : Errno) → IsDenied error → Refuses error
   denied_refused ordered error (inl is) =

@@ -79,8 +79,8 @@ there_absurd : {P : Type 0} (found : Option Content) → is_some found ≡ true 
 there_absurd None there is = cc
 there_absurd (Some c) there is = cc
 
-pub has_edited : (site : Site) (old new : State) (by : CallRef) (asked : Option Entry) (entry : Entry) (with : Edit)
-    → IsAsked site old by asked entry → new ≡ changed (change.slots (dir_of entry.access) with) old
+pub has_edited : {carried : List (List Entry)} (site : Site) (old new : State) (by : CallRef) (asked : Option Entry) (entry : Entry) (with : Edit)
+    → IsAsked site old by asked carried entry → new ≡ changed (change.slots (dir_of entry.access) with) old
     → HasChanged site old new (dir_of entry.access) (edited with)
 has_edited site old new by asked entry with is_asked did = record {
   here = is_asked.here;

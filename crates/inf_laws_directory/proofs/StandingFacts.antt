@@ -85,7 +85,7 @@ idle_apart phase dir at_idle unlinked = cc (at_idle, unlinked)
 -- a chain that was told to a call with nothing in hand leads to the directory asked
 pub asked_at : (service : Service) (objects : Objects) (number : ℕ) (root : Access) (tree : Node) (phases : Phases) (by : CallRef) (path : List (List ℕ)) (chain : List Entry) (last : Entry)
     → IsStanding service objects root tree phases → phases by ≡ idle → IsToldAlong service objects root phases path chain
-    → IsAsked (site_in service number) (objects number) by (last_of chain) last → IsAt (content_in service objects) root tree path chain last
+    → IsAsked (site_in service number) (objects number) by (last_of chain) (chain ∷ []) last → IsAt (content_in service objects) root tree path chain last
 asked_at service objects number root tree phases by path chain last standing at_idle told asked =
     let it_is_open = is_open service objects number by chain last asked in
     is_at service objects root tree phases path chain last standing

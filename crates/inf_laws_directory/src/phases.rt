@@ -41,7 +41,7 @@ pub fn chains_are_true()
     ensures { (service : Service) (objects : Objects) (number : ℕ) (root : Access) (phases : Phases) (by : CallRef)
         (path : List (List ℕ)) (chain : List Entry) (last : Entry)
         → AreOwned service objects root phases → AreTold service objects root phases chain → LinkAlong path chain
-        → asked_of (site_in service number) (objects number) by chain ≡ Ok last
+        → asked_of (site_in service number) (objects number) by (last_of chain) (chain ∷ []) ≡ Ok last
         → (phases by ≡ has_unlinked (dir_of last.access) → ⊥)
         → Leads (shown_of service objects phases) root path chain }
 {}

@@ -1,5 +1,5 @@
 -- Who bears a directory that is to be made and is there already: another client, which has not linked it yet, or sealed it.
-use Rattle.std.proofs.Common.{◌≡◌, bytes_eq, ◌≢◌, ◌⊎◌, inl, inr, ℕ, ◌==◌, ◌&&◌, Bool, true, false, not, cond, List, [], Option, Some, None, is_some, refl, sym, ap, ap₂, ◌∙◌, subst, arith}
+use Rattle.std.proofs.Common.{◌≡◌, bytes_eq, ◌≢◌, ◌⊎◌, inl, inr, ℕ, ◌==◌, ◌&&◌, Bool, true, false, not, cond, List, [], ◌∷◌, Option, Some, None, is_some, refl, sym, ap, ap₂, ◌∙◌, subst, arith}
 use Rattle.std.specs.List.{list_any}
 use Rattle.std.proofs.lemmas.Bool.Decides.{Decides-eqb}
 use Rattle.std.proofs.lemmas.Slice.Eq.{bytes_eq-Decides}
@@ -68,7 +68,7 @@ module _ (world : World) (h : List Event) (kept : Kept world h) (legal : Legal w
 
   -- what a call links is of the name that it keeps
   links_made : (chain : List Entry) (name : List ℕ) (dir : DirRef) (mode : ℕ) → may.posted.ask.request ≡ request.Link chain name dir mode
-      → (entry : Entry) → IsAsked (site_of world number) (server_after world number h) may.posted.ask.from (last_of chain) entry → (content : Content)
+      → (entry : Entry) → IsAsked (site_of world number) (server_after world number h) may.posted.ask.from (last_of chain) (chain ∷ []) entry → (content : Content)
       → content_at (dir_of entry.access) (server_after world number h).contents ≡ Some content
       → (found : List ℕ × Slot) → first (reserves may.posted.ask.from) content.slots ≡ Some found
       → StandsAsMade h content.dir found.0 (filled (Some (dir, mode, may.posted.ask.caller)) found.1)

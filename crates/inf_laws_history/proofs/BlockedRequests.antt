@@ -38,7 +38,6 @@ use Rattle.inf_message.specs.declared.request.Request.{Request}
 use Rattle.inf_message.specs.declared.request.Request.TheVariants as request
 use Rattle.inf_perm.specs.declared.want.Want.TheVariants as want
 use Rattle.inf_server.specs.Chains.{before_last, last_of}
-use Rattle.inf_server.specs.Checks.{asked_of, lets}
 use Rattle.inf_server.specs.Machine.{on_change, on_lookup, on_op, on_request}
 use Rattle.inf_server.specs.Removals.{is_the_directory, name_in, seal, unless_inside, unlink}
 use Rattle.inf_server.specs.Response.{Response, done}

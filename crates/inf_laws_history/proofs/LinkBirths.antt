@@ -182,7 +182,7 @@ module _ (h : List Event) where
   abbrev pub LinksMade : Site → State → Ask → Type 0
   LinksMade site state ask =
       (chain : List Entry) (name : List ℕ) (dir : DirRef) (mode : ℕ) → ask.request ≡ request.Link chain name dir mode
-      → (entry : Entry) → IsAsked site state ask.from (last_of chain) entry → (content : Content) → content_at (dir_of entry.access) state.contents ≡ Some content
+      → (entry : Entry) → IsAsked site state ask.from (last_of chain) (chain ∷ []) entry → (content : Content) → content_at (dir_of entry.access) state.contents ≡ Some content
       → (found : List ℕ × Slot) → first (reserves ask.from) content.slots ≡ Some found
       → StandsAsMade content.dir found.0 (filled (Some (dir, mode, ask.caller)) found.1)
 

@@ -3,6 +3,7 @@
 use Rattle.std.proofs.Common.{◌≡◌, ◌≢◌, ℕ, Bool, true, false, cond, List, [], ◌∷◌, slice_get, Option, Some, None, is_some, Result, Ok, refl, sym, ap, ◌∙◌, subst}
 use Rattle.std.specs.Option.{ok_or}
 use Rattle.std.proofs.lemmas.Bool.Decides.{Decides-eqb}
+use Rattle.std.specs.List.{list_all}
 use Rattle.inf_base.specs.declared.id.Id.{Id}
 use Rattle.inf_base.specs.declared.caller.CallRef.{CallRef}
 use Rattle.inf_base.specs.declared.directory.DirRef.{DirRef}
@@ -51,8 +52,8 @@ use Rattle.inf_message.specs.declared.step.Message.{Message}
 use Rattle.inf_message.specs.History.{Posted, asked_at, event_at}
 use Rattle.inf_server.specs.Births.{link}
 use Rattle.inf_server.specs.Machine.{on_request}
-use Rattle.inf_server.specs.Chains.{last_of}
-use Rattle.inf_server.specs.Checks.{unsealed}
+use Rattle.inf_server.specs.Chains.{has_entry, last_of}
+use Rattle.inf_server.specs.Checks.{have_entries, unsealed}
 use Rattle.inf_server.specs.Response.{Response, done, response}
 use Rattle.inf_server.specs.State.{Site, State, is_here, with_contents}
 
@@ -115,17 +116,24 @@ reserved_first by name slot (e ∷ es) found own = any (reserves by e.1) refl (�
     any false is later = by_name _ is found later
 
 -- the checks before it reply something else
-passes : (old : State) (entry : Entry) (by : CallRef) (here there : Bool) (seal : Option CallRef) (more : Entry → Result Response Reply) → here ≡ true
-    → (response old (more entry)).reply ≢ reply.Other
-    → (response old ((check here reply.Other >> (check there reply.Gone >> (unsealed by entry.access.born seal >> Ok entry))) >>= more)).reply ≢ reply.Other
-passes old entry by true true None more at fine = fine
-passes old entry by true true (Some sealer) more at fine = by_seal (is_same_call sealer by)
+passes : (old : State) (entry : Entry) (by : CallRef) (here carries there : Bool) (seal : Option CallRef) (more : Entry → Result Response Reply)
+    → here ≡ true → carries ≡ true → (response old (more entry)).reply ≢ reply.Other
+    → (response old ((check here reply.Other >> (check carries reply.Other >> (check there reply.Gone
+    >> (unsealed by entry.access.born seal >> Ok entry)))) >>= more)).reply ≢ reply.Other
+passes old entry by true true true None more at all fine = fine
+passes old entry by true true true (Some sealer) more at all fine = by_seal (is_same_call sealer by)
   where
     by_seal : (b : Bool) → (response old ((check b (reply.Busy sealer spot.Sealed entry.access.born) >> Ok entry) >>= more)).reply ≢ reply.Other
     by_seal true = fine
     by_seal false = λ it. cc
-passes old entry by true false seal more at fine = λ it. cc
-passes old entry by false there seal more at fine = λ it. cc
+passes old entry by true true false seal more at all fine = λ it. cc
+passes old entry by true false there seal more at all fine = λ it. cc
+passes old entry by false carries there seal more at all fine = λ it. cc
+
+-- a chain that ends in an entry has one
+ending_carries : (chain : List Entry) (last : Entry) → last_of chain ≡ Some last → list_all has_entry (chain ∷ []) ≡ true
+ending_carries [] last ends = cc
+ending_carries (entry ∷ entries) last ends = refl
 
 -- and it finds what was reserved
 fine : (old next : State) (found : Bool) → found ≡ true → (response old (check found reply.Other >> done reply.Fine next)).reply ≢ reply.Other
@@ -144,15 +152,16 @@ module _ (site : Site) (old : State) (ask : Ask) (chain : List Entry) (dir : Dir
   comes found =
       (ok_or found reply.Other
       >>= (λ (entry : Entry). check (is_here site entry.access.id) reply.Other
+      >> (have_entries (chain ∷ [])
       >> (check (is_some (content_at (dir_of entry.access) old.contents)) reply.Gone
-      >> (unsealed ask.from entry.access.born (seal_of (content_at (dir_of entry.access) old.contents)) >> Ok entry))))
+      >> (unsealed ask.from entry.access.born (seal_of (content_at (dir_of entry.access) old.contents)) >> Ok entry)))))
       >>= fills
 
   not_other : (response old (link site old ask chain dir mode)).reply ≢ reply.Other
   not_other =
       subst (λ (found : Option Entry). (response old (comes found)).reply ≢ reply.Other) (sym ends)
-      (passes old last ask.from (is_here site last.access.id) (is_some (content_at (dir_of last.access) old.contents))
-      (seal_of (content_at (dir_of last.access) old.contents)) fills here
+      (passes old last ask.from (is_here site last.access.id) (list_all has_entry (chain ∷ [])) (is_some (content_at (dir_of last.access) old.contents))
+      (seal_of (content_at (dir_of last.access) old.contents)) fills here (ending_carries chain last ends)
       (fine old _ (is_some (first (reserves ask.from) (slots_at (dir_of last.access) old.contents))) kept))
 
 -- ---- so in a legal history

@@ -1,5 +1,5 @@
 -- What makes a directory, gone through.
-use Rattle.std.proofs.Common.{◌≡◌, inl, inr, ℕ, Bool, true, false, cond, List, Option, Some, None, is_some, Result, Ok, Err, refl, subst}
+use Rattle.std.proofs.Common.{◌≡◌, inl, inr, ℕ, Bool, true, false, cond, List, [], ◌∷◌, Option, Some, None, is_some, Result, Ok, Err, refl, subst}
 use Rattle.inf_base.specs.declared.caller.CallRef.{CallRef}
 use Rattle.inf_base.specs.declared.directory.DirRef.{DirRef}
 use Rattle.inf_base.specs.declared.entry.Entry.{Entry}
@@ -20,6 +20,7 @@ use Rattle.inf_message.specs.declared.reply.Reply.TheVariants as reply
 use Rattle.inf_message.specs.declared.reply.Spot.TheVariants as spot
 use Rattle.inf_message.specs.declared.request.Request.{Request}
 use Rattle.inf_message.specs.declared.request.Request.TheVariants as request
+use Rattle.inf_server.specs.Chains.{last_of}
 use Rattle.inf_server.specs.Births.{cancel, link, make, reserve, unless_there}
 use Rattle.inf_server.specs.State.{Site, State, is_here}
 use Rattle.inf_laws_server.specs.Replies.{Fails}
@@ -38,9 +39,11 @@ is_new birth (Some c) is = absurd (by (is_same_triple c.triple birth) is)
     by false is = cc
 
 module _ (site : Site) (state : State) (place : ℕ) (ask : Ask) where
-  pub reserve_comes : (chain : List Entry) (name : List ℕ) → Came site state place ask (request.Reserve chain name) (reserve site state ask chain name)
+  pub reserve_comes : (chain : List Entry) (name : List ℕ) → Came site state place ask (request.Reserve chain name)
+      (reserve site state ask chain name)
   reserve_comes chain name =
-      new_name_comes site state place ask (request.Reserve chain name) refl tt chain name (λ by at blocks. blocks) (λ error denies. denies) _
+      new_name_comes site state place ask (request.Reserve chain name) refl tt chain name (λ by at blocks. blocks)
+          (λ error denies. denies) _
       (λ may. record { passed = may; said = refl; did = refl; succeeds = refl })
 
   -- ---- the content object
@@ -52,11 +55,14 @@ module _ (site : Site) (state : State) (place : ℕ) (ask : Ask) where
     abbrev id : Id
     id = identity site.digest birth
 
-    kept_fails : (content : Content) → content_of_id id state.contents ≡ Some content → (b : Bool) → is_same_triple content.triple birth ≡ b
-        → (given : Reply) → unless_there (cond b (made.Bearer (bearer content)) (made.Clash content.triple)) ≡ Err given → why given
+    kept_fails : (content : Content) → content_of_id id state.contents ≡ Some content → (b : Bool)
+        → is_same_triple content.triple birth ≡ b
+        → (given : Reply) → unless_there (cond b (made.Bearer (bearer content)) (made.Clash content.triple)) ≡ Err given
+        → why given
     kept_fails content there true same given refused =
         let told : reply.Busy (bearer content) spot.Bearer 0 ≡ given = cc in
-        subst why told (record { content = content; here = here; there = there; same = same; bearer_is = refl; spot_is = refl })
+        subst why told (record { content = content; here = here; there = there; same = same; bearer_is = refl;
+            spot_is = refl })
     kept_fails content there false apart given refused =
         let told : reply.Clash content.triple ≡ given = cc in
         subst why told (record { content = content; here = here; there = there; apart = apart; kept_is = refl })
@@ -64,16 +70,20 @@ module _ (site : Site) (state : State) (place : ℕ) (ask : Ask) where
     there_fails : (found : Option Content) → content_of_id id state.contents ≡ found → (given : Reply)
         → unless_there (made_of birth found) ≡ Err given → why given
     there_fails None none given refused = cc
-    there_fails (Some content) there given refused = kept_fails content there (is_same_triple content.triple birth) refl given refused
+    there_fails (Some content) there given refused =
+        kept_fails content there (is_same_triple content.triple birth) refl given refused
 
   pub make_comes : (birth : Triple) → Came site state place ask (request.Make birth) (make site state place ask birth)
   make_comes birth =
       let wanted = request.Make birth in
       let holds = Did site state place ask wanted in
       let found = content_of_id (identity site.digest birth) state.contents in
-      behind_check (Fails site state ask wanted) holds (is_here site (identity site.digest birth)) reply.Other _ (λ elsewhere. tt) (λ here.
-      behind_unit (Fails site state ask wanted) holds (unless_there (made_of birth found)) _ (there_fails birth here found refl) (λ is.
-      record { passed = record { here = here; is_new = is_new birth found is }; said = refl; did = refl; succeeds = refl }))
+      behind_check (Fails site state ask wanted) holds (is_here site (identity site.digest birth)) reply.Other _
+          (λ elsewhere. tt) (λ here.
+      behind_unit (Fails site state ask wanted) holds (unless_there (made_of birth found)) _
+          (there_fails birth here found refl) (λ is.
+      record { passed = record { here = here; is_new = is_new birth found is }; said = refl; did = refl;
+          succeeds = refl }))
 
   -- ---- the link
 
@@ -82,14 +92,19 @@ module _ (site : Site) (state : State) (place : ℕ) (ask : Ask) where
   link_comes chain name dir mode =
       let wanted = request.Link chain name dir mode in
       let holds = Did site state place ask wanted in
-      at_directory site state ask wanted refl tt holds chain _ (λ by at stops. stops) (λ entry is_asked.
-      behind_check (Fails site state ask wanted) holds (is_some (first (reserves ask.from) (slots_at (dir_of entry.access) state.contents)))
+      at_directory site state ask wanted refl tt holds (last_of chain) (chain ∷ []) _ (λ by at stops. stops)
+          (λ entry is_asked.
+      behind_check (Fails site state ask wanted) holds (is_some
+          (first (reserves ask.from) (slots_at (dir_of entry.access) state.contents)))
       reply.Other _ (λ none. tt) (λ kept.
-      record { passed = record { entry = entry; is_asked = is_asked; kept = kept }; said = refl; did = refl; succeeds = refl }))
+      record { passed = record { entry = entry; is_asked = is_asked; kept = kept }; said = refl; did = refl;
+          succeeds = refl }))
 
   -- ---- and what undoes it
 
   pub cancel_comes : (dir : DirRef) → Came site state place ask (request.Cancel dir) (cancel site state ask dir)
   cancel_comes dir =
-      behind_check (Fails site state ask (request.Cancel dir)) (Did site state place ask (request.Cancel dir)) (is_here site dir.id) reply.Other _
-      (λ elsewhere. elsewhere) (λ here. record { passed = record { here = here }; said = refl; did = refl; succeeds = refl })
+      behind_check (Fails site state ask (request.Cancel dir)) (Did site state place ask (request.Cancel dir))
+          (is_here site dir.id) reply.Other _
+      (λ elsewhere. elsewhere) (λ here. record { passed = record { here = here }; said = refl; did = refl;
+      succeeds = refl })

@@ -34,20 +34,26 @@ use Rattle.inf_laws_server.proofs.Came.{Came, Did}
 use Rattle.inf_laws_server.proofs.Walking.{Comes, behind_check}
 
 -- a name that is to be free
-module _ (site : Site) (state : State) (place : ℕ) (ask : Ask) (wanted : Request) (of_chain : asks_chain wanted ≡ true) (strays : Strays site wanted)
+module _ (site : Site) (state : State) (place : ℕ) (ask : Ask) (wanted : Request) (of_chain : asks_chain wanted ≡ true)
+    (strays : Strays site wanted)
     (chain : List Entry) (name : List ℕ)
-    (blocks : (by : CallRef) (at : Spot) → BlocksName site state ask.from (last_of chain) name by at → Blocks site state ask.from wanted by at)
+    (blocks : (by : CallRef) (at : Spot) → BlocksName site state ask.from (last_of chain) name by at
+    → Blocks site state ask.from wanted by at)
     (denies : (error : Errno) → DeniesName site state ask chain name error → Denies site state ask wanted error) where
   pub new_name_comes : (next : Entry → Result Response Reply)
       → ((may : MayPut site state ask chain name) → Came site state place ask wanted (next may.entry))
-      → Came site state place ask wanted (asked_of site state ask.from chain >>= (λ entry. searched ask.caller chain >> (writable ask.caller entry
-      >> (found_by ask.from (dir_of entry.access) name state.contents >>= (λ found. check (is_missing found) (reply.Refused errno.EEXIST) >> next entry)))))
+      → Came site state place ask wanted (asked_of site state ask.from (last_of chain) (chain ∷ [])
+      >>= (λ entry. searched ask.caller chain >> (writable ask.caller entry
+      >> (found_by ask.from (dir_of entry.access) name state.contents
+      >>= (λ found. check (is_missing found) (reply.Refused errno.EEXIST) >> next entry)))))
   new_name_comes next rest =
       let why = Fails site state ask wanted in
       let holds = Did site state place ask wanted in
-      at_directory site state ask wanted of_chain strays holds chain _ (λ by at stops. blocks by at (inl stops)) (λ entry is_asked.
+      at_directory site state ask wanted of_chain strays holds (last_of chain) (chain ∷ []) _
+          (λ by at stops. blocks by at (inl stops)) (λ entry is_asked.
       behind_check why holds (list_all (lets ask.caller want.Search) chain) (reply.Refused errno.EACCES) _
-      (λ closed. denies errno.EACCES (inl (record { entry = entry; is_asked = is_asked; closed = closed; error_is = refl }))) (λ search.
+      (λ closed. denies errno.EACCES (inl (record { entry = entry; is_asked = is_asked; closed = closed;
+      error_is = refl }))) (λ search.
       behind_check why holds (lets ask.caller want.Write entry) (reply.Refused errno.EACCES) _
       (λ closed. denies errno.EACCES (inr (inl (record {
         entry = entry;
@@ -58,7 +64,8 @@ module _ (site : Site) (state : State) (place : ℕ) (ask : Ask) (wanted : Reque
         closed = closed;
         error_is = refl;
       })))) (λ write.
-      at_name site state ask wanted of_chain strays holds (last_of chain) name _ entry is_asked (λ by at stops. blocks by at (inr stops)) (λ found is_found.
+      at_name site state ask wanted of_chain strays holds (last_of chain) name _ entry is_asked
+          (λ by at stops. blocks by at (inr stops)) (λ found is_found.
       behind_check why holds (is_missing found) (reply.Refused errno.EEXIST) (next entry)
       (λ taken. denies errno.EEXIST (inr (inr (record {
         entry = entry;
@@ -81,17 +88,21 @@ module _ (site : Site) (state : State) (place : ℕ) (ask : Ask) (chain : List E
   abbrev finish : Op → Request
   finish with = request.Finish chain with
 
-  pub create_comes : (name : List ℕ) (mode : ℕ) → Came site state place ask (finish (op.Create name mode)) (create site state ask chain name mode)
+  pub create_comes : (name : List ℕ) (mode : ℕ) → Came site state place ask (finish (op.Create name mode))
+      (create site state ask chain name mode)
   create_comes name mode =
-      new_name_comes site state place ask (finish (op.Create name mode)) refl tt chain name (λ by at blocks. blocks) (λ error denies. denies) _
+      new_name_comes site state place ask (finish (op.Create name mode)) refl tt chain name (λ by at blocks. blocks)
+          (λ error denies. denies) _
       (λ may. record { passed = may; said = refl; did = refl; succeeds = refl })
 
-  stat_found : (name : List ℕ) (entry : Entry) → IsAsked site state ask.from (last_of chain) entry → list_all (lets ask.caller want.Search) chain ≡ true
+  stat_found : (name : List ℕ) (entry : Entry) → IsAsked site state ask.from (last_of chain) (chain ∷ []) entry
+      → list_all (lets ask.caller want.Search) chain ≡ true
       → (found : Seen) → found_by ask.from (dir_of entry.access) name state.contents ≡ Ok found
       → Came site state place ask (finish (op.Stat name)) (stat_of found >>= (λ told. done told state))
   stat_found name entry is_asked search seen.Gone is = refl
   stat_found name entry is_asked search seen.Missing is =
-      inr (record { entry = entry; is_asked = is_asked; search = search; allowed = tt; found = seen.Missing; is_found = is; denies = refl })
+      inr (record { entry = entry; is_asked = is_asked; search = search; allowed = tt; found = seen.Missing;
+          is_found = is; denies = refl })
   stat_found name entry is_asked search (seen.Reserved other) is = tt
   stat_found name entry is_asked search (seen.File meta held) is = record {
     passed = record {
@@ -129,21 +140,25 @@ module _ (site : Site) (state : State) (place : ℕ) (ask : Ask) (chain : List E
       let wanted = finish (op.Stat name) in
       let why = Fails site state ask wanted in
       let holds = Did site state place ask wanted in
-      at_directory site state ask wanted refl tt holds chain _ (λ by at stops. inl stops) (λ entry is_asked.
+      at_directory site state ask wanted refl tt holds (last_of chain) (chain ∷ []) _ (λ by at stops. inl stops)
+          (λ entry is_asked.
       behind_check why holds (list_all (lets ask.caller want.Search) chain) (reply.Refused errno.EACCES) _
       (λ closed. inl (record { entry = entry; is_asked = is_asked; closed = closed; error_is = refl })) (λ search.
       at_name site state ask wanted refl tt holds (last_of chain) name _ entry is_asked (λ by at stops. inr stops)
       (stat_found name entry is_asked search)))
 
-  walk_found : (name : List ℕ) (entry : Entry) → IsAsked site state ask.from (last_of chain) entry → list_all (lets ask.caller want.Search) chain ≡ true
+  walk_found : (name : List ℕ) (entry : Entry) → IsAsked site state ask.from (last_of chain) (chain ∷ []) entry
+      → list_all (lets ask.caller want.Search) chain ≡ true
       → (found : Seen) → found_by ask.from (dir_of entry.access) name state.contents ≡ Ok found
       → Came site state place ask (finish (op.Walk name)) (Err (no_directory found))
   walk_found name entry is_asked search seen.Gone is = refl
   walk_found name entry is_asked search seen.Missing is =
-      inr (record { entry = entry; is_asked = is_asked; search = search; allowed = tt; found = seen.Missing; is_found = is; denies = refl })
+      inr (record { entry = entry; is_asked = is_asked; search = search; allowed = tt; found = seen.Missing;
+          is_found = is; denies = refl })
   walk_found name entry is_asked search (seen.Reserved other) is = tt
   walk_found name entry is_asked search (seen.File meta held) is =
-      inr (record { entry = entry; is_asked = is_asked; search = search; allowed = tt; found = seen.File meta held; is_found = is; denies = refl })
+      inr (record { entry = entry; is_asked = is_asked; search = search; allowed = tt; found = seen.File meta held;
+          is_found = is; denies = refl })
   walk_found name entry is_asked search (seen.Dir dir mode owner group held) is = tt
 
   pub walk_comes : (name : List ℕ) → Came site state place ask (finish (op.Walk name)) (walk site state ask chain name)
@@ -151,30 +166,36 @@ module _ (site : Site) (state : State) (place : ℕ) (ask : Ask) (chain : List E
       let wanted = finish (op.Walk name) in
       let why = Fails site state ask wanted in
       let holds = Did site state place ask wanted in
-      at_directory site state ask wanted refl tt holds chain _ (λ by at stops. inl stops) (λ entry is_asked.
+      at_directory site state ask wanted refl tt holds (last_of chain) (chain ∷ []) _ (λ by at stops. inl stops)
+          (λ entry is_asked.
       behind_check why holds (list_all (lets ask.caller want.Search) chain) (reply.Refused errno.EACCES) _
       (λ closed. inl (record { entry = entry; is_asked = is_asked; closed = closed; error_is = refl })) (λ search.
       at_name site state ask wanted refl tt holds (last_of chain) name _ entry is_asked (λ by at stops. inr stops)
       (walk_found name entry is_asked search)))
 
-  none_found : (name : List ℕ) (entry : Entry) → IsAsked site state ask.from (last_of chain) entry → list_all (lets ask.caller want.Search) chain ≡ true
+  none_found : (name : List ℕ) (entry : Entry) → IsAsked site state ask.from (last_of chain) (chain ∷ []) entry
+      → list_all (lets ask.caller want.Search) chain ≡ true
       → lets ask.caller want.Write entry ≡ true
       → (found : Seen) → found_by ask.from (dir_of entry.access) name state.contents ≡ Ok found
       → Came site state place ask (finish (op.RmdirName name)) (Err (no_directory found))
   none_found name entry is_asked search write seen.Gone is = refl
   none_found name entry is_asked search write seen.Missing is =
-      inr (inr (record { entry = entry; is_asked = is_asked; search = search; allowed = write; found = seen.Missing; is_found = is; denies = refl }))
+      inr (inr (record { entry = entry; is_asked = is_asked; search = search; allowed = write; found = seen.Missing;
+          is_found = is; denies = refl }))
   none_found name entry is_asked search write (seen.Reserved other) is = tt
   none_found name entry is_asked search write (seen.File meta held) is =
-      inr (inr (record { entry = entry; is_asked = is_asked; search = search; allowed = write; found = seen.File meta held; is_found = is; denies = refl }))
+      inr (inr (record { entry = entry; is_asked = is_asked; search = search; allowed = write;
+          found = seen.File meta held; is_found = is; denies = refl }))
   none_found name entry is_asked search write (seen.Dir dir mode owner group held) is = tt
 
-  pub rmdir_name_comes : (name : List ℕ) → Came site state place ask (finish (op.RmdirName name)) (rmdir_name site state ask chain name)
+  pub rmdir_name_comes : (name : List ℕ) → Came site state place ask (finish (op.RmdirName name))
+      (rmdir_name site state ask chain name)
   rmdir_name_comes name =
       let wanted = finish (op.RmdirName name) in
       let why = Fails site state ask wanted in
       let holds = Did site state place ask wanted in
-      at_directory site state ask wanted refl tt holds chain _ (λ by at stops. inl stops) (λ entry is_asked.
+      at_directory site state ask wanted refl tt holds (last_of chain) (chain ∷ []) _ (λ by at stops. inl stops)
+          (λ entry is_asked.
       behind_check why holds (list_all (lets ask.caller want.Search) chain) (reply.Refused errno.EACCES) _
       (λ closed. inl (record { entry = entry; is_asked = is_asked; closed = closed; error_is = refl })) (λ search.
       behind_check why holds (lets ask.caller want.Write entry) (reply.Refused errno.EACCES) _

@@ -27,7 +27,8 @@ use Rattle.inf_laws_server.proofs.Came.{Came, Did}
 use Rattle.inf_laws_server.proofs.Walking.{Comes, behind, behind_check, behind_some, behind_unit}
 
 -- a content object found by its birth is the one of its identifier
-of_birth : (born : ℕ) (found : Option Content) (content : Content) → if_born born found ≡ Some content → found ≡ Some content
+of_birth : (born : ℕ) (found : Option Content) (content : Content) → if_born born found ≡ Some content
+    → found ≡ Some content
 of_birth born None content is = cc
 of_birth born (Some c) content is = by (c.dir.born == born) is
   where
@@ -49,7 +50,8 @@ record HasSlot (found : Option Content) (name : List ℕ) (slot : Slot) : Type 0
   there : found ≡ Some content
   stands : slot_in name content.slots ≡ Some slot
 
-has_slot : (found : Option Content) (name : List ℕ) (slot : Slot) → slot_in name (slots_found found) ≡ Some slot → HasSlot found name slot
+has_slot : (found : Option Content) (name : List ℕ) (slot : Slot) → slot_in name (slots_found found) ≡ Some slot
+    → HasSlot found name slot
 has_slot None name slot is = absurd cc
 has_slot (Some content) name slot is = record { content = content; there = refl; stands = is }
 
@@ -59,7 +61,8 @@ module _ (site : Site) (state : State) (place : ℕ) (ask : Ask) where
   abbrev of_top : Request
   of_top = request.Lookup look.Top
 
-  top_held : (top : TopAccess) → state.top ≡ Some top → (held : Option CallRef) → holder top.held ≡ held → (given : Reply)
+  top_held : (top : TopAccess) → state.top ≡ Some top → (held : Option CallRef) → holder top.held ≡ held
+      → (given : Reply)
       → unheld 0 held ≡ Err given → Fails site state ask of_top given
   top_held top is None free given refused = cc
   top_held top is (Some by) held given refused =
@@ -73,7 +76,8 @@ module _ (site : Site) (state : State) (place : ℕ) (ask : Ask) where
       behind_check why holds (is_here site (root_id site)) reply.Other _ (λ elsewhere. tt) (λ here.
       behind_some why holds state.top reply.Other _ (λ none. tt) (λ top is_top.
       behind_unit why holds (unheld 0 (holder top.held)) _ (top_held top is_top (holder top.held) refl) (λ free.
-      record { passed = record { here = here; top = top; is_top = is_top; free = free }; said = refl; did = refl; succeeds = refl })))
+      record { passed = record { here = here; top = top; is_top = is_top; free = free }; said = refl; did = refl;
+          succeeds = refl })))
 
   -- ---- names
 
@@ -87,7 +91,8 @@ module _ (site : Site) (state : State) (place : ℕ) (ask : Ask) where
     abbrev dir : DirRef
     dir = record { id = id; born = birth }
 
-    sealed : (seal : Option CallRef) → seal_of (content_at dir state.contents) ≡ seal → (given : Reply) → unless_sealed birth seal ≡ Err given → why given
+    sealed : (seal : Option CallRef) → seal_of (content_at dir state.contents) ≡ seal → (given : Reply)
+        → unless_sealed birth seal ≡ Err given → why given
     sealed None is given refused = cc
     sealed (Some by) is given refused =
         let told : reply.Busy by spot.Sealed birth ≡ given = cc in
@@ -99,17 +104,21 @@ module _ (site : Site) (state : State) (place : ℕ) (ask : Ask) where
           spot_is = refl;
         }))
 
-    taken : (by : CallRef) (slot : Slot) → slot_in name (slots_at dir state.contents) ≡ Some slot → taker slot ≡ Some by → why (in_the_way by birth)
+    taken : (by : CallRef) (slot : Slot) → slot_in name (slots_at dir state.contents) ≡ Some slot → taker slot ≡ Some by
+        → why (in_the_way by birth)
     taken by slot is takes =
         let has = has_slot (content_at dir state.contents) name slot is in
         inr (record {
           dir = dir;
-          is_taken = record { content = has.content; here = here; there = has.there; slot = slot; found = has.stands; taken = takes };
+          is_taken =
+              record { content = has.content; here = here; there = has.there; slot = slot; found = has.stands;
+              taken = takes };
           of_id = of_birth birth (content_of_id id state.contents) has.content has.there;
           spot_is = refl;
         })
 
-    held : (slot : Slot) → slot_in name (slots_at dir state.contents) ≡ Some slot → (by : Option CallRef) → taker slot ≡ by → (given : Reply)
+    held : (slot : Slot) → slot_in name (slots_at dir state.contents) ≡ Some slot → (by : Option CallRef)
+        → taker slot ≡ by → (given : Reply)
         → unheld birth by ≡ Err given → why given
     held slot is None free given refused = cc
     held slot is (Some by) takes given refused =
@@ -119,11 +128,13 @@ module _ (site : Site) (state : State) (place : ℕ) (ask : Ask) where
     abbrev Tells : Reply → Type 0
     Tells told = Succeeds told of_name
 
-    told_comes : (slot : Option Slot) → slot_in name (slots_at dir state.contents) ≡ slot → Comes why Tells (told_of dir name slot)
+    told_comes : (slot : Option Slot) → slot_in name (slots_at dir state.contents) ≡ slot
+        → Comes why Tells (told_of dir name slot)
     told_comes None is = refl
     told_comes (Some (reserved by access)) is = taken by (reserved by access) is refl
     told_comes (Some (file meta kept)) is =
-        behind_unit why Tells (unheld birth (holder kept)) _ (held (file meta kept) is (holder kept) refl) (λ free. refl)
+        behind_unit why Tells (unheld birth (holder kept)) _ (held (file meta kept) is (holder kept) refl)
+            (λ free. refl)
     told_comes (Some (directory access kept)) is =
         behind_unit why Tells (unheld birth (holder kept)) _ (held (directory access kept) is (holder kept) refl)
         (λ free. record { dir = dir; same_id = refl; is_key = refl })
@@ -138,13 +149,16 @@ module _ (site : Site) (state : State) (place : ℕ) (ask : Ask) where
         behind why Tells holds (told_of dir name (slot_in name (slots_at dir state.contents))) _
         (told_comes (slot_in name (slots_at dir state.contents)) refl) (λ told is_told tells.
         record {
-          passed = record { here = here; dir = dir; of_id = refl; is_born = is_born; free = free; told = told; is_told = is_told };
+          passed =
+              record { here = here; dir = dir; of_id = refl; is_born = is_born; free = free; told = told;
+              is_told = is_told };
           said = refl;
           did = refl;
           succeeds = tells;
         }))
 
-  pub name_comes : (id : Id) (name : List ℕ) → Came site state place ask (request.Lookup (look.At id name)) (lookup_at site state id name)
+  pub name_comes : (id : Id) (name : List ℕ) → Came site state place ask (request.Lookup (look.At id name))
+      (lookup_at site state id name)
   name_comes id name =
       let asked = request.Lookup (look.At id name) in
       let why = Fails site state ask asked in
@@ -153,6 +167,7 @@ module _ (site : Site) (state : State) (place : ℕ) (ask : Ask) where
       behind_some why holds (born_of (content_of_id id state.contents)) reply.NoDir _ (λ none. refl) (λ birth is_born.
       in_directory id name here birth is_born))
 
-  pub lookup_comes : (sought : LookKey) → Came site state place ask (request.Lookup sought) (on_lookup site state sought)
+  pub lookup_comes : (sought : LookKey) → Came site state place ask (request.Lookup sought)
+      (on_lookup site state sought)
   lookup_comes look.Top = top_comes
   lookup_comes (look.At id name) = name_comes id name

@@ -37,7 +37,8 @@ empty_inside : (slots : List (List ℕ × Slot)) → inside_of slots ≡ inside.
 empty_inside [] is = refl
 empty_inside (e ∷ es) is = absurd (by_taker (taker e.1) (has_free es) is)
   where
-    by_taker : (by : Option CallRef) (free : Bool) → cond (is_none by || free) inside.Full (unless_busy (or_later by (first_taker es))) ≡ inside.Empty → ⊥
+    by_taker : (by : Option CallRef) (free : Bool) → cond (is_none by || free) inside.Full
+        (unless_busy (or_later by (first_taker es))) ≡ inside.Empty → ⊥
     by_taker None free is = cc
     by_taker (Some by) true is = cc
     by_taker (Some by) false is = cc
@@ -61,15 +62,17 @@ module _ (site : Site) (state : State) (place : ℕ) (ask : Ask) where
   -- ---- the seal
 
   module _ (chain : List Entry) (parent : Entry) (above : last_of (before_last chain) ≡ Some parent) (entry : Entry)
-      (is_asked : IsAsked site state ask.from (last_of chain) entry)
-      (search : list_all (lets ask.caller want.Search) (before_last chain) ≡ true) (write : lets ask.caller want.Write parent ≡ true) where
+      (is_asked : IsAsked site state ask.from (last_of chain) (chain ∷ []) entry)
+      (search : list_all (lets ask.caller want.Search) (before_last chain) ≡ true)
+      (write : lets ask.caller want.Write parent ≡ true) where
     abbrev slots : List (List ℕ × Slot)
     slots = slots_at (dir_of entry.access) state.contents
 
     abbrev why : Reply → Type 0
     why = Fails site state ask (request.Seal chain)
 
-    inside_fails : (full : Bool) → has_free slots ≡ full → (busy : Option CallRef) → first_taker slots ≡ busy → (given : Reply)
+    inside_fails : (full : Bool) → has_free slots ≡ full → (busy : Option CallRef) → first_taker slots ≡ busy
+        → (given : Reply)
         → unless_inside entry.access.born (cond full inside.Full (unless_busy busy)) ≡ Err given → why given
     inside_fails true full busy is given refused =
         let told : reply.Refused errno.ENOTEMPTY ≡ given = cc in
@@ -107,7 +110,8 @@ module _ (site : Site) (state : State) (place : ℕ) (ask : Ask) where
       let why = Fails site state ask wanted in
       let holds = Did site state place ask wanted in
       behind_some why holds (last_of (before_last chain)) reply.Other _ (λ none. tt) (λ parent above.
-      at_directory site state ask wanted refl tt holds chain _ (λ by at stops. inl stops) (λ entry is_asked.
+      at_directory site state ask wanted refl tt holds (last_of chain) (chain ∷ []) _ (λ by at stops. inl stops)
+          (λ entry is_asked.
       behind_check why holds (list_all (lets ask.caller want.Search) (before_last chain)) (reply.Refused errno.EACCES) _
       (λ closed. record {
         parent = parent;
@@ -130,7 +134,8 @@ module _ (site : Site) (state : State) (place : ℕ) (ask : Ask) where
       }) (λ write.
       let slots = slots_at (dir_of entry.access) state.contents in
       behind_unit why holds (unless_inside entry.access.born (inside_of slots)) _
-      (inside_fails chain parent above entry is_asked search write (has_free slots) refl (first_taker slots) refl) (λ is.
+      (inside_fails chain parent above entry is_asked search write (has_free slots) refl (first_taker slots) refl)
+      (λ is.
       record {
         passed = record {
           parent = parent;
@@ -148,16 +153,19 @@ module _ (site : Site) (state : State) (place : ℕ) (ask : Ask) where
 
   -- ---- the unlink
 
-  pub unlink_comes : (chain : List Entry) → Came site state place ask (request.Unlink chain) (unlink site state ask chain)
+  pub unlink_comes : (chain : List Entry) → Came site state place ask (request.Unlink chain)
+      (unlink site state ask chain)
   unlink_comes chain =
       let wanted = request.Unlink chain in
       let why = Fails site state ask wanted in
       let holds = Did site state place ask wanted in
       behind_some why holds (last_of chain) reply.Other _ (λ none. tt) (λ target last.
       behind_some why holds (name_in target.key) reply.Other _ (λ none. tt) (λ name named.
-      at_directory site state ask wanted refl tt holds (before_last chain) _ (λ by at stops. inl stops) (λ entry is_asked.
+      at_directory site state ask wanted refl tt holds (last_of (before_last chain)) (chain ∷ []) _
+          (λ by at stops. inl stops) (λ entry is_asked.
       at_name site state ask wanted refl tt holds (last_of (before_last chain)) name _ entry is_asked
-      (λ by at stops. inr (record { target = target; last = last; name = name; named = named; stops = stops })) (λ found is_found.
+      (λ by at stops. inr (record { target = target; last = last; name = name; named = named; stops = stops }))
+      (λ found is_found.
       behind_check why holds (is_the_directory target.access found) reply.Other _ (λ other. tt) (λ it.
       let has = found_directory ask.from (dir_of entry.access) name state.contents found is_found target.access it in
       record {
@@ -182,15 +190,22 @@ module _ (site : Site) (state : State) (place : ℕ) (ask : Ask) where
 
   pub drop_comes : (dir : DirRef) → Came site state place ask (request.Drop dir) (drop_dir site state ask dir)
   drop_comes dir =
-      behind_check (Fails site state ask (request.Drop dir)) (Did site state place ask (request.Drop dir)) (is_here site dir.id) reply.Other _
-      (λ elsewhere. elsewhere) (λ here. record { passed = record { here = here }; said = refl; did = refl; succeeds = refl })
+      behind_check (Fails site state ask (request.Drop dir)) (Did site state place ask (request.Drop dir))
+          (is_here site dir.id) reply.Other _
+      (λ elsewhere. elsewhere) (λ here. record { passed = record { here = here }; said = refl; did = refl;
+      succeeds = refl })
 
   pub unseal_comes : (dir : DirRef) → Came site state place ask (request.Unseal dir) (unseal site state ask dir)
   unseal_comes dir =
-      behind_check (Fails site state ask (request.Unseal dir)) (Did site state place ask (request.Unseal dir)) (is_here site dir.id) reply.Other _
-      (λ elsewhere. elsewhere) (λ here. record { passed = record { here = here }; said = refl; did = refl; succeeds = refl })
+      behind_check (Fails site state ask (request.Unseal dir)) (Did site state place ask (request.Unseal dir))
+          (is_here site dir.id) reply.Other _
+      (λ elsewhere. elsewhere) (λ here. record { passed = record { here = here }; said = refl; did = refl;
+      succeeds = refl })
 
-  pub forget_comes : (parent : Id) (dir : DirRef) → Came site state place ask (request.Forget parent dir) (forget site state parent dir)
+  pub forget_comes : (parent : Id) (dir : DirRef) → Came site state place ask (request.Forget parent dir)
+      (forget site state parent dir)
   forget_comes parent dir =
-      behind_check (Fails site state ask (request.Forget parent dir)) (Did site state place ask (request.Forget parent dir)) (is_here site parent) reply.Other _
-      (λ elsewhere. elsewhere) (λ here. record { passed = record { here = here }; said = refl; did = refl; succeeds = refl })
+      behind_check (Fails site state ask (request.Forget parent dir))
+          (Did site state place ask (request.Forget parent dir)) (is_here site parent) reply.Other _
+      (λ elsewhere. elsewhere) (λ here. record { passed = record { here = here }; said = refl; did = refl;
+      succeeds = refl })

@@ -75,14 +75,16 @@ module _ (site : Site) (old : State) (place : ℕ) (ask : Ask) where
   abbrev asked : Request
   asked = ask.request
 
-  done_so : (given : Reply) (new : State) → IsDone site old place ask asked given new → CameTo site old place ask given new
+  done_so : (given : Reply) (new : State) → IsDone site old place ask asked given new
+      → CameTo site old place ask given new
   done_so given new is = record {
     replies = inl is.succeeds;
     left = λ fails. absurd (both_ways _ (succeeds_not_fails given asked is.succeeds) fails);
     done = λ succeeds. is;
   }
 
-  left_so : (given : Reply) (new : State) → new ≡ old → is_failure given ≡ true → MayReply site old ask asked given → CameTo site old place ask given new
+  left_so : (given : Reply) (new : State) → new ≡ old → is_failure given ≡ true → MayReply site old ask asked given
+      → CameTo site old place ask given new
   left_so given new same fails replies = record {
     replies = replies;
     left = λ is. same;
@@ -97,21 +99,25 @@ module _ (site : Site) (old : State) (place : ℕ) (ask : Ask) where
       subst (λ (e : Response). CameTo site old place ask e.reply e.state) (sym is)
       (left_so failure old refl (fails_not_succeeds site old ask asked failure came) (inr (inl came)))
 
-  pub came_to : (given : Reply) (new : State) → Serves site old place ask given new → CameTo site old place ask given new
+  pub came_to : (given : Reply) (new : State) → Serves site old place ask given new
+      → CameTo site old place ask given new
   came_to reply.NoMem new serves = left_so reply.NoMem new serves.1 refl (inr (inr (refl, serves.0)))
   came_to other_reply new serves = by_response other_reply new _ (request_comes site old place ask asked) serves
 
 -- ---- the machine itself
 
-no_memory : (site : Site) (old : State) (place : ℕ) (ask : Ask) (comes : Result Response Reply) → Came site old place ask ask.request comes
+no_memory : (site : Site) (old : State) (place : ℕ) (ask : Ask) (comes : Result Response Reply)
+    → Came site old place ask ask.request comes
     → (response old comes).reply ≡ reply.NoMem → ⊥
 no_memory site old place ask (Ok end) came is = subst (λ (r : Reply). Succeeds r ask.request) is came.succeeds
 no_memory site old place ask (Err failure) came is = subst (λ (r : Reply). Fails site old ask ask.request r) is came
 
-pub machine_wants_none : (site : Site) (old : State) (place : ℕ) (ask : Ask) → (machine site old place ask).reply ≡ reply.NoMem → ⊥
+pub machine_wants_none : (site : Site) (old : State) (place : ℕ) (ask : Ask)
+    → (machine site old place ask).reply ≡ reply.NoMem → ⊥
 machine_wants_none site old place ask = no_memory site old place ask _ (request_comes site old place ask ask.request)
 
-serves_so : (site : Site) (old : State) (place : ℕ) (ask : Ask) (given : Reply) (new : State) → (given ≡ reply.NoMem → ⊥)
+serves_so : (site : Site) (old : State) (place : ℕ) (ask : Ask) (given : Reply) (new : State)
+    → (given ≡ reply.NoMem → ⊥)
     → record { reply = given; state = new } ≡ machine site old place ask → Serves site old place ask given new
 serves_so site old place ask reply.NoMem new not same = absurd (not refl)
 serves_so site old place ask other_reply new not same = same
@@ -119,11 +125,13 @@ serves_so site old place ask other_reply new not same = same
 pub machine_serves : (site : Site) (old : State) (place : ℕ) (ask : Ask)
     → Serves site old place ask (machine site old place ask).reply (machine site old place ask).state
 machine_serves site old place ask =
-    serves_so site old place ask (machine site old place ask).reply (machine site old place ask).state (machine_wants_none site old place ask) refl
+    serves_so site old place ask (machine site old place ask).reply (machine site old place ask).state
+        (machine_wants_none site old place ask) refl
 
 -- ---- what is read off it
 
-module _ (site : Site) (old : State) (place : ℕ) (ask : Ask) (given : Reply) (new : State) (serves : Serves site old place ask given new) where
+module _ (site : Site) (old : State) (place : ℕ) (ask : Ask) (given : Reply) (new : State)
+    (serves : Serves site old place ask given new) where
   came : CameTo site old place ask given new
   came = came_to site old place ask given new serves
 
@@ -136,17 +144,21 @@ module _ (site : Site) (old : State) (place : ℕ) (ask : Ask) (given : Reply) (
       by false succeeds = inr (came.done succeeds)
 
   -- a success of a request that is known
-  pub was_done : (asked : Request) → ask.request ≡ asked → is_failure given ≡ false → IsDone site old place ask asked given new
+  pub was_done : (asked : Request) → ask.request ≡ asked → is_failure given ≡ false
+      → IsDone site old place ask asked given new
   was_done asked is succeeds = subst (λ (r : Request). IsDone site old place ask r given new) is (came.done succeeds)
 
   -- what it may say
-  pub may_reply : (asked : Request) (said : Reply) → ask.request ≡ asked → given ≡ said → MayReply site old ask asked said
+  pub may_reply : (asked : Request) (said : Reply) → ask.request ≡ asked → given ≡ said
+      → MayReply site old ask asked said
   may_reply asked said is says =
-      subst (λ (r : Reply). MayReply site old ask asked r) says (subst (λ (r : Request). MayReply site old ask r given) is came.replies)
+      subst (λ (r : Reply). MayReply site old ask asked r) says
+          (subst (λ (r : Request). MayReply site old ask r given) is came.replies)
 
 -- a failure is told by its row
 module _ (site : Site) (old : State) (ask : Ask) (asked : Request) where
-  pub blocked : (by : CallRef) (at : Spot) (born : ℕ) → MayReply site old ask asked (reply.Busy by at born) → Blocks site old ask.from asked by at
+  pub blocked : (by : CallRef) (at : Spot) (born : ℕ) → MayReply site old ask asked (reply.Busy by at born)
+      → Blocks site old ask.from asked by at
   blocked by at born (inl succeeds) = absurd succeeds
   blocked by at born (inr (inl blocks)) = blocks
   blocked by at born (inr (inr wants)) = absurd (let is = wants.0 in cc)
@@ -164,9 +176,11 @@ module _ (site : Site) (old : State) (ask : Ask) (asked : Request) where
 -- ---- what any Serve keeps
 
 module _ (site : Site) (old : State) (place : ℕ) (ask : Ask) (given : Reply) (new : State) where
-  pub done_in_order : (asked : Request) → IsDone site old place ask asked given new → AreInOrder old.contents → AreInOrder new.contents
+  pub done_in_order : (asked : Request) → IsDone site old place ask asked given new → AreInOrder old.contents
+      → AreInOrder new.contents
   done_in_order asked is ordered =
-      subst (λ (s : State). AreInOrder s.contents) (sym is.did) (changed_in_order (change_of site old place ask asked is.passed) old ordered)
+      subst (λ (s : State). AreInOrder s.contents) (sym is.did)
+          (changed_in_order (change_of site old place ask asked is.passed) old ordered)
 
   module _ (serves : Serves site old place ask given new) where
     pub served_in_order : AreInOrder old.contents → AreInOrder new.contents
@@ -181,7 +195,8 @@ module _ (site : Site) (old : State) (place : ℕ) (ask : Ask) (given : Reply) (
       where
         by : (new ≡ old) ⊎ IsDone site old place ask ask.request given new → new.top ≡ old.top
         by (inl same) = ap (λ (s : State). s.top) same
-        by (inr is) = ap (λ (s : State). s.top) is.did ∙ changed_top (change_of site old place ask ask.request is.passed) old
+        by (inr is) =
+            ap (λ (s : State). s.top) is.did ∙ changed_top (change_of site old place ask ask.request is.passed) old
 
     -- what tells of no change leaves the state
     pub quiet_leaves : TellsOfNoChange given → new ≡ old
@@ -195,7 +210,8 @@ module _ (site : Site) (old : State) (place : ℕ) (ask : Ask) (given : Reply) (
 -- a request of a kind that cannot fail, where it does not stray
 module _ (site : Site) (old : State) (place : ℕ) (ask : Ask) (asked : Request) (known : ask.request ≡ asked)
     (here : Strays site asked → ⊥) (no_chain : asks_chain asked ≡ false) (no_name : looks_up_name asked ≡ false)
-    (allowed : (error : Errno) → Denies site old ask asked error → ⊥) (free : (by : CallRef) (at : Spot) → Blocks site old ask.from asked by at → ⊥)
+    (allowed : (error : Errno) → Denies site old ask asked error → ⊥)
+    (free : (by : CallRef) (at : Spot) → Blocks site old ask.from asked by at → ⊥)
     (alone : (kept : Triple) → Clashes site old asked kept → ⊥) (no_memory : may_want asked ≡ false) where
   no_failure : (given : Reply) → Fails site old ask asked given → ⊥
   no_failure reply.Other fails = here fails
@@ -206,9 +222,11 @@ module _ (site : Site) (old : State) (place : ℕ) (ask : Ask) (asked : Request)
   no_failure (reply.Clash kept) fails = alone kept fails
   no_failure other_reply fails = fails
 
-  pub always_done : (given : Reply) (new : State) → Serves site old place ask given new → IsDone site old place ask asked given new
+  pub always_done : (given : Reply) (new : State) → Serves site old place ask given new
+      → IsDone site old place ask asked given new
   always_done given new serves =
-      was_done site old place ask given new serves asked known (succeeds_not_fails given asked (by (may_reply site old place ask given new serves asked given known refl)))
+      was_done site old place ask given new serves asked known
+          (succeeds_not_fails given asked (by (may_reply site old place ask given new serves asked given known refl)))
     where
       by : MayReply site old ask asked given → Succeeds given asked
       by (inl succeeds) = succeeds

@@ -42,7 +42,8 @@ pub record IsTakenBy (site : Site) (state : State) (dir : DirRef) (name : List �
 -- ---- at the directory asked
 
 -- another call sealed it
-pub record StopsAtSeal (site : Site) (state : State) (from : CallRef) (asked : Option Entry) (by : CallRef) (at : Spot) : Type 0 where
+pub record StopsAtSeal (site : Site) (state : State) (from : CallRef) (asked : Option Entry) (by : CallRef)
+    (at : Spot) : Type 0 where
   pub entry : Entry
   pub last : asked ≡ Some entry
   pub is_sealed : IsSealedBy site state (dir_of entry.access) by
@@ -50,7 +51,8 @@ pub record StopsAtSeal (site : Site) (state : State) (from : CallRef) (asked : O
   pub apart : is_same_call by from ≡ false
 
 -- another call holds or reserved the name
-pub record StopsAtName (site : Site) (state : State) (from : CallRef) (asked : Option Entry) (name : List ℕ) (by : CallRef) (at : Spot) : Type 0 where
+pub record StopsAtName (site : Site) (state : State) (from : CallRef) (asked : Option Entry) (name : List ℕ)
+    (by : CallRef) (at : Spot) : Type 0 where
   pub entry : Entry
   pub last : asked ≡ Some entry
   pub is_taken : IsTakenBy site state (dir_of entry.access) name by
@@ -89,7 +91,8 @@ pub record IsLookTaken (site : Site) (state : State) (id : Id) (name : List ℕ)
 
 abbrev pub BlocksLookup : Site → State → LookKey → CallRef → Spot → Type 0
 BlocksLookup site state look.Top by at = IsTopHeld state by at
-BlocksLookup site state (look.At id name) by at = IsLookSealed site state id by at ⊎ IsLookTaken site state id name by at
+BlocksLookup site state (look.At id name) by at =
+    IsLookSealed site state id by at ⊎ IsLookTaken site state id name by at
 
 -- ---- where a directory is made
 
@@ -106,10 +109,12 @@ pub record IsBorne (site : Site) (state : State) (birth : Triple) (by : CallRef)
 
 -- a seal, or what another call does with the name
 abbrev pub BlocksName : Site → State → CallRef → Option Entry → List ℕ → CallRef → Spot → Type 0
-BlocksName site state from asked name by at = StopsAtSeal site state from asked by at ⊎ StopsAtName site state from asked name by at
+BlocksName site state from asked name by at =
+    StopsAtSeal site state from asked by at ⊎ StopsAtName site state from asked name by at
 
 -- the name that a directory has which is to be unlinked
-pub record StopsAtTarget (site : Site) (state : State) (from : CallRef) (chain : List Entry) (by : CallRef) (at : Spot) : Type 0 where
+pub record StopsAtTarget (site : Site) (state : State) (from : CallRef) (chain : List Entry) (by : CallRef)
+    (at : Spot) : Type 0 where
   pub target : Entry
   pub last : last_of chain ≡ Some target
   pub name : List ℕ

@@ -12,7 +12,8 @@ use Rattle.inf_laws_server.specs.Passed.{Passed}
 use Rattle.inf_laws_server.specs.Replies.{Fails, Succeeds, is_failure}
 
 -- the checks let the request through; what passed tells what is said and what changes
-pub record IsDone (site : Site) (old : State) (place : ℕ) (ask : Ask) (asked : Request) (given : Reply) (new : State) : Type 0 where
+pub record IsDone (site : Site) (old : State) (place : ℕ) (ask : Ask) (asked : Request) (given : Reply)
+    (new : State) : Type 0 where
   pub passed : Passed site old ask asked
   pub said : given ≡ answer_of site old ask asked passed
   pub did : new ≡ changed (change_of site old place ask asked passed) old

@@ -1,5 +1,5 @@
 -- Why a request is refused, where it is.
-use Rattle.std.specs.Prelude.{◌≡◌, ◌⊎◌, ℕ, true, false, List, Option, Some, Ok, Err}
+use Rattle.std.specs.Prelude.{◌≡◌, ◌⊎◌, ℕ, true, false, List, [], ◌∷◌, Option, Some, Ok, Err}
 use Rattle.std.specs.List.{list_all}
 use Rattle.inf_base.specs.declared.entry.Entry.{Entry}
 use Rattle.inf_base.specs.declared.errno.Errno.{Errno}
@@ -23,16 +23,18 @@ use Rattle.inf_server.specs.State.{Site, State}
 use Rattle.inf_laws_server.specs.Passed.{IsAsked}
 
 -- a directory along the chain does not let the caller search
-pub record IsClosed (site : Site) (state : State) (ask : Ask) (asked : Option Entry) (along : List Entry) (error : Errno) : Type 0 where
+pub record IsClosed (site : Site) (state : State) (ask : Ask) (asked : Option Entry) (carried : List (List Entry))
+    (along : List Entry) (error : Errno) : Type 0 where
   pub entry : Entry
-  pub is_asked : IsAsked site state ask.from asked entry
+  pub is_asked : IsAsked site state ask.from asked carried entry
   pub closed : list_all (lets ask.caller want.Search) along ≡ false
   pub error_is : error ≡ errno.EACCES
 
 -- the directory that is to be changed does not let the caller write
-pub record IsUnwritable (site : Site) (state : State) (ask : Ask) (asked : Option Entry) (along : List Entry) (error : Errno) : Type 0 where
+pub record IsUnwritable (site : Site) (state : State) (ask : Ask) (asked : Option Entry) (carried : List (List Entry))
+    (along : List Entry) (error : Errno) : Type 0 where
   pub entry : Entry
-  pub is_asked : IsAsked site state ask.from asked entry
+  pub is_asked : IsAsked site state ask.from asked carried entry
   pub search : list_all (lets ask.caller want.Search) along ≡ true
   pub written : Entry
   pub ends : last_of along ≡ Some written
@@ -40,10 +42,11 @@ pub record IsUnwritable (site : Site) (state : State) (ask : Ask) (asked : Optio
   pub error_is : error ≡ errno.EACCES
 
 -- what was found under the name of the directory asked
-pub record IsDeniedBy (site : Site) (state : State) (ask : Ask) (chain : List Entry) (name : List ℕ) (may : Entry → Type 0)
+pub record IsDeniedBy (site : Site) (state : State) (ask : Ask) (chain : List Entry) (name : List ℕ)
+    (may : Entry → Type 0)
     (says : Seen → Errno → Type 0) (error : Errno) : Type 0 where
   pub entry : Entry
-  pub is_asked : IsAsked site state ask.from (last_of chain) entry
+  pub is_asked : IsAsked site state ask.from (last_of chain) (chain ∷ []) entry
   pub search : list_all (lets ask.caller want.Search) chain ≡ true
   pub allowed : may entry
   pub found : Seen
@@ -53,7 +56,7 @@ pub record IsDeniedBy (site : Site) (state : State) (ask : Ask) (chain : List En
 -- something stands in the directory that is to be removed
 pub record IsFull (site : Site) (state : State) (ask : Ask) (chain : List Entry) (error : Errno) : Type 0 where
   pub entry : Entry
-  pub is_asked : IsAsked site state ask.from (last_of chain) entry
+  pub is_asked : IsAsked site state ask.from (last_of chain) (chain ∷ []) entry
   pub search : list_all (lets ask.caller want.Search) (before_last chain) ≡ true
   pub written : Entry
   pub ends : last_of (before_last chain) ≡ Some written
@@ -81,17 +84,21 @@ SaysNoDirectory found error = no_directory found ≡ reply.Refused error
 -- a name that is to be free
 abbrev pub DeniesName : Site → State → Ask → List Entry → List ℕ → Errno → Type 0
 DeniesName site state ask chain name error =
-    IsClosed site state ask (last_of chain) chain error ⊎ IsUnwritable site state ask (last_of chain) chain error
+    IsClosed site state ask (last_of chain) (chain ∷ []) chain error
+    ⊎ IsUnwritable site state ask (last_of chain) (chain ∷ []) chain error
     ⊎ IsDeniedBy site state ask chain name (MayAlsoWrite ask) SaysTaken error
 
 abbrev pub DeniesOp : Site → State → Ask → List Entry → Op → Errno → Type 0
 DeniesOp site state ask chain (op.Create name mode) error = DeniesName site state ask chain name error
 DeniesOp site state ask chain (op.Stat name) error =
-    IsClosed site state ask (last_of chain) chain error ⊎ IsDeniedBy site state ask chain name MayLook SaysNothing error
+    IsClosed site state ask (last_of chain) (chain ∷ []) chain error
+    ⊎ IsDeniedBy site state ask chain name MayLook SaysNothing error
 DeniesOp site state ask chain (op.Walk name) error =
-    IsClosed site state ask (last_of chain) chain error ⊎ IsDeniedBy site state ask chain name MayLook SaysNoDirectory error
+    IsClosed site state ask (last_of chain) (chain ∷ []) chain error
+    ⊎ IsDeniedBy site state ask chain name MayLook SaysNoDirectory error
 DeniesOp site state ask chain (op.RmdirName name) error =
-    IsClosed site state ask (last_of chain) chain error ⊎ IsUnwritable site state ask (last_of chain) chain error
+    IsClosed site state ask (last_of chain) (chain ∷ []) chain error
+    ⊎ IsUnwritable site state ask (last_of chain) (chain ∷ []) chain error
     ⊎ IsDeniedBy site state ask chain name (MayAlsoWrite ask) SaysNoDirectory error
 DeniesOp site state ask chain other_op error = ⊥
 
@@ -99,8 +106,9 @@ DeniesOp site state ask chain other_op error = ⊥
 pub record DeniesSeal (site : Site) (state : State) (ask : Ask) (chain : List Entry) (error : Errno) : Type 0 where
   pub parent : Entry
   pub above : last_of (before_last chain) ≡ Some parent
-  pub because : IsClosed site state ask (last_of chain) (before_last chain) error
-      ⊎ IsUnwritable site state ask (last_of chain) (before_last chain) error ⊎ IsFull site state ask chain error
+  pub because : IsClosed site state ask (last_of chain) (chain ∷ []) (before_last chain) error
+      ⊎ IsUnwritable site state ask (last_of chain) (chain ∷ []) (before_last chain) error
+      ⊎ IsFull site state ask chain error
 
 abbrev pub Denies : Site → State → Ask → Request → Errno → Type 0
 Denies site state ask (request.Finish chain with) error = DeniesOp site state ask chain with error

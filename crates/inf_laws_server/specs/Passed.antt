@@ -1,5 +1,5 @@
 -- What has passed where a request is done: the equations of its checks, a record for each kind.
-use Rattle.std.specs.Prelude.{◌≡◌, ℕ, true, List, [], Option, Some, None, is_some, Ok}
+use Rattle.std.specs.Prelude.{◌≡◌, ℕ, true, List, [], ◌∷◌, Option, Some, None, is_some, Ok}
 use Rattle.std.specs.List.{list_all}
 use Rattle.inf_base.specs.declared.access.Access.{Access}
 use Rattle.inf_base.specs.declared.caller.CallRef.{CallRef}
@@ -26,7 +26,7 @@ use Rattle.inf_message.specs.declared.reply.Reply.TheVariants as reply
 use Rattle.inf_message.specs.declared.request.Request.{Request}
 use Rattle.inf_message.specs.declared.request.Request.TheVariants as request
 use Rattle.inf_perm.specs.declared.want.Want.TheVariants as want
-use Rattle.inf_server.specs.Chains.{before_last, last_of}
+use Rattle.inf_server.specs.Chains.{before_last, has_entry, last_of}
 use Rattle.inf_server.specs.Checks.{lets, unsealed}
 use Rattle.inf_server.specs.Files.{stat_of}
 use Rattle.inf_server.specs.Lookups.{told_of, unheld, unless_sealed}
@@ -34,10 +34,12 @@ use Rattle.inf_server.specs.Names.{found_by}
 use Rattle.inf_server.specs.Removals.{name_in}
 use Rattle.inf_server.specs.State.{Site, State, is_here, root_id}
 
--- the directory asked is kept here, and is there, and no other call sealed it
-pub record IsAsked (site : Site) (state : State) (by : CallRef) (asked : Option Entry) (entry : Entry) : Type 0 where
+-- the directory asked is kept here, and is there, and no other call sealed it; the chains carried with it have entries
+pub record IsAsked (site : Site) (state : State) (by : CallRef) (asked : Option Entry) (carried : List (List Entry))
+    (entry : Entry) : Type 0 where
   pub last : asked ≡ Some entry
   pub here : is_here site entry.access.id ≡ true
+  pub carries : list_all has_entry carried ≡ true
   pub there : is_some (content_at (dir_of entry.access) state.contents) ≡ true
   pub open_to : unsealed by entry.access.born (seal_of (content_at (dir_of entry.access) state.contents)) ≡ Ok tt
 
@@ -67,14 +69,14 @@ PassedLookup site state (look.At id name) = MayTell site state id name
 -- the name is free, and the caller may write
 pub record MayPut (site : Site) (state : State) (ask : Ask) (chain : List Entry) (name : List ℕ) : Type 0 where
   pub entry : Entry
-  pub is_asked : IsAsked site state ask.from (last_of chain) entry
+  pub is_asked : IsAsked site state ask.from (last_of chain) (chain ∷ []) entry
   pub search : list_all (lets ask.caller want.Search) chain ≡ true
   pub write : lets ask.caller want.Write entry ≡ true
   pub free : slot_in name (slots_at (dir_of entry.access) state.contents) ≡ None
 
 pub record MayStat (site : Site) (state : State) (ask : Ask) (chain : List Entry) (name : List ℕ) : Type 0 where
   pub entry : Entry
-  pub is_asked : IsAsked site state ask.from (last_of chain) entry
+  pub is_asked : IsAsked site state ask.from (last_of chain) (chain ∷ []) entry
   pub search : list_all (lets ask.caller want.Search) chain ≡ true
   pub found : Seen
   pub is_found : found_by ask.from (dir_of entry.access) name state.contents ≡ Ok found
@@ -97,7 +99,7 @@ pub record MayMake (site : Site) (state : State) (birth : Triple) : Type 0 where
 
 pub record MayLink (site : Site) (state : State) (ask : Ask) (chain : List Entry) : Type 0 where
   pub entry : Entry
-  pub is_asked : IsAsked site state ask.from (last_of chain) entry
+  pub is_asked : IsAsked site state ask.from (last_of chain) (chain ∷ []) entry
   pub kept : is_some (first (reserves ask.from) (slots_at (dir_of entry.access) state.contents)) ≡ true
 
 -- what cleans up asks for nothing but that the directory is kept here
@@ -108,7 +110,7 @@ pub record MaySeal (site : Site) (state : State) (ask : Ask) (chain : List Entry
   pub parent : Entry
   pub above : last_of (before_last chain) ≡ Some parent
   pub entry : Entry
-  pub is_asked : IsAsked site state ask.from (last_of chain) entry
+  pub is_asked : IsAsked site state ask.from (last_of chain) (chain ∷ []) entry
   pub search : list_all (lets ask.caller want.Search) (before_last chain) ≡ true
   pub write : lets ask.caller want.Write parent ≡ true
   pub empty : slots_at (dir_of entry.access) state.contents ≡ []
@@ -120,7 +122,7 @@ pub record MayUnlink (site : Site) (state : State) (ask : Ask) (chain : List Ent
   pub name : List ℕ
   pub named : name_in target.key ≡ Some name
   pub entry : Entry
-  pub is_asked : IsAsked site state ask.from (last_of (before_last chain)) entry
+  pub is_asked : IsAsked site state ask.from (last_of (before_last chain)) (chain ∷ []) entry
   pub access : Access
   pub held : Option Hold
   pub stands : slot_in name (slots_at (dir_of entry.access) state.contents) ≡ Some (directory access held)

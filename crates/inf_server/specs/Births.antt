@@ -1,6 +1,6 @@
 -- What makes a directory: its name is reserved where it is to stand, its content object is made where it is to be kept,
 -- and it is linked under the name.
-use Rattle.std.specs.Prelude.{ℕ, List, is_some, Some, Result, Ok, Err}
+use Rattle.std.specs.Prelude.{ℕ, List, [], ◌∷◌, is_some, Some, Result, Ok, Err}
 use Rattle.inf_base.specs.declared.access.Access.{Access}
 use Rattle.inf_base.specs.declared.caller.Caller.{Caller}
 use Rattle.inf_base.specs.declared.directory.DirRef.{DirRef}
@@ -21,27 +21,36 @@ use Rattle.inf_message.specs.declared.reply.Reply.{Reply}
 use Rattle.inf_message.specs.declared.reply.Reply.TheVariants as reply
 use Rattle.inf_message.specs.declared.reply.Spot.TheVariants as spot
 use Rattle.inf_renames.specs.Renames.{least_version}
+use Rattle.inf_server.specs.Chains.{last_of}
 use Rattle.inf_server.specs.Checks.{asked_of, searched, writable}
 use Rattle.inf_server.specs.Names.{found_by, is_missing}
 use Rattle.inf_server.specs.Response.{Response, done}
 use Rattle.inf_server.specs.State.{Site, State, is_here, with_contents}
 
--- the access object to come is the caller's; it has the identifier of its birth, and no birth, no mode until it is linked
+-- the access object to come is the caller's; it has the identifier of its birth, and no birth, no mode until it is
+-- linked
 abbrev pub access_to_come : Site → Caller → Triple → Access
-access_to_come site caller birth =
-    record { id = identity site.digest birth; born = 0; mode = 0; owner = caller.uid; group = caller.gid; birth = birth }
+access_to_come site caller birth = record {
+  id = identity site.digest birth;
+  born = 0;
+  mode = 0;
+  owner = caller.uid;
+  group = caller.gid;
+  birth = birth;
+}
 
 -- the name is kept free for the call, with the least version that no directory of this name took that lives elsewhere
 abbrev pub reserve : Site → State → Ask → List Entry → List ℕ → Result Response Reply
 reserve site state ask chain name = do
-  entry ← asked_of site state ask.from chain
+  entry ← asked_of site state ask.from (last_of chain) (chain ∷ [])
   searched ask.caller chain
   writable ask.caller entry
   found ← found_by ask.from (dir_of entry.access) name state.contents
   check (is_missing found) (reply.Refused errno.EEXIST)
   let version = least_version entry.access.id name state.renames
   let access = access_to_come site ask.caller (triple.Of entry.access.id name version)
-  done (reply.Reserved version) (with_contents (reserved_at (dir_of entry.access) name ask.from access state.contents) state)
+  let contents = reserved_at (dir_of entry.access) name ask.from access state.contents
+  done (reply.Reserved version) (with_contents contents state)
 
 -- another directory has the identifier, or this one is there already: its sealer or maker is in the way
 abbrev pub unless_there : Made → Result (Unit {0}) Reply
@@ -60,9 +69,10 @@ make site state place ask asked = do
 -- what the call reserved becomes this directory
 abbrev pub link : Site → State → Ask → List Entry → DirRef → ℕ → Result Response Reply
 link site state ask chain dir mode = do
-  entry ← asked_of site state ask.from chain
+  entry ← asked_of site state ask.from (last_of chain) (chain ∷ [])
   check (is_some (first (reserves ask.from) (slots_at (dir_of entry.access) state.contents))) reply.Other
-  done reply.Fine (with_contents (filled_at (dir_of entry.access) ask.from (Some (dir, mode, ask.caller)) state.contents) state)
+  let contents = filled_at (dir_of entry.access) ask.from (Some (dir, mode, ask.caller)) state.contents
+  done reply.Fine (with_contents contents state)
 
 -- what the call reserves or holds in a directory is lifted
 abbrev pub cancel : Site → State → Ask → DirRef → Result Response Reply

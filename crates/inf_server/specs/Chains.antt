@@ -1,5 +1,5 @@
 -- The chains of a request.
-use Rattle.std.specs.Prelude.{◌+◌, ◌-◌, ◌≤◌, List, [], ◌∷◌, length, take, slice_get, Option, All}
+use Rattle.std.specs.Prelude.{◌+◌, ◌-◌, ◌≤◌, Bool, true, false, List, [], ◌∷◌, length, take, slice_get, Option, All}
 use Rattle.inf_base.specs.declared.entry.Entry.{Entry}
 use Rattle.inf_base.specs.declared.limits.TheConstants.{MOST_PATH_NAMES}
 use Rattle.inf_message.specs.declared.request.Request.{Request}
@@ -20,6 +20,10 @@ chains_of other_request = []
 -- no chain is longer than those of paths: an entry for the root, and one for each name
 abbrev pub HasShortChains : Request → Type 0
 HasShortChains asked = All (λ chain. length chain ≤ MOST_PATH_NAMES + 1) (chains_of asked)
+
+abbrev pub has_entry : List Entry → Bool
+has_entry [] = false
+has_entry (entry ∷ entries) = true
 
 abbrev pub last_of : List Entry → Option Entry
 last_of chain = slice_get chain (length chain - 1)

@@ -207,7 +207,10 @@ abbrev pub with_row_of : ℕ → State
 with_row_of born = record at_first { renames = (one_id, with_row) ∷ [] }
   where
     with_row : Kept
-    with_row = record { rows = record { name = codes "a"; version = 0; dir = record dir_a { born = born } } ∷ []; spare = 0 }
+    with_row = record {
+      rows = record { name = codes "a"; version = 0; dir = record dir_a { born = born } } ∷ [];
+      spare = 0;
+    }
 
 -- the same once the row is gone
 abbrev pub with_no_row : State

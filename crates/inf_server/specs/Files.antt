@@ -1,5 +1,5 @@
 -- What the one message of a call does with what stands under a name: the checks in their order, one line each.
-use Rattle.std.specs.Prelude.{ℕ, List, Result, Ok, Err}
+use Rattle.std.specs.Prelude.{ℕ, List, [], ◌∷◌, Result, Ok, Err}
 use Rattle.inf_base.specs.declared.caller.Caller.{Caller}
 use Rattle.inf_base.specs.declared.entry.Entry.{Entry}
 use Rattle.inf_base.specs.declared.errno.Errno.TheVariants as errno
@@ -13,6 +13,7 @@ use Rattle.inf_content.specs.declared.seen.Seen.TheVariants as seen
 use Rattle.inf_message.specs.declared.ask.Ask.{Ask}
 use Rattle.inf_message.specs.declared.reply.Reply.{Reply}
 use Rattle.inf_message.specs.declared.reply.Reply.TheVariants as reply
+use Rattle.inf_server.specs.Chains.{last_of}
 use Rattle.inf_server.specs.Checks.{asked_of, searched, writable}
 use Rattle.inf_server.specs.Names.{found_by, is_missing}
 use Rattle.inf_server.specs.Response.{Response, done}
@@ -24,12 +25,13 @@ new_file caller mode = record { mode = mode; owner = caller.uid; group = caller.
 
 abbrev pub create : Site → State → Ask → List Entry → List ℕ → ℕ → Result Response Reply
 create site state ask chain name mode = do
-  entry ← asked_of site state ask.from chain
+  entry ← asked_of site state ask.from (last_of chain) (chain ∷ [])
   searched ask.caller chain
   writable ask.caller entry
   found ← found_by ask.from (dir_of entry.access) name state.contents
   check (is_missing found) (reply.Refused errno.EEXIST)
-  done reply.Fine (with_contents (with_file_at (dir_of entry.access) name (new_file ask.caller mode) state.contents) state)
+  let contents = with_file_at (dir_of entry.access) name (new_file ask.caller mode) state.contents
+  done reply.Fine (with_contents contents state)
 
 -- what is told of what was found; a directory has length 0
 abbrev pub stat_of : Seen → Result Reply Reply
@@ -42,7 +44,7 @@ stat_of (seen.Dir dir mode owner group held) =
 
 abbrev pub stat : Site → State → Ask → List Entry → List ℕ → Result Response Reply
 stat site state ask chain name = do
-  entry ← asked_of site state ask.from chain
+  entry ← asked_of site state ask.from (last_of chain) (chain ∷ [])
   searched ask.caller chain
   found ← found_by ask.from (dir_of entry.access) name state.contents
   told ← stat_of found
@@ -59,7 +61,7 @@ no_directory (seen.Dir dir mode owner group held) = reply.Other
 -- the walk ends at this name
 abbrev pub walk : Site → State → Ask → List Entry → List ℕ → Result Response Reply
 walk site state ask chain name = do
-  entry ← asked_of site state ask.from chain
+  entry ← asked_of site state ask.from (last_of chain) (chain ∷ [])
   searched ask.caller chain
   found ← found_by ask.from (dir_of entry.access) name state.contents
   Err (no_directory found)
@@ -67,7 +69,7 @@ walk site state ask chain name = do
 -- the removal of a directory that is none
 abbrev pub rmdir_name : Site → State → Ask → List Entry → List ℕ → Result Response Reply
 rmdir_name site state ask chain name = do
-  entry ← asked_of site state ask.from chain
+  entry ← asked_of site state ask.from (last_of chain) (chain ∷ [])
   searched ask.caller chain
   writable ask.caller entry
   found ← found_by ask.from (dir_of entry.access) name state.contents

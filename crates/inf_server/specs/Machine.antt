@@ -108,4 +108,5 @@ after_reply given before response = response.state
 -- the state of a server after what it has served, the newest first
 abbrev pub state_after : Site → List Served → State
 state_after site [] = opening site
-state_after site (s ∷ earlier) = after_reply s.reply (state_after site earlier) (machine site (state_after site earlier) s.ask_place s.ask)
+state_after site (s ∷ earlier) =
+    after_reply s.reply (state_after site earlier) (machine site (state_after site earlier) s.ask_place s.ask)

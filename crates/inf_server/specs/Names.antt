@@ -25,7 +25,8 @@ unless_taken by born seen.Gone = Err reply.Gone
 unless_taken by born seen.Missing = Ok seen.Missing
 unless_taken by born (seen.Reserved other) = Err (if is_same_call other by then reply.Other else in_the_way other born)
 unless_taken by born (seen.File meta held) = unless_held by born (seen.File meta held) held
-unless_taken by born (seen.Dir dir mode owner group held) = unless_held by born (seen.Dir dir mode owner group held) held
+unless_taken by born (seen.Dir dir mode owner group held) =
+    unless_held by born (seen.Dir dir mode owner group held) held
 
 -- what the asking call finds under a name of a directory
 abbrev pub found_by : CallRef → DirRef → List ℕ → List Content → Result Seen Reply

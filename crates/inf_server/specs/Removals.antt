@@ -1,6 +1,6 @@
 -- What removes a directory: it is sealed where it is kept, unlinked where it stands, and dropped; and the row goes that
 -- was left where it was made.
-use Rattle.std.specs.Prelude.{ℕ, Bool, false, List, Option, Some, None, Result, Ok, Err}
+use Rattle.std.specs.Prelude.{ℕ, Bool, false, List, [], ◌∷◌, Option, Some, None, Result, Ok, Err}
 use Rattle.std.specs.Option.{ok_or}
 use Rattle.inf_base.specs.declared.access.Access.{Access}
 use Rattle.inf_base.specs.declared.directory.DirRef.{DirRef}
@@ -38,7 +38,7 @@ unless_inside born (inside.Busy by) = Err (reply.Busy by spot.Inside born)
 abbrev pub seal : Site → State → Ask → List Entry → Result Response Reply
 seal site state ask chain = do
   parent ← ok_or (last_of (before_last chain)) reply.Other
-  entry ← asked_of site state ask.from chain
+  entry ← asked_of site state ask.from (last_of chain) (chain ∷ [])
   searched ask.caller (before_last chain)
   writable ask.caller parent
   unless_inside entry.access.born (inside_of (slots_at (dir_of entry.access) state.contents))
@@ -65,7 +65,7 @@ abbrev pub unlink : Site → State → Ask → List Entry → Result Response Re
 unlink site state ask chain = do
   target ← ok_or (last_of chain) reply.Other
   name ← ok_or (name_in target.key) reply.Other
-  entry ← asked_of site state ask.from (before_last chain)
+  entry ← asked_of site state ask.from (last_of (before_last chain)) (chain ∷ [])
   found ← found_by ask.from (dir_of entry.access) name state.contents
   check (is_the_directory target.access found) reply.Other
   done reply.Fine (with_contents (without_slot_at (dir_of entry.access) name state.contents) state)

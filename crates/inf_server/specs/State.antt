@@ -53,7 +53,13 @@ root_access site = record { id = root_id site; born = 0; mode = 0o755; owner = 0
 -- before its first Serve a server has the root's objects, if it is the root's server, and nothing else
 abbrev pub opening : Site → State
 opening site = if is_here site (root_id site)
-    then record { contents = root_content site ∷ []; renames = []; marks = []; changes = []; top = Some (record { access = root_access site; held = None }) }
+    then record {
+      contents = root_content site ∷ [];
+      renames = [];
+      marks = [];
+      changes = [];
+      top = Some (record { access = root_access site; held = None });
+    }
     else record { contents = []; renames = []; marks = []; changes = []; top = None }
 
 -- the state with these content objects

@@ -1,18 +1,18 @@
 //! The checks that come before anything is looked up.
 
-ghost use Rattle.std.specs.Prelude.{◌≡◌, Ok, Err, IfOk, IfErr, OnOk};
+ghost use Rattle.std.specs.Prelude.{◌≡◌, Ok, Err, IfOk, IfErr, OnOk, map};
 ghost use Rattle.std.specs.List.{list_all};
 ghost use Rattle.std.specs.Option.{option_copied};
 ghost use Rattle.inf_base.specs.Same.{dir_of};
 ghost use Rattle.inf_perm.specs.declared.want.Want.TheVariants as want;
-ghost use Rattle.inf_server.specs.Chains.{before_last, last_of};
-ghost use Rattle.inf_server.specs.Checks.{lets, searched, unsealed, writable};
+ghost use Rattle.inf_server.specs.Chains.{before_last, has_entry, last_of};
+ghost use Rattle.inf_server.specs.Checks.{have_entries, lets, searched, unsealed, writable};
 ghost use Rattle.inf_server.specs.Files.{no_directory};
 ghost use Rattle.inf_server.specs.Names.{is_missing, unless_held, unless_taken};
 ghost use Rattle.inf_server.specs.Refusal.{reply_of};
 
 use crate::refusal::Refusal;
-use inf_base::{Access, CallRef, Caller, DirRef, Entry, Errno, Place};
+use inf_base::{Access, CallRef, Caller, Chain, DirRef, Entry, Errno, Place};
 use inf_content::Seen;
 use inf_message::Spot;
 use inf_perm::{Want, may};
@@ -41,6 +41,32 @@ pub fn before_last(chain: &[Entry]) -> &[Entry]
         [] => chain,
         [way @ .., _] => way,
     }
+}
+
+/// No chain that a request carries is without an entry.
+#[tactic(auto, using(crate::proofs::Carried::all_read))]
+pub fn have_entries(carried: &[&Chain]) -> Result<(), Refusal>
+    ensures ok { OnOk result (have_entries (map (λ chain. chain.now) carried.now) ≡ Ok tt) }
+    ensures refused { IfErr result (λ refusal.
+        have_entries (map (λ chain. chain.now) carried.now) ≡ Err (reply_of refusal)) }
+{
+    if all_have_entries(carried) {
+        Ok(())
+    } else {
+        Err(Refusal::Other)
+    }
+}
+
+fn all_have_entries(carried: &[&Chain]) -> bool
+    ensures { result ≡ list_all (λ chain. has_entry chain.now) carried.now }
+{
+    carried.iter().all(|chain| has_entry(chain))
+}
+
+fn has_entry(chain: &Chain) -> bool
+    ensures { result ≡ has_entry chain.now }
+{
+    !chain.as_slice().is_empty()
 }
 
 /// A seal of another call stands in the way.

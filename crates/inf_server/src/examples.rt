@@ -31,7 +31,8 @@ pub fn example_of_lookups_in_flight()
     ensures sealed { replied with_sealed_a (ask_in other_call look_up_b) ≡ reply.Busy other_call spot.Sealed 5 }
     ensures reserved { replied with_name (ask_in call look_up_a) ≡ reply.Busy call spot.Slot 0 }
     ensures held { replied (with_slot_a (held_by call)) (ask_in call look_up_a) ≡ reply.Busy call spot.Slot 0 }
-    ensures held_directory { replied (with_slot_a (dir_held_by call)) (ask_in call look_up_a) ≡ reply.Busy call spot.Slot 0 }
+    ensures held_directory { replied (with_slot_a (dir_held_by call)) (ask_in call look_up_a)
+        ≡ reply.Busy call spot.Slot 0 }
 {}
 
 /// A file that was created is there, as the caller's, and cannot be created again.
@@ -46,7 +47,8 @@ pub fn example_of_files()
 pub fn example_of_chains()
     ensures empty { replied at_first (finish 0 [] stat_a) ≡ reply.Other }
     ensures gone { replied at_first (finish 0 (told_of one_id 5 ∷ []) stat_a) ≡ reply.Gone }
-    ensures elsewhere { (machine (server_0 2) at_first 5 (finish 0 (root ∷ told_of odd_id 5 ∷ []) stat_a)).reply ≡ reply.Other }
+    ensures elsewhere { (machine (server_0 2) at_first 5 (finish 0 (root ∷ told_of odd_id 5 ∷ []) stat_a)).reply
+        ≡ reply.Other }
 {}
 
 /// Permission is asked before names are looked up: user 100 may search the root, and not write to it.
@@ -57,10 +59,13 @@ pub fn example_of_permissions()
 
 /// What another call seals, holds or reserves is in the way; what the asking call holds is what it is.
 pub fn example_of_holds()
-    ensures sealed { replied (sealed_by other_call) (finish 0 (root ∷ []) stat_a) ≡ reply.Busy other_call spot.Sealed 0 }
+    ensures sealed { replied (sealed_by other_call) (finish 0 (root ∷ []) stat_a)
+        ≡ reply.Busy other_call spot.Sealed 0 }
     ensures own_seal { replied (sealed_by call) (finish 0 (root ∷ []) stat_a) ≡ reply.Refused errno.ENOENT }
-    ensures held { replied (with_slot_a (held_by other_call)) (finish 0 (root ∷ []) stat_a) ≡ reply.Busy other_call spot.Slot 0 }
-    ensures own_hold { replied (with_slot_a (held_by call)) (finish 0 (root ∷ []) stat_a) ≡ reply.Stat kind.File meta_of_a }
+    ensures held { replied (with_slot_a (held_by other_call)) (finish 0 (root ∷ []) stat_a)
+        ≡ reply.Busy other_call spot.Slot 0 }
+    ensures own_hold { replied (with_slot_a (held_by call)) (finish 0 (root ∷ []) stat_a)
+        ≡ reply.Stat kind.File meta_of_a }
     ensures reserved { replied (with_slot_a (reserved_by other_call)) (finish 0 (root ∷ []) create_a)
         ≡ reply.Busy other_call spot.Slot 0 }
     ensures own_reserved { replied (with_slot_a (reserved_by call)) (finish 0 (root ∷ []) create_a) ≡ reply.Other }
@@ -71,7 +76,8 @@ pub fn example_of_walks()
     ensures missing { replied at_first (finish 0 (root ∷ []) walk_a) ≡ reply.Refused errno.ENOENT }
     ensures file { replied with_a (finish 0 (root ∷ []) walk_a) ≡ reply.Refused errno.ENOTDIR }
     ensures found { replied with_dir_a (finish 0 (root ∷ []) walk_a) ≡ reply.Other }
-    ensures reserved { replied (with_slot_a (reserved_by other_call)) (finish 0 (root ∷ []) walk_a) ≡ reply.Busy other_call spot.Slot 0 }
+    ensures reserved { replied (with_slot_a (reserved_by other_call)) (finish 0 (root ∷ []) walk_a)
+        ≡ reply.Busy other_call spot.Slot 0 }
     ensures no_search { replied with_dir_a (finish 100 (to_a 5) walk_a) ≡ reply.Refused errno.EACCES }
     ensures stands { replied with_dir_a (finish 0 (root ∷ []) stat_a)
         ≡ reply.Stat kind.Dir (record { mode = 0o750; owner = 0; group = 0; length = 0 }) }
@@ -110,7 +116,8 @@ pub fn example_of_reservations()
 pub fn example_of_bearers()
     ensures maker { replied with_content (ask_in other_call make_a) ≡ reply.Busy call spot.Bearer 0 }
     ensures sealer { replied with_sealed_a (ask_in call make_a) ≡ reply.Busy other_call spot.Bearer 0 }
-    ensures clash { replied with_content (ask_in call (request.Make (triple.Of one_id (codes "b") 0))) ≡ reply.Clash birth_a }
+    ensures clash { replied with_content (ask_in call (request.Make (triple.Of one_id (codes "b") 0)))
+        ≡ reply.Clash birth_a }
     ensures at_home { (machine server_1 (opening server_1) 5 (ask_in call make_a)).reply ≡ reply.Fine }
 {}
 
@@ -136,7 +143,8 @@ pub fn example_of_removals()
 pub fn example_of_seals()
     ensures no_way { replied at_first (ask_in call (request.Seal (root ∷ []))) ≡ reply.Other }
     ensures full { replied (holding_b (file meta_of_a None)) (ask_in call seal_a) ≡ reply.Refused errno.ENOTEMPTY }
-    ensures reserved { replied (holding_b (reserved_by other_call)) (ask_in call seal_a) ≡ reply.Busy other_call spot.Inside 5 }
+    ensures reserved { replied (holding_b (reserved_by other_call)) (ask_in call seal_a)
+        ≡ reply.Busy other_call spot.Inside 5 }
     ensures own { replied (holding_b (held_by call)) (ask_in call seal_a) ≡ reply.Busy call spot.Inside 5 }
     ensures no_write { replied with_dir_a (ask_as 100 seal_a) ≡ reply.Refused errno.EACCES }
     ensures sealed { replied with_sealed_a (ask_in call seal_a) ≡ reply.Busy other_call spot.Sealed 5 }
@@ -181,5 +189,6 @@ pub fn example_of_other_servers()
 pub fn example_of_states()
     ensures first { state_after (server_0 1) [] ≡ at_first }
     ensures created { state_after (server_0 1) (served_ask (finish 0 (root ∷ []) create_a) 3 reply.Fine ∷ []) ≡ with_a }
-    ensures no_memory { state_after (server_0 1) (served_ask (finish 0 (root ∷ []) create_a) 3 reply.NoMem ∷ []) ≡ at_first }
+    ensures no_memory { state_after (server_0 1) (served_ask (finish 0 (root ∷ []) create_a) 3 reply.NoMem ∷ [])
+        ≡ at_first }
 {}

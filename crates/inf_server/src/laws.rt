@@ -1,6 +1,7 @@
 //! Laws of servers as machines.
 
-ghost use Rattle.std.specs.Prelude.{◌≡◌, ◌≤◌, ℕ, false, Some, List, [], ◌∷◌, Err};
+ghost use Rattle.std.specs.Prelude.{◌≡◌, ◌≤◌, ℕ, true, false, Option, Some, None, List, [], ◌∷◌, Err};
+ghost use Rattle.std.specs.List.{list_all};
 ghost use Rattle.inf_base.specs.declared.caller.CallRef.{CallRef};
 ghost use Rattle.inf_base.specs.declared.entry.Entry.{Entry};
 ghost use Rattle.inf_base.specs.declared.id.Id.{Id};
@@ -10,7 +11,7 @@ ghost use Rattle.inf_message.specs.declared.ask.Ask.{Ask};
 ghost use Rattle.inf_message.specs.declared.reply.Reply.{Reply};
 ghost use Rattle.inf_message.specs.declared.reply.Reply.TheVariants as reply;
 ghost use Rattle.inf_message.specs.History.{Served, served_ask};
-ghost use Rattle.inf_server.specs.Chains.{last_of};
+ghost use Rattle.inf_server.specs.Chains.{has_entry};
 ghost use Rattle.inf_server.specs.Births.{make};
 ghost use Rattle.inf_server.specs.Checks.{asked_of};
 ghost use Rattle.inf_server.specs.Lookups.{lookup_at, lookup_top};
@@ -26,14 +27,19 @@ pub fn states_follow_serves()
         → state_after here (served_ask ask place reply ∷ earlier) ≡ new }
 {}
 
-/// A request whose chain ends in a directory that another server keeps, or in none, is turned away, and so is one that
-/// names such a directory.
+/// A request that asks a directory which another server keeps, or none, is turned away, and so is one that names such a
+/// directory, or carries a chain without an entry.
 pub fn others_are_turned_away()
     ensures lookups { (here : Site) (state : State) → is_here here (root_id here) ≡ false
         → lookup_top here state ≡ Err reply.Other }
-    ensures chains { (here : Site) (state : State) (by : CallRef) (chain : List Entry) (entry : Entry)
-        → last_of chain ≡ Some entry → is_here here entry.access.id ≡ false → asked_of here state by chain ≡ Err reply.Other }
-    ensures no_chain { (here : Site) (state : State) (by : CallRef) → asked_of here state by [] ≡ Err reply.Other }
+    ensures asked { (here : Site) (state : State) (by : CallRef) (asked : Option Entry) (carried : List (List Entry))
+        (entry : Entry) → asked ≡ Some entry → is_here here entry.access.id ≡ false
+        → asked_of here state by asked carried ≡ Err reply.Other }
+    ensures none_asked { (here : Site) (state : State) (by : CallRef) (carried : List (List Entry))
+        → asked_of here state by None carried ≡ Err reply.Other }
+    ensures empty_chains { (here : Site) (state : State) (by : CallRef) (entry : Entry) (carried : List (List Entry))
+        → is_here here entry.access.id ≡ true → list_all has_entry carried ≡ false
+        → asked_of here state by (Some entry) carried ≡ Err reply.Other }
     ensures names { (here : Site) (state : State) (id : Id) (name : List ℕ) → is_here here id ≡ false
         → lookup_at here state id name ≡ Err reply.Other }
     ensures births { (here : Site) (state : State) (place : ℕ) (ask : Ask) (birth : Triple)
@@ -42,6 +48,8 @@ pub fn others_are_turned_away()
 
 /// The coordinator, whose number is that of the servers, keeps no directory.
 pub fn coordinators_keep_nothing()
-    ensures contents { (servers : ℕ) (digest : List ℕ → Id) → 1 ≤ servers → (opening (site servers servers digest)).contents ≡ [] }
-    ensures top { (servers : ℕ) (digest : List ℕ → Id) → 1 ≤ servers → (opening (site servers servers digest)).top ≡ None }
+    ensures contents { (servers : ℕ) (digest : List ℕ → Id) → 1 ≤ servers
+        → (opening (site servers servers digest)).contents ≡ [] }
+    ensures top { (servers : ℕ) (digest : List ℕ → Id) → 1 ≤ servers
+        → (opening (site servers servers digest)).top ≡ None }
 {}

@@ -1,6 +1,7 @@
 //! A server, and how it replies.
 
-ghost use Rattle.std.specs.Prelude.{◌≡◌, ◌≢◌, ◌≤◌, true, false, is_some, Ok, Err, IfOk, IfErr, OnOk, OnErr};
+ghost use Rattle.std.specs.Prelude.{◌≡◌, ◌≢◌, ◌≤◌, true, false, is_some, Ok, Err, IfOk, IfErr, OnOk, OnErr, map};
+ghost use Rattle.std.specs.Option.{option_copied};
 ghost use Rattle.inf_base.specs.declared.item.Kind.TheVariants as kind;
 ghost use Rattle.inf_content.specs.Contents.{content_at};
 ghost use Rattle.inf_message.specs.declared.reply.Reply.TheVariants as reply;
@@ -19,7 +20,7 @@ mod files;
 mod lookups;
 mod removals;
 
-use crate::checks::{dir_of, last_of, no_directory, unless_taken, unsealed};
+use crate::checks::{dir_of, have_entries, no_directory, unless_taken, unsealed};
 use crate::refusal::Refusal;
 use inf_base::{
     CallRef, Chain, DirRef, Entry, Id, Key, LookKey, Name, NoMemory, Place, Setup, Triple,
@@ -153,7 +154,8 @@ impl<R: IdRule> Server<R> {
     fn change(&mut self, ask: &Ask) -> Result<(), Refusal>
         requires { is_change ask.now.request ≡ true }
         ensures done { OnOk result (
-            on_change (site_of R.digest_of self.old) self.old.state ask.now ask.now.request ≡ done reply.Fine self.new.state) }
+            on_change (site_of R.digest_of self.old) self.old.state ask.now ask.now.request
+            ≡ done reply.Fine self.new.state) }
         ensures refused { IfErr result (λ refusal.
             on_change (site_of R.digest_of self.old) self.old.state ask.now ask.now.request ≡ Err (reply_of refusal)) }
         ensures unchanged { OnErr result (self.new ≡ self.old) }
@@ -196,17 +198,26 @@ impl<R: IdRule> Server<R> {
         }
     }
 
-    /// The entry of the directory asked, which ends the chain: it is kept here, stands, and no other call sealed it.
-    fn asked<'a>(&self, by: CallRef, chain: &'a [Entry]) -> Result<&'a Entry, Refusal>
+    /// The entry of the directory asked, by a request that carries these chains: the directory is kept here, stands,
+    /// and no other call sealed it.
+    fn asked<'a>(
+        &self,
+        by: CallRef,
+        asked: Option<&'a Entry>,
+        carried: &[&Chain],
+    ) -> Result<&'a Entry, Refusal>
         ensures ok { IfOk result (λ entry.
-            asked_of (site_of R.digest_of self.now) self.now.state by chain.now ≡ Ok entry.now) }
+            asked_of (site_of R.digest_of self.now) self.now.state by (option_copied asked.entry)
+            (map (λ chain. chain.now) carried.now) ≡ Ok entry.now) }
         ensures refused { IfErr result (λ refusal.
-            asked_of (site_of R.digest_of self.now) self.now.state by chain.now ≡ Err (reply_of refusal)) }
+            asked_of (site_of R.digest_of self.now) self.now.state by (option_copied asked.entry)
+            (map (λ chain. chain.now) carried.now) ≡ Err (reply_of refusal)) }
     {
-        let Some(entry) = last_of(chain) else {
+        let Some(entry) = asked else {
             return Err(Refusal::Other);
         };
         self.check_here(&entry.access.id)?;
+        have_entries(carried)?;
         let dir = dir_of(&entry.access);
         if !self.stands(&dir) {
             return Err(Refusal::Gone);

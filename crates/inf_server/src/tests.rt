@@ -1,4 +1,5 @@
-//! Each reply of each request once, at the root's server of two and at the others, as requests and replies in few words.
+//! Each reply of each request once, at the root's server of two and at the others, as requests and replies in few
+//! words.
 
 ghost use Rattle.std.specs.Prelude.{◌≡◌, ◌≤◌, true, length, IfOk};
 ghost use Rattle.inf_server.specs.Chains.{HasShortChains};

@@ -30,7 +30,7 @@ impl<R: IdRule> Server<R> {
         let Some(parent) = last_of(way) else {
             return Err(Refusal::Other);
         };
-        let entry = self.asked(ask.from, chain.as_slice())?;
+        let entry = self.asked(ask.from, last_of(chain.as_slice()), &[chain])?;
         search(ask.caller, way)?;
         write(ask.caller, parent)?;
         let dir = dir_of(&entry.access);
@@ -68,7 +68,8 @@ impl<R: IdRule> Server<R> {
         let Some(name) = name_in(&target.key) else {
             return Err(Refusal::Other);
         };
-        let entry = self.asked(ask.from, before_last(chain.as_slice()))?;
+        let above = last_of(before_last(chain.as_slice()));
+        let entry = self.asked(ask.from, above, &[chain])?;
         let dir = dir_of(&entry.access);
         let found = self.find(ask.from, &dir, name)?;
         if !is_the_directory(&target.access, found) {

@@ -1,9 +1,10 @@
-use Rattle.std.proofs.Common.{◌≡◌, is_some, refl, sym, ap, subst}
+use Rattle.std.proofs.Common.{◌≡◌, [], ◌∷◌, is_some, refl, sym, ap, subst}
 use Rattle.inf_base.specs.declared.answer.Answer.TheVariants as answer
 use Rattle.inf_base.specs.declared.call.Call.TheVariants as call
 use Rattle.inf_base.specs.declared.directory.DirRef.{DirRef}
 use Rattle.inf_base.specs.Same.{dir_of}
 use Rattle.inf_content.specs.Contents.{slots_found}
+use Rattle.inf_server.specs.Chains.{last_of}
 use Rattle.inf_laws_directory.specs.Objects.{content_in, kept_with, site_in, slots_kept, with_state}
 use Rattle.inf_laws_directory.specs.Owned.{Has}
 use Rattle.inf_laws_directory.specs.Phases.{IsLoose, IsReserving, Phase, has_made, idle, with_phase}
@@ -22,7 +23,7 @@ returns c = λ service objects number root tree phases ask text path name mode c
     let owned = standing.owned in
     let put = (linked_so (site_in service number) (objects number) ask done chain name made mode is).passed in
     let leads = c.chains_are_true.ensures service objects number root phases ask.from path chain put.entry owned told.told told.links
-    (asked_again (site_in service number) (objects number) ask.from chain put.entry put.is_asked)
+    (asked_again (site_in service number) (objects number) ask.from (last_of chain) (chain ∷ []) put.entry put.is_asked)
     (λ unlinked. (cc (at_made, unlinked))) in
     let at = is_at service objects root tree phases path chain last standing leads at_last in
     let has : Has service objects ask.from (has_made dir name birth made) = subst (λ (phase : Phase). Has service objects ask.from phase) at_made (owned.has ask.from) in

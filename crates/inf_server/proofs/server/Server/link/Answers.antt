@@ -1,5 +1,6 @@
-use Rattle.std.proofs.Common.{◌≡◌, Some, None, Ok, rules}
+use Rattle.std.proofs.Common.{◌≡◌, [], ◌∷◌, Some, None, Ok, rules}
 use Rattle.inf_server.proofs.LinkFacts.{link_refused, nothing_linked, told_link}
+use Rattle.inf_server.specs.Chains.{last_of}
 use Rattle.inf_server.specs.Checks.{asked_of}
 use Rattle.inf_server.specs.Server.{site_of, state_with}
 use Rattle.inf_server.proofs.server.Server.link.Goals as goal
@@ -9,9 +10,11 @@ returns-in_default-clause-refused g c =
     let s = c.args.self.now in
     let ask = c.args.ask.now in
     let entry = c.in_ok-entry.entry.now in
-    let asked : asked_of (site_of g.R.IdRule.digest_of s) s.state ask.from c.args.chain.now ≡ Ok entry = search rules in
+    let asked : asked_of (site_of g.R.IdRule.digest_of s) s.state ask.from (last_of c.args.chain.now)
+    (c.args.chain.now ∷ []) ≡ Ok entry = search rules in
     let told : told_link s.state entry (Some (c.args.linked, c.args.mode, ask.caller)) ask.from ≡ None = search rules in
-    link_refused (site_of g.R.IdRule.digest_of s) s.state ask c.args.chain.now entry c.args.linked c.args.mode asked told
+    link_refused (site_of g.R.IdRule.digest_of s) s.state ask c.args.chain.now entry c.args.linked c.args.mode asked
+        told
 
 pub returns-in_default-clause-unchanged : goal.returns-in_default-clause-unchanged
 returns-in_default-clause-unchanged g c =
