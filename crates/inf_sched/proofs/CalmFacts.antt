@@ -13,7 +13,7 @@ use Rattle.inf_base.specs.declared.key.LookKey.TheVariants as look
 use Rattle.inf_base.specs.declared.setup.ClientLine.{ClientLine}
 use Rattle.inf_duty.specs.After.{client_after}
 use Rattle.inf_duty.specs.Duty.{asked, asks, at_call, begun, found_at, given_up, given_up_in, is_acting, lifts, next_step}
-use Rattle.inf_duty.specs.Outcome.{results_of, so_far, unanswered}
+use Rattle.inf_duty.specs.Outcome.{come_to, is_wanting, results_of, so_far, unanswered}
 use Rattle.inf_duty.specs.Start.{starting}
 use Rattle.inf_duty.specs.World.{World}
 use Rattle.inf_flow_dir.specs.Client.{ClientState, Ending, Sent, Stage, act, answers, compose, ended, result_of, retries, round, told_at, winds, wound}
@@ -35,7 +35,7 @@ use Rattle.inf_laws_history.proofs.PendingFacts.{goes}
 use Rattle.inf_sched.specs.Laws.{is_no_mem, is_no_memory, wanted}
 use Rattle.inf_sched.specs.Scene.{planned_from}
 use Rattle.inf_sched.proofs.BuiltFacts.{HasNotGivenUp, IsBuilt, IsBuiltFor, false_before, false_behind, neither, none_before, none_behind, none_joined}
-use Rattle.inf_sched.proofs.TurnFacts.{EndingHas, IsOfReplies, composed_has, StageHas, TurnHas, turn_has, wants}
+use Rattle.inf_sched.proofs.TurnFacts.{EndingHas, IsOfReplies, composed_has, StageHas, TurnHas, turn_has}
 
 abbrev pub IsNoWant : Answer → Type 0
 IsNoWant given = is_no_memory given ≡ false
@@ -70,20 +70,25 @@ from_results s built none = record {
   stage = none_left s s.left built (none_behind s.results (unanswered s.left s) none);
 }
 
-so_far_none : (s : ClientState) (stage : Stage) → StageHas IsNoWant stage → is_no_memory (so_far stage s).answer ≡ false
-so_far_none s (winds (answers given place) m ms) none = none
-so_far_none s (winds retries m ms) none = refl
-so_far_none s compose none = refl
-so_far_none s (round keys) none = refl
-so_far_none s (act flow) none = refl
+so_far_none : (s : ClientState) (stage : Stage) → is_wanting s.sent ≡ false → StageHas IsNoWant stage
+    → is_no_memory (so_far stage s).answer ≡ false
+so_far_none s (winds (answers given place) m ms) plain none = none
+so_far_none s (winds retries m ms) plain none = refl
+so_far_none s compose plain none = refl
+so_far_none s (round keys) plain none = ap (λ b. is_no_memory (come_to b)) plain
+so_far_none s (act flow) plain none = refl
 
-unanswered_none : (left : List Call) (s : ClientState) → StageHas IsNoWant s.stage → HasNotGivenUp (unanswered left s)
-unanswered_none [] s none = refl
-unanswered_none (call ∷ left) s none =
-    neither (is_no_memory (so_far s.stage s).answer) _ (so_far_none s s.stage none) (unanswered_none left (ended answer.Unanswered None s) tt)
+unanswered_none : (left : List Call) (s : ClientState) → is_wanting s.sent ≡ false → StageHas IsNoWant s.stage
+    → HasNotGivenUp (unanswered left s)
+unanswered_none [] s plain none = refl
+unanswered_none (call ∷ left) s plain none =
+    neither (is_no_memory (so_far s.stage s).answer) _ (so_far_none s s.stage plain none)
+    (unanswered_none left (ended answer.Unanswered None s) refl tt)
 
-pub to_results : (s : ClientState) → ShowsNoWant s → HasNotGivenUp (results_of s)
-to_results s none = none_joined s.results (unanswered s.left s) none.results (unanswered_none s.left s none.stage)
+-- where no answer to its round says so either
+pub to_results : (s : ClientState) → is_wanting s.sent ≡ false → ShowsNoWant s → HasNotGivenUp (results_of s)
+to_results s plain none =
+    none_joined s.results (unanswered s.left s) none.results (unanswered_none s.left s plain none.stage)
 
 -- ---- before a step
 
@@ -286,7 +291,7 @@ after_turn : (turn : Turn) (s : ClientState) → TurnHas IsNoWant turn → HasNo
 after_turn (goes_on next) s none before = record { results = before; stage = none }
 after_turn (winds_up ending more) s none before = after_wound ending more s none before
 
-pub after_served : (digest : List ℕ → Id) (place : ℕ) (told : Told) (s : ClientState) → wants (map (told_at place told) s.sent) ≡ false → ShowsNoWant s → ShowsNoWant (served digest place told s)
+pub after_served : (digest : List ℕ → Id) (place : ℕ) (told : Told) (s : ClientState) → is_wanting (map (told_at place told) s.sent) ≡ false → ShowsNoWant s → ShowsNoWant (served digest place told s)
 after_served digest place told s plain none =
     by_answer digest ShowsNoWant place told s
     (λ apart. none)
@@ -305,15 +310,15 @@ first_told : (earlier : Option Told) (told : Told) → wants_memory earlier ≡ 
 first_told None told before now = now
 first_told (Some earlier) told before now = before
 
-pub plain_recorded : (place : ℕ) (told : Told) (sent : List Sent) → wants_memory (Some told) ≡ false → wants sent ≡ false → wants (map (told_at place told) sent) ≡ false
+pub plain_recorded : (place : ℕ) (told : Told) (sent : List Sent) → wants_memory (Some told) ≡ false → is_wanting sent ≡ false → is_wanting (map (told_at place told) sent) ≡ false
 plain_recorded place told [] now before = refl
 plain_recorded place told (x ∷ sent) now before =
-    neither (wants_memory (told_at place told x).told) (wants (map (told_at place told) sent))
+    neither (wants_memory (told_at place told x).told) (is_wanting (map (told_at place told) sent))
     (if_both (λ (y : Sent). wants_memory y.told ≡ false) (x.place == place) (record x { told = Some (or_told x.told told) }) x
     (first_told x.told told (false_before _ _ before) now) (false_before _ _ before))
     (plain_recorded place told sent now (false_behind (wants_memory x.told) _ before))
 
-wants_last : (digest : List ℕ → Id) → Lasts digest (λ s. wants s.sent ≡ false)
+wants_last : (digest : List ℕ → Id) → Lasts digest (λ s. is_wanting s.sent ≡ false)
 wants_last digest = record {
   composing = λ s plain. plain;
   ending = λ given place s plain. refl;
@@ -321,27 +326,27 @@ wants_last digest = record {
   going_on = λ next s plain. refl;
 }
 
-starting_plain : (world : World) (client : ℕ) (line : Option ClientLine) → wants (starting world client line).sent ≡ false
+starting_plain : (world : World) (client : ℕ) (line : Option ClientLine) → is_wanting (starting world client line).sent ≡ false
 starting_plain world client None = refl
 starting_plain world client (Some line) = refl
 
 -- where no server wanted memory, no client was told so
-pub plain_after : (world : World) (client : ℕ) (h : List Event) → list_any wanted h ≡ false → wants (client_after world client h).sent ≡ false
+pub plain_after : (world : World) (client : ℕ) (h : List Event) → list_any wanted h ≡ false → is_wanting (client_after world client h).sent ≡ false
 plain_after world client [] plain = starting_plain world client (slice_get world.setup.clients client)
 plain_after world client (event.Ask number ask ∷ h) plain =
     let s : ClientState = client_after world client h in
-    let before : wants s.sent ≡ false = plain_after world client h plain in
-    if_both (λ (t : ClientState). wants t.sent ≡ false) (eqb ask.from.client client) (asked world.digest (suc (length h)) ask s) s
+    let before : is_wanting s.sent ≡ false = plain_after world client h plain in
+    if_both (λ (t : ClientState). is_wanting t.sent ≡ false) (eqb ask.from.client client) (asked world.digest (suc (length h)) ask s) s
     (list_any-append (λ (x : Sent). wants_memory x.told) (begun world.digest ask s.sent s).sent _
-    ∙ neither (wants (begun world.digest ask s.sent s).sent) false (begun_lasts world.digest (λ t. wants t.sent ≡ false) (wants_last world.digest) ask s.sent s before) refl)
+    ∙ neither (is_wanting (begun world.digest ask s.sent s).sent) false (begun_lasts world.digest (λ t. is_wanting t.sent ≡ false) (wants_last world.digest) ask s.sent s before) refl)
     before
 plain_after world client (event.Serve number ask_place given ∷ h) plain =
     let s : ClientState = client_after world client h in
     let told : Told = told_reply (suc (length h)) (heard given) in
-    let now : wants (map (told_at ask_place told) s.sent) ≡ false =
+    let now : is_wanting (map (told_at ask_place told) s.sent) ≡ false =
     plain_recorded ask_place told s.sent (plain_told (suc (length h)) given (false_before _ _ plain))
     (plain_after world client h (false_behind (is_no_mem given) _ plain)) in
-    by_answer world.digest (λ t. wants t.sent ≡ false) ask_place told s
+    by_answer world.digest (λ t. is_wanting t.sent ≡ false) ask_place told s
     (λ apart. plain_after world client h (false_behind (is_no_mem given) _ plain))
     (λ here going. now)
-    (λ here over. turned_lasts world.digest (λ t. wants t.sent ≡ false) (wants_last world.digest) (turn_at world.digest (recorded ask_place told s) s.stage) (recorded ask_place told s) now)
+    (λ here over. turned_lasts world.digest (λ t. is_wanting t.sent ≡ false) (wants_last world.digest) (turn_at world.digest (recorded ask_place told s) s.stage) (recorded ask_place told s) now)

@@ -6,7 +6,7 @@ ghost use Rattle.inf_duty.specs.ClientStep.{IsQuiet, is_ask, next_as};
 ghost use Rattle.inf_duty.specs.Duty.{asks, given_up, next_step};
 ghost use Rattle.inf_duty.specs.Kept.{unserved};
 ghost use Rattle.inf_duty.specs.Messages.{is_compose, is_winding, post_of};
-ghost use Rattle.inf_duty.specs.Outcome.{results_of, so_far};
+ghost use Rattle.inf_duty.specs.Outcome.{come_to, is_wanting, results_of, so_far};
 ghost use Rattle.inf_flow_dir.specs.Client.{compose, placed, result_of};
 ghost use Rattle.inf_flow_dir.specs.Group.{composed, group, lookup_of, next_course};
 
@@ -15,7 +15,7 @@ use crate::client_step::ClientStep;
 use crate::group::{is_round, is_winding};
 use crate::standing::Standing;
 use inf_base::{Answer, CallRef, LookKey, NoMemory, Place};
-use inf_flow_dir::{Ending, Sending, has_course};
+use inf_flow_dir::{Ending, Sending, has_course, is_one_wanting};
 use inf_message::{Ask, CallResult, Message};
 use std::alloc::Global;
 use std::mem;
@@ -184,16 +184,28 @@ impl ClientState {
         self.counts.forget_serves();
     }
 
+    /// What a round that is not over has come to.
+    fn round_so_far(&self) -> Answer
+        ensures { result ≡ come_to (is_wanting self.now.sent) }
+    {
+        if is_one_wanting(self.sent.as_slice()) {
+            Answer::NoMemory
+        } else {
+            Answer::Unanswered
+        }
+    }
+
     /// What the call under way has come to.
     fn take_so_far(&mut self) -> (Answer, Option<Place>)
         ensures so_far { so_far self.old.stage self.old
             ≡ result_of result.0 result.1 None self.old }
         ensures after { self.new ≡ record self.old { stage = compose; sent = [] } }
     {
+        let of_round = self.round_so_far();
         self.sent.clear();
         match mem::replace(&mut self.stands, Standing::Compose) {
             Standing::Compose => (Answer::Unanswered, None),
-            Standing::Round(_, _) => (Answer::Unanswered, None),
+            Standing::Round(_, _) => (of_round, None),
             Standing::Act(_) => (Answer::Unanswered, None),
             Standing::Winds(ending, _, _) => match ending {
                 Ending::Answers(answer, place) => (answer, place),
@@ -217,7 +229,7 @@ impl ClientState {
         self.end(answer, place);
     }
 
-    /// One result for each call; those that have no answer yet are unanswered.
+    /// One result for each call; those that nothing has ended yet are unanswered.
     #[tactic(auto, using(crate::proofs::ResultFacts::unserved_results, crate::proofs::ResultFacts::ended_next, crate::proofs::ResultFacts::all_results))]
     pub fn into_results(self) -> Vec<CallResult>
         ensures { result.items ≡ results_of self }
