@@ -1,5 +1,5 @@
 -- A client that shows no want of memory: what it did before shows none either, and what comes next shows none.
-use Rattle.std.proofs.Common.{◌≡◌, ℕ, zero, suc, ◌<◌, ◌==◌, Bool, true, false, if◌then◌else◌, eqb, List, [], ◌∷◌, length, map, slice_get, Option, Some, None, is_some, refl, sym, ap, subst, ◌∙◌, inl, inr, ◌⊎◌, arith}
+use Rattle.std.proofs.Common.{◌≡◌, ℕ, zero, suc, ◌<◌, ◌==◌, Bool, true, false, if◌then◌else◌, eqb, List, [], ◌∷◌, length, map, slice_get, Option, Some, None, refl, sym, ap, subst, ◌∙◌, inl, inr, ◌⊎◌, arith}
 use Rattle.inf_base.specs.declared.id.Id.{Id}
 use Rattle.std.specs.List.{list_any}
 use Rattle.std.proofs.lemmas.Bool.Decides.{Decides-eqb}
@@ -12,13 +12,14 @@ use Rattle.inf_base.specs.declared.key.LookKey.{LookKey}
 use Rattle.inf_base.specs.declared.key.LookKey.TheVariants as look
 use Rattle.inf_base.specs.declared.setup.ClientLine.{ClientLine}
 use Rattle.inf_duty.specs.After.{client_after}
-use Rattle.inf_duty.specs.Duty.{asked, asks, at_call, begun, found_at, given_up, given_up_in, is_acting, lifts, next_step}
+use Rattle.inf_duty.specs.Duty.{asked, asks, at_call, begun, found_at, given_up, given_up_in, lifts, may_give_up, next_step}
+use Rattle.inf_duty.specs.Messages.{is_winding}
 use Rattle.inf_duty.specs.Outcome.{come_to, is_wanting, results_of, so_far, unanswered}
 use Rattle.inf_duty.specs.Start.{starting}
 use Rattle.inf_duty.specs.World.{World}
 use Rattle.inf_flow_dir.specs.Client.{ClientState, Ending, Sent, Stage, act, answers, compose, ended, result_of, retries, round, told_at, winds, wound}
 use Rattle.inf_flow_dir.specs.Flow.{Flow, Who, clean_up, finishes, links, makes, message_of, reserves, seals, unlinks}
-use Rattle.inf_flow_dir.specs.Group.{Course, composed, composed_stage, course_of, group, keys_of, lookup_of, next_course}
+use Rattle.inf_flow_dir.specs.Group.{Course, composed, composed_stage, group, keys_of, lookup_of, next_course}
 use Rattle.inf_flow_dir.specs.Heard.{heard}
 use Rattle.inf_flow_dir.specs.Turn.{Turn, goes_on, recorded, served, turn_at, turned, wants_memory, winds_up}
 use Rattle.inf_message.specs.declared.ask.Ask.{Ask}
@@ -29,6 +30,7 @@ use Rattle.inf_message.specs.declared.reply.Reply.TheVariants as reply
 use Rattle.inf_message.specs.declared.request.Request.{Request}
 use Rattle.inf_message.specs.declared.step.Message.{Message}
 use Rattle.inf_message.specs.History.{Told, or_told, told_reply}
+use Rattle.inf_duty.proofs.BegunFacts.{winding_goes}
 use Rattle.inf_duty.proofs.BegunKept.{if_both}
 use Rattle.inf_laws_history.proofs.ClientSteps.{Lasts, begun_lasts, by_answer, turned_lasts}
 use Rattle.inf_laws_history.proofs.PendingFacts.{goes}
@@ -161,14 +163,14 @@ at_call_kept : (digest : List ℕ → Id) (number : ℕ) (asked : Request) (call
     → KeptOn digest s (at_call digest number asked calls s)
 at_call_kept digest number asked [] s none = inl refl
 at_call_kept digest number asked (call ∷ calls) s none =
-    by (at_call_kept digest number asked calls (given_up s)) (eqb number s.number) (is_some (course_of call)) none
+    by (at_call_kept digest number asked calls (given_up s)) (eqb number s.number) (may_give_up s) none
   where
     later : ClientState
     later = at_call digest number asked calls (given_up s)
 
     by : (ShowsNoWant later → KeptOn digest (given_up s) later) → (b c : Bool) → ShowsNoWant (if b then found_at digest asked s else (if c then later else s))
         → KeptOn digest s (if b then found_at digest asked s else (if c then later else s))
-    by rest true c none = found_kept digest s (lifts asked) (is_acting s.stage) none
+    by rest true c none = found_kept digest s (lifts asked) (may_give_up s) none
     by rest false true none =
         let kept : KeptOn digest (given_up s) later = rest none in
         subst (λ t. KeptOn digest t later) (before_giving_up s s.stage (before_kept digest (given_up s) later kept none)) kept
@@ -233,7 +235,7 @@ no_key_lifts digest who (Some course) m found =
     ap (λ (n : Message). lifts n.request) (sym same)
 
 found_composed : (digest : List ℕ → Id) (asked : Request) (s : ClientState) → lifts asked ≡ false → found_at digest asked s ≡ composed digest s
-found_composed digest asked s no_lift = ap (λ b. if b then (if is_acting s.stage then given_up s else s) else composed digest s) no_lift
+found_composed digest asked s no_lift = ap (λ b. if b then (if may_give_up s then given_up s else s) else composed digest s) no_lift
 
 -- an ask that lifts something is of a client that winds up
 finds_composed : (digest : List ℕ → Id) (s : ClientState) (stage : Stage) (m : Message) → s.stage ≡ stage → slice_get (group s.who (composed_stage digest s stage)) 0 ≡ Some m
@@ -245,8 +247,8 @@ finds_composed digest s (act flow) m is found =
     found_composed digest m.request s (subst (λ (n : Message). lifts n.request ≡ false) same (no_lift s.who flow))
 finds_composed digest s (winds ending m ms) n is found =
     let same : s ≡ composed digest s = sym (ap (λ (stage : Stage). record s { stage = stage }) (ap (composed_stage digest s) is ∙ sym is)) in
-    if_both (λ (t : ClientState). t ≡ composed digest s) (lifts n.request) (if is_acting s.stage then given_up s else s) (composed digest s)
-    (ap (λ b. if b then given_up s else s) (ap is_acting is) ∙ same) refl
+    if_both (λ (t : ClientState). t ≡ composed digest s) (lifts n.request) (if may_give_up s then given_up s else s) (composed digest s)
+    (ap (λ b. if b then given_up s else s) (winding_goes s (ap is_winding is)) ∙ same) refl
 
 abbrev message_to : ℕ → Request → Message
 message_to number what = record { number = number; request = what }
@@ -267,7 +269,7 @@ begun_planned digest s number ask [] is next =
         → at_call digest ask.from.number ask.request left s ≡ composed digest s
     at_hand [] none own found = absurd (omega arith)
     at_hand (call ∷ calls) some own found =
-        ap (λ b. if b then found_at digest ask.request s else (if is_some (course_of call) then at_call digest ask.from.number ask.request calls (given_up s) else s)) own
+        ap (λ b. if b then found_at digest ask.request s else (if may_give_up s then at_call digest ask.from.number ask.request calls (given_up s) else s)) own
         ∙ found
 
 no_want : IsOfReplies IsNoWant
