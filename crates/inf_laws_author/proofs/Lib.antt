@@ -1,0 +1,4 @@
+pub mod LaterAnswers
+pub mod OwnEventFacts
+pub mod OwnOrder
+pub mod ServedOnce
