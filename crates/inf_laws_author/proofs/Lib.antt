@@ -2,3 +2,4 @@ pub mod LaterAnswers
 pub mod OwnEventFacts
 pub mod OwnOrder
 pub mod ServedOnce
+pub mod Tests

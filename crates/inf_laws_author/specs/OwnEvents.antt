@@ -16,4 +16,5 @@ is_own client h (event.Serve number ask_place given) = is_by client (asked_at as
 -- a client's own events with their places, the newest first
 abbrev pub own_events : ℕ → List Event → List (ℕ × Event)
 own_events client [] = []
-own_events client (e ∷ h) = if is_own client h e then (suc (length h), e) ∷ own_events client h else own_events client h
+own_events client (e ∷ h) =
+    if is_own client h e then (suc (length h), e) ∷ own_events client h else own_events client h

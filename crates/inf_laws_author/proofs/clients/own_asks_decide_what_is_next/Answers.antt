@@ -1,5 +1,4 @@
-use Rattle.std.proofs.Common.{◌≡◌, List, sym, ap, ◌∙◌, subst}
-use Rattle.inf_duty.specs.After.{client_after}
+use Rattle.std.proofs.Common.{sym, ap, ◌∙◌, subst}
 use Rattle.inf_duty.specs.Duty.{Duty}
 use Rattle.inf_duty.specs.Own.{client_of}
 use Rattle.inf_flow_dir.specs.Client.{ClientState}
@@ -13,4 +12,5 @@ returns-clause-state c world client h g legal too same =
 pub returns-clause-duty : goal.returns-clause-duty
 returns-clause-duty c world client h g legal too same number ask =
     let shows = c.own_asks_show_the_client.ensures world client in
-    subst (λ (s : ClientState). Duty world.digest s number ask) (sym (shows h legal) ∙ ap (client_of world client) same ∙ shows g too)
+    subst (λ (s : ClientState). Duty world.digest s number ask)
+    (sym (shows h legal) ∙ ap (client_of world client) same ∙ shows g too)

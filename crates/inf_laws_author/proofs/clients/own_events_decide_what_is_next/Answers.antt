@@ -8,4 +8,5 @@ pub returns-clause-state : goal.returns-clause-state
 returns-clause-state c = same_client
 
 pub returns-clause-duty : goal.returns-clause-duty
-returns-clause-duty c world client h g same number ask = subst (λ (s : ClientState). Duty world.digest s number ask) (same_client world client h g same)
+returns-clause-duty c world client h g same number ask =
+    subst (λ (s : ClientState). Duty world.digest s number ask) (same_client world client h g same)
