@@ -6,6 +6,7 @@ use Rattle.std.proofs.lemmas.Bool.Decides.{Decides-eqb, nat_tests}
 use Rattle.inf_duty.specs.World.{World}
 use Rattle.inf_laws_author.proofs.Tests.{both_ways, either_true, or_true, unless_true}
 use Rattle.inf_laws_author.specs.Counts.{asks_in, serves_in}
+use Rattle.inf_laws_author.specs.OwnEvents.{names}
 use Rattle.inf_laws_history.proofs.PendingFacts.{unserved_before}
 use Rattle.inf_laws_history.specs.Legal.{Legal, MayServe, server_after}
 use Rattle.inf_laws_history.specs.Sites.{site_of}
@@ -17,12 +18,9 @@ use Rattle.inf_message.specs.History.{Posted, Served, asked_at, event_at, is_ser
 use Rattle.inf_server.specs.Machine.{Serves, state_after}
 use Rattle.inf_server.specs.State.{State}
 
-abbrev names : ℕ → Served → Bool
-names ask_place s = eqb s.ask_place ask_place
-
 -- the server has served the Ask at this place
 abbrev has_served : ℕ → ℕ → List Event → Bool
-has_served ask_place server h = list_any (names ask_place) (serves_of server h)
+has_served ask_place server h = names ask_place (serves_of server h)
 
 some_same : {X : Type 0} {x y : X} → Some x ≡ Some y → x ≡ y
 some_same e = cc
@@ -30,13 +28,13 @@ some_same e = cc
 -- ---- what a server served is served, and stays so
 
 named_is : (ask_place place : ℕ) (found : Option Posted) (given : Reply) (h : List Event) (before : List Served)
-    → (list_any (names ask_place) before ≡ true → is_served ask_place h ≡ true)
-    → list_any (names ask_place) (with_served found place given before) ≡ true
+    → (names ask_place before ≡ true → is_served ask_place h ≡ true)
+    → names ask_place (with_served found place given before) ≡ true
     → (eqb place ask_place || is_served ask_place h) ≡ true
 named_is ask_place place None given h before earlier is =
     ap (λ b. eqb place ask_place || b) (earlier is) ∙ or_true (eqb place ask_place)
 named_is ask_place place (Some posted) given h before earlier is =
-    either_true (eqb place ask_place) (list_any (names ask_place) before) is
+    either_true (eqb place ask_place) (names ask_place before) is
     (λ here. ap (λ b. b || is_served ask_place h) here)
     (λ there. ap (λ b. eqb place ask_place || b) (earlier there) ∙ or_true (eqb place ask_place))
 
@@ -51,7 +49,7 @@ served_is_served ask_place server (event.Serve number place given ∷ h) is =
     now = with_served (asked_at place h) place given (serves_of server h)
 
     by : (has_served ask_place server h ≡ true → is_served ask_place h ≡ true) → (b : Bool)
-        → list_any (names ask_place) (cond b now (serves_of server h)) ≡ true
+        → names ask_place (cond b now (serves_of server h)) ≡ true
         → (eqb place ask_place || is_served ask_place h) ≡ true
     by before true at = named_is ask_place place (asked_at place h) given h (serves_of server h) before at
     by before false at = ap (λ b. eqb place ask_place || b) (before at) ∙ or_true (eqb place ask_place)
@@ -61,14 +59,14 @@ served_stays : (ask_place server number place : ℕ) (given : Reply) (h : List E
 served_stays ask_place server number place given h is = by (eqb number server)
   where
     more : (found : Option Posted)
-        → list_any (names ask_place) (with_served found place given (serves_of server h)) ≡ true
+        → names ask_place (with_served found place given (serves_of server h)) ≡ true
     more None = is
     more (Some posted) = ap (λ b. eqb place ask_place || b) is ∙ or_true (eqb place ask_place)
 
     now : List Served
     now = with_served (asked_at place h) place given (serves_of server h)
 
-    by : (b : Bool) → list_any (names ask_place) (cond b now (serves_of server h)) ≡ true
+    by : (b : Bool) → names ask_place (cond b now (serves_of server h)) ≡ true
     by true = more (asked_at place h)
     by false = is
 
@@ -107,7 +105,7 @@ served_by_it world (event.Serve number ask_place given ∷ h) legal place posted
         let this : legal.1.posted ≡ posted = some_same (sym legal.1.made ∙ ap (λ p. asked_at p h) at ∙ found) in
         let by_it : number ≡ posted.number = sym legal.1.to ∙ ap (λ (p : Posted). p.number) this in
         subst (λ n. has_served place posted.number (event.Serve n ask_place given ∷ h) ≡ true) (sym by_it)
-        (ap (list_any (names place)) (serves_own posted.number ask_place given legal.1.posted h legal.1.made)
+        (ap (names place) (serves_own posted.number ask_place given legal.1.posted h legal.1.made)
         ∙ ap (λ b. b || has_served place posted.number h) here)
 
 pub shown_by_its_server : (world : World) (h : List Event) → Legal world h → (place : ℕ) (posted : Posted)
@@ -141,11 +139,28 @@ may_serve_too world number h g legal same ask_place given alike may =
       posted = may.posted;
       made = made;
       to = may.to;
-      waits = shown ∙ ap (list_any (names ask_place)) (sym same) ∙ waits_here;
+      waits = shown ∙ ap (names ask_place) (sym same) ∙ waits_here;
       after = may.after;
       reply =
           subst (λ (state : State). Serves (site_of world number) state ask_place may.posted.ask given may.after)
           (same_server world number h g same) may.reply;
+    }
+
+pub may_serve_known : (world : World) (h : List Event) → Legal world h → (ask_place : ℕ) (posted : Posted)
+    → asked_at ask_place h ≡ Some posted → (known : List Served) → known ≡ serves_of posted.number h
+    → names ask_place known ≡ false → (given : Reply) (after : State)
+    → Serves (site_of world posted.number) (state_after (site_of world posted.number) known) ask_place posted.ask
+    given after
+    → MayServe world h posted.number ask_place given
+may_serve_known world h legal ask_place posted found known same waits given after serves =
+    let site = site_of world posted.number in
+    record {
+      posted = posted;
+      made = found;
+      to = refl;
+      waits = shown_by_its_server world h legal ask_place posted found ∙ sym (ap (names ask_place) same) ∙ waits;
+      after = after;
+      reply = subst (λ served. Serves site (state_after site served) ask_place posted.ask given after) same serves;
     }
 
 -- ---- once at most

@@ -1,8 +1,10 @@
--- What of a history is a client's own: its Asks, and the Serves of these.
+-- What of a history is an author's own: of a client its Asks, and the Serves of these; of a server its Serves, with
+-- the Asks that they name (`serves_of`).
 use Rattle.std.specs.Prelude.{ℕ, suc, Bool, false, ◌==◌, if◌then◌else◌, List, [], ◌∷◌, length, Option, Some, None}
+use Rattle.std.specs.List.{list_any}
 use Rattle.inf_message.specs.declared.event.Event.{Event}
 use Rattle.inf_message.specs.declared.event.Event.TheVariants as event
-use Rattle.inf_message.specs.History.{Posted, asked_at}
+use Rattle.inf_message.specs.History.{Posted, Served, asked_at}
 
 abbrev pub is_by : ℕ → Option Posted → Bool
 is_by client None = false
@@ -18,3 +20,7 @@ abbrev pub own_events : ℕ → List Event → List (ℕ × Event)
 own_events client [] = []
 own_events client (e ∷ h) =
     if is_own client h e then (suc (length h), e) ∷ own_events client h else own_events client h
+
+-- whether one of these Serves names the Ask at a place
+abbrev pub names : ℕ → List Served → Bool
+names ask_place served = list_any (λ (s : Served). s.ask_place == ask_place) served

@@ -43,7 +43,7 @@ pub fn own_events_decide_what_is_next()
         → Duty world.digest (client_after world client g) number ask }
 {}
 
-/// In legal histories it rests on its own Asks and their answers alone, in whatever order these came.
+/// In legal histories it rests on its own Asks alone, each with its answer if it has one.
 pub fn own_asks_decide_what_is_next()
     ensures state { (world : World) (client : ℕ) (h g : List Event) → Legal world h → Legal world g
         → own_asks client h ≡ own_asks client g → client_after world client h ≡ client_after world client g }
