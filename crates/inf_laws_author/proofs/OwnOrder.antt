@@ -7,7 +7,6 @@ use Rattle.inf_duty.proofs.BegunKept.{if_both}
 use Rattle.inf_duty.specs.Own.{own_asks, own_of, rises_from}
 use Rattle.inf_duty.specs.declared.own.OwnAsk.{OwnAsk}
 use Rattle.inf_laws_author.specs.LessTold.{LessTold}
-use Rattle.inf_message.specs.declared.ask.Ask.{Ask}
 use Rattle.inf_message.specs.declared.event.Event.{Event}
 use Rattle.inf_message.specs.declared.event.Event.TheVariants as event
 use Rattle.inf_message.specs.History.{Own, Told, asks_of, made_ask, own_ask, served_at, told_reply}

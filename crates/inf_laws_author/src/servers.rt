@@ -30,6 +30,6 @@ pub fn what_is_known_lets_a_server_serve()
         → asked_at ask_place h ≡ Some posted → (known : List Served) → known ≡ serves_of posted.number h
         → names ask_place known ≡ false → (given : Reply) (after : State)
         → Serves (site_of world posted.number) (state_after (site_of world posted.number) known) ask_place posted.ask
-            given after
+        given after
         → MayServe world h posted.number ask_place given }
 {}
