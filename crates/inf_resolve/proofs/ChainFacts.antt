@@ -1,0 +1,59 @@
+-- Chains are what was told along the names of their paths.
+use Rattle.std.proofs.Common.{◌≡◌, ℕ, Bool, true, false, if◌then◌else◌, List, [], ◌∷◌, Option, Some, None, refl, sym, subst}
+use Rattle.inf_base.specs.declared.access.Access.{Access}
+use Rattle.inf_base.specs.declared.directory.DirRef.{DirRef}
+use Rattle.inf_base.specs.declared.entry.Entry.{Entry}
+use Rattle.inf_base.specs.declared.key.Key.{Key}
+use Rattle.inf_base.specs.declared.key.LookKey.{LookKey}
+use Rattle.inf_base.specs.declared.key.LookKey.TheVariants as look
+use Rattle.inf_base.specs.Same.{dir_of}
+use Rattle.inf_message.specs.declared.reply.Reply.{Reply}
+use Rattle.inf_message.specs.declared.reply.Reply.TheVariants as reply
+use Rattle.inf_resolve.specs.declared.known.Known.{Known}
+use Rattle.inf_resolve.specs.Chain.{IsTold, LeadsAlong}
+use Rattle.inf_resolve.specs.Known.{entry_behind, links_to, told_entry, told_under}
+use Rattle.inf_resolve.specs.Walk.{next_entry, on_entry, way}
+
+abbrev pub known_of : LookKey → Reply → ℕ → Known
+known_of asked given place = record { key = asked; reply = given; place = place }
+
+no_entry : {P : Type 0} (e : Entry) → None ≡ Some e → P
+no_entry e is = absurd cc
+
+linked : (known : List Known) (wanted asked : LookKey) (dir : DirRef) (k : Key) (access : Access) (place : ℕ) (e : Entry) (b : Bool)
+    → links_to dir k ≡ b → told_under wanted known ≡ Some (known_of asked (reply.Found k access) place)
+    → (if b then Some (told_entry k access place) else None) ≡ Some e
+    → IsTold known wanted e × (links_to dir e.key ≡ true)
+linked known wanted asked dir k access place e true links at is =
+    let same : told_entry k access place ≡ e = cc in
+    subst (λ (x : Entry). IsTold known wanted x × (links_to dir x.key ≡ true)) same
+    (record { told = known_of asked (reply.Found k access) place; is_known = at; is_found = refl; stamp = refl }, links)
+linked known wanted asked dir k access place e false links at is = no_entry e is
+
+replied : (known : List Known) (wanted asked : LookKey) (dir : DirRef) (given : Reply) (place : ℕ) (e : Entry)
+    → told_under wanted known ≡ Some (known_of asked given place) → entry_behind dir (Some (known_of asked given place)) ≡ Some e
+    → IsTold known wanted e × (links_to dir e.key ≡ true)
+replied known wanted asked dir (reply.Found k access) place e at is = linked known wanted asked dir k access place e (links_to dir k) refl at is
+replied known wanted asked dir any_reply place e at is = no_entry e is
+
+told : (known : List Known) (wanted : LookKey) (dir : DirRef) (e : Entry) (found : Option Known)
+    → told_under wanted known ≡ found → entry_behind dir found ≡ Some e → IsTold known wanted e × (links_to dir e.key ≡ true)
+told known wanted dir e None at is = no_entry e is
+told known wanted dir e (Some x) at is = replied known wanted x.key dir x.reply x.place e at is
+
+-- the entry of the next name was told, and links
+pub next_is_told : (known : List Known) (dir : DirRef) (name : List ℕ) (e : Entry) → next_entry known dir name ≡ Some e
+    → IsTold known (look.At dir.id name) e × (links_to dir e.key ≡ true)
+next_is_told known dir name e is = told known (look.At dir.id name) dir e (told_under (look.At dir.id name) known) refl is
+
+step : (known : List Known) (dir : DirRef) (name : List ℕ) (names : List (List ℕ)) (next : Option Entry) → next_entry known dir name ≡ next
+    → ((d : DirRef) → LeadsAlong known d names (way known d names))
+    → LeadsAlong known dir (name ∷ names) (on_entry next [] (λ (e : Entry). e ∷ way known (dir_of e.access) names))
+step known dir name names None is rest = tt
+step known dir name names (Some e) is rest =
+    let link = next_is_told known dir name e is in
+    (link.0, link.1, rest (dir_of e.access))
+
+pub way_leads : (known : List Known) (dir : DirRef) (names : List (List ℕ)) → LeadsAlong known dir names (way known dir names)
+way_leads known dir [] = tt
+way_leads known dir (name ∷ names) = step known dir name names (next_entry known dir name) refl (λ d. way_leads known d names)
