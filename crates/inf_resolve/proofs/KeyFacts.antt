@@ -47,6 +47,7 @@ all_with P (y ∷ xs) x all holds = (all.0, all_with P xs x all.1 holds)
 
 distinct_with : (keys : List LookKey) (k : LookKey) → IsDistinct is_same_key keys → is_among k keys ≡ false
     → IsDistinct is_same_key (keys ++ k ∷ [])
+unfolding IsDistinct
 distinct_with [] k distinct apart = (tt, tt)
 distinct_with (x ∷ keys) k distinct apart =
     let parts = or_false (is_same_key k x) (is_among k keys) apart in
@@ -73,6 +74,7 @@ all_new known keys (k ∷ more) new =
     all_new known (with_key known keys k) more (new_with known keys k (is_some (told_under k known)) (is_among k keys) refl refl new)
 
 asked_new : (known : List Known) (keys : List LookKey) → IsNew known (to_ask known keys)
+unfolding IsDistinct
 asked_new known keys = all_new known [] keys (record { distinct = tt; unknown = tt })
 
 pub asked_once : (known : List Known) (keys : List LookKey) → IsDistinct is_same_key (to_ask known keys)

@@ -56,6 +56,32 @@ is_asked known k keys [] behind unknown =
     (taken k keys (is_some (told_under k known)) (is_among k keys) unknown refl)
 is_asked known k keys (x ∷ before) behind unknown = is_asked known k (with_key known keys x) before behind unknown
 
+-- the first key that a path needs is asked
+pub first_asked : (digest : List ℕ → Id) (known : List Known) (dir : DirRef) (left : List (List ℕ)) (name : List ℕ) (rest : List (List ℕ))
+    → left ≡ name ∷ rest → told_at known dir.id name ≡ None → (before behind : List LookKey)
+    → is_among (look.At dir.id name) (to_ask known (before ++ (keys_at digest known (halts dir left) ++ behind))) ≡ true
+first_asked digest known dir left name rest left_is unknown before behind =
+    let first = keys_from digest known dir.id (name ∷ rest) in
+    let keys_are : keys_at digest known (halts dir (name ∷ rest)) ≡ first = ap (λ (t : Option Known). unless_told t first) unknown in
+    subst (λ (l : List (List ℕ)). is_among (look.At dir.id name) (to_ask known (before ++ (keys_at digest known (halts dir l) ++ behind))) ≡ true) (sym left_is)
+    (subst (λ (ks : List LookKey). is_among (look.At dir.id name) (to_ask known (before ++ (ks ++ behind))) ≡ true) (sym keys_are)
+      (is_asked known (look.At dir.id name) [] before _ (ap is_some unknown)))
+
+told_case : (digest : List ℕ → Id) (known : List Known) (dir : DirRef) (left : List (List ℕ)) (name : List ℕ) (rest : List (List ℕ)) (found : Option Known)
+    → told_at known dir.id name ≡ found → left ≡ name ∷ rest → (before behind : List LookKey)
+    → to_ask known (before ++ (keys_at digest known (halts dir left) ++ behind)) ≡ [] → is_some found ≡ true
+told_case digest known dir left name rest (Some x) at left_is before behind none = refl
+told_case digest known dir left name rest None at left_is before behind none =
+    let clash : false ≡ true = sym (ap (is_among (look.At dir.id name)) none) ∙ first_asked digest known dir left name rest left_is at before behind in
+    absurd cc
+
+-- where nothing is asked, the name that a path halts at was told
+pub told_at_halt : (digest : List ℕ → Id) (known : List Known) (h : Halt) (before behind : List LookKey)
+    → to_ask known (before ++ (keys_at digest known h ++ behind)) ≡ []
+    → (name : List ℕ) (rest : List (List ℕ)) → h.left ≡ name ∷ rest → is_some (told_at known h.dir.id name) ≡ true
+told_at_halt digest known h before behind none name rest left_is =
+    told_case digest known h.dir h.left name rest (told_at known h.dir.id name) refl left_is before behind none
+
 -- ---- what is told later leads from where a path halted
 
 module _ (known later : List Known) (stays : (k : LookKey) (told : Known) → told_under k known ≡ Some told → told_under k later ≡ Some told) where
@@ -143,14 +169,4 @@ module _ (digest : List ℕ → Id) (known later : List Known) (keys : List Look
       subst (λ (x : Halt). length x.left < length h.left) (sym goes)
       (leads_on h.dir h.left k ks (subst (λ (x : Halt). keys_at digest later x ≡ k ∷ ks) goes is)
         (λ name rest left_is unknown. subst (λ (asked : List LookKey). is_among (look.At h.dir.id name) asked ≡ true) (sym keys_are)
-          (first_asked h.dir h.left name rest left_is unknown before behind)))
-    where
-      first_asked : (dir : DirRef) (left : List (List ℕ)) (name : List ℕ) (rest : List (List ℕ)) → left ≡ name ∷ rest
-          → told_at known dir.id name ≡ None → (before behind : List LookKey)
-          → is_among (look.At dir.id name) (to_ask known (before ++ (keys_at digest known (halts dir left) ++ behind))) ≡ true
-      first_asked dir left name rest left_is unknown before behind =
-          let first = keys_from digest known dir.id (name ∷ rest) in
-          let keys_are : keys_at digest known (halts dir (name ∷ rest)) ≡ first = ap (λ (t : Option Known). unless_told t first) unknown in
-          subst (λ (l : List (List ℕ)). is_among (look.At dir.id name) (to_ask known (before ++ (keys_at digest known (halts dir l) ++ behind))) ≡ true) (sym left_is)
-          (subst (λ (ks : List LookKey). is_among (look.At dir.id name) (to_ask known (before ++ (ks ++ behind))) ≡ true) (sym keys_are)
-            (is_asked known (look.At dir.id name) [] before _ (ap is_some unknown)))
+          (first_asked digest known h.dir h.left name rest left_is unknown before behind)))

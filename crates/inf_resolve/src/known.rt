@@ -11,8 +11,8 @@ use inf_base::{Access, CallRef, DirRef, Entry, Id, Key, LookKey, Name, NoMemory,
 use inf_message::Reply;
 use std::alloc::Global;
 
-/// The reply to a lookup: the key that was asked, and the place of the Serve. An attempt knows a path's length of them,
-/// so that they are searched one after another.
+/// The reply to a lookup: the key that was asked, and the place of the Serve. An attempt has few more of them than its
+/// paths have names, so they are searched one after another.
 #[derive(Debug, Drop)]
 pub struct Known {
     pub key: LookKey,

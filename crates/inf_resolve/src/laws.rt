@@ -1,6 +1,6 @@
 //! Laws of what an attempt asks, and of where its paths lead.
 
-ghost use Rattle.std.specs.Prelude.{◌≡◌, ℕ, ◌<◌, false, List, is_some};
+ghost use Rattle.std.specs.Prelude.{◌≡◌, ℕ, ◌-◌, ◌<◌, false, List, length, drop, is_some};
 ghost use Rattle.std.specs.List.{AllByRecursion, IsDistinct};
 ghost use Rattle.inf_base.specs.declared.entry.Entry.{Entry};
 ghost use Rattle.inf_base.specs.declared.id.Id.{Id};
@@ -17,12 +17,21 @@ ghost use Rattle.inf_resolve.specs.Resolved.{resolved};
 ghost use Rattle.inf_resolve.specs.Rounds.{IsAnswered, names_left};
 
 /// Each path leads along a chain that begins with the root's entry: each further one stands under the path's next name in
-/// the directory of the one before, and all were told, at the places of their stamps.
+/// the directory of the one before, and all were told, at the places of their stamps. It ends with the path, or before a
+/// name whose reply leads nowhere.
 pub fn chains_were_told()
     ensures old { (digest : List ℕ → Id) (root : Id) (looked : Looked) (known : List Known) (old new : Walked)
         → resolved digest root looked known ≡ comes.Leads old new → IsChain known looked.old old.chain }
     ensures new { (digest : List ℕ → Id) (root : Id) (looked : Looked) (known : List Known) (old new : Walked)
         → resolved digest root looked known ≡ comes.Leads old new → IsChain known looked.new new.chain }
+{}
+
+/// The names that are left of a path are those behind its chain.
+pub fn names_are_left_behind_chains()
+    ensures old { (digest : List ℕ → Id) (root : Id) (looked : Looked) (known : List Known) (old new : Walked)
+        → resolved digest root looked known ≡ comes.Leads old new → old.left ≡ drop (length old.chain - 1) looked.old }
+    ensures new { (digest : List ℕ → Id) (root : Id) (looked : Looked) (known : List Known) (old new : Walked)
+        → resolved digest root looked known ≡ comes.Leads old new → new.left ≡ drop (length new.chain - 1) looked.new }
 {}
 
 /// A key is asked once, and not where it is known.
