@@ -22,14 +22,15 @@ pub record IsStop (known : List Known) (dir : DirRef) (name : List ℕ) : Type 0
   pub is_known : told_under (look.At dir.id name) known ≡ Some told
   pub no_entry : entry_behind dir (Some told) ≡ None
 
--- from a directory on, each entry is what was told of the next name in the directory of the one before, and links to it; the
--- entries end with the names, or before a name whose reply leads nowhere
+-- from a directory on, each entry is what was told of the next name in the directory of the one before, and links to
+-- it; the entries end with the names, or before a name whose reply leads nowhere
 abbrev pub LeadsAlong : List Known → DirRef → List (List ℕ) → List Entry → Type 0
 LeadsAlong known dir [] [] = Unit
 LeadsAlong known dir [] (entry ∷ entries) = ⊥
 LeadsAlong known dir (name ∷ names) [] = IsStop known dir name
 LeadsAlong known dir (name ∷ names) (entry ∷ entries) =
-    IsTold known (look.At dir.id name) entry × (links_to dir entry.key ≡ true) × LeadsAlong known (dir_of entry.access) names entries
+    IsTold known (look.At dir.id name) entry × (links_to dir entry.key ≡ true)
+    × LeadsAlong known (dir_of entry.access) names entries
 
 -- the chain of a path begins with what was told of the root
 abbrev pub IsChain : List Known → List (List ℕ) → List Entry → Type 0

@@ -13,9 +13,10 @@ use Rattle.inf_message.specs.declared.reply.Reply.{Reply}
 use Rattle.inf_message.specs.declared.reply.Reply.TheVariants as reply
 use Rattle.inf_message.specs.declared.reply.Spot.TheVariants as spot
 use Rattle.inf_resolve.specs.declared.known.Known.{Known}
-use Rattle.inf_resolve.specs.declared.looked.Looked.{Looked}
-use Rattle.inf_resolve.specs.declared.walked.Walked.{Walked}
+use Rattle.inf_resolve.specs.declared.resolved.Resolved.{Resolved}
+use Rattle.inf_resolve.specs.declared.resolved.Resolved.TheVariants as comes
 use Rattle.inf_resolve.specs.Known.{told_entry}
+use Rattle.inf_resolve.specs.Resolved.{resolved}
 
 abbrev pub plain : List ℕ → Id
 plain message = record { bytes = message }
@@ -36,24 +37,28 @@ c = codes "c"
 abbrev pub made : Id → List ℕ → ℕ → Id
 made id name version = identity plain (triple.Of id name version)
 
-abbrev pub one_path : List (List ℕ) → Looked
-one_path names = record { old = names; new = [] }
+-- what becomes of an attempt at one path, and at two
+abbrev pub one_path : List (List ℕ) → List Known → Resolved
+one_path names known = resolved plain root (record { old = names; new = [] }) known
 
-abbrev pub two_paths : List (List ℕ) → List (List ℕ) → Looked
-two_paths old new = record { old = old; new = new }
+abbrev pub two_paths : List (List ℕ) → List (List ℕ) → List Known → Resolved
+two_paths old new known = resolved plain root (record { old = old; new = new }) known
 
 abbrev pub dir : Id → ℕ → DirRef
 dir id born = record { id = id; born = born }
+
+abbrev pub top : DirRef
+top = dir root 0
 
 abbrev pub access : DirRef → Access
 access d = record { id = d.id; born = d.born; mode = 0o755; owner = 0; group = 0; birth = triple.Root }
 
 -- the root, and a name in a directory, as they are told at a place
 abbrev pub told_root : ℕ → Known
-told_root place = record { key = look.Top; reply = reply.Found key.Top (access (dir root 0)); place = place }
+told_root place = record { key = look.Top; reply = reply.Found key.Top (access top); place = place }
 
 abbrev pub root_entry : ℕ → Entry
-root_entry place = told_entry key.Top (access (dir root 0)) place
+root_entry place = told_entry key.Top (access top) place
 
 abbrev pub told_dir : DirRef → List ℕ → DirRef → ℕ → Known
 told_dir above name found place =
@@ -76,14 +81,17 @@ other_call = record { client = 1; number = 1 }
 abbrev pub busy : ℕ → Reply
 busy born = reply.Busy other_call spot.Slot born
 
-abbrev pub led : List Entry → List (List ℕ) → Walked
-led chain left = record { chain = chain; left = left }
+-- one path leads from the root, which was told at a place, along these entries, and leaves these names
+abbrev pub leads : ℕ → List Entry → List (List ℕ) → Resolved
+leads place entries left =
+    comes.Leads (record { chain = root_entry place ∷ entries; left = left })
+    (record { chain = root_entry place ∷ []; left = [] })
 
--- `/a`, as it is predicted, and as it is told: born at 7
+-- `a` in the root, as it is predicted, and born at 7
 abbrev pub first : DirRef
 first = dir (made root a 0) 7
 
--- `b` in it, as it is predicted, and as it may be told: it was made in another place, or is the second there
+-- `b` in that, as it is predicted; and the second that was made there
 abbrev pub second : DirRef
 second = dir (made (made root a 0) b 0) 9
 

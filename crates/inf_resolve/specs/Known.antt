@@ -49,7 +49,7 @@ entry_behind dir (Some told) = of told.reply
     of (reply.Found k access) = if links_to dir k then Some (told_entry k access told.place) else None
     of any_reply = None
 
--- the change that is in the way behind a directory, and where this was told: one in a directory of another birth is not
+-- the change that is in the way behind a directory, and where this was told: not one of a directory of another birth
 abbrev pub busy_behind : DirRef → Option Known → Option (CallRef × ℕ)
 busy_behind dir None = None
 busy_behind dir (Some told) = of told.reply

@@ -15,4 +15,5 @@ pub record IsAnswered (known : List Known) (keys : List LookKey) (later : List K
 
 -- how many names both paths leave behind the root
 abbrev pub names_left : DirRef → Looked → List Known → ℕ
-names_left root looked known = length (halt_of known root looked.old).left + length (halt_of known root looked.new).left
+names_left root looked known =
+    length (halt_of known root looked.old).left + length (halt_of known root looked.new).left

@@ -39,7 +39,8 @@ way known dir (name ∷ names) =
 -- a path from the root's entry on: its chain, and the names that are left
 abbrev pub walk : List Known → Entry → List (List ℕ) → Walked
 walk known root names =
-    record { chain = root ∷ way known (dir_of root.access) names; left = (halt_of known (dir_of root.access) names).left }
+    let dir = dir_of root.access in
+    record { chain = root ∷ way known dir names; left = (halt_of known dir names).left }
 
 -- the change that is in the way where a path halts
 abbrev pub busy_at : List Known → Halt → Option (CallRef × ℕ)

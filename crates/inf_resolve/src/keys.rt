@@ -25,10 +25,12 @@ fn leads_to<R: IdRule>(
     ensures { IfOk result (λ next. next ≡ leads_to (R.digest_of rule.now) id.now name.now (option_copied told.entry)) }
 {
     match told {
-        Some(Known {
-            reply: Reply::Found { access, .. },
-            ..
-        }) => Ok(access.id),
+        Some(
+            Known {
+                reply: Reply::Found { access, .. },
+                ..
+            },
+        ) => Ok(access.id),
         _ => predicted(alloc, rule, id, name),
     }
 }
@@ -52,7 +54,11 @@ fn is_among(wanted: &LookKey, keys: &[LookKey]) -> bool
 }
 
 /// One more key, unless it is known or among those already.
-pub(crate) fn push_key(known: &[Known], keys: &mut Vec<LookKey>, key: LookKey) -> Result<(), NoMemory>
+pub(crate) fn push_key(
+    known: &[Known],
+    keys: &mut Vec<LookKey>,
+    key: LookKey,
+) -> Result<(), NoMemory>
     ensures { OnOk result (keys.new.items ≡ with_key known.now keys.old.items key) }
 {
     if told_under(known, &key).is_none() && !is_among(&key, keys.as_slice()) {
@@ -100,7 +106,7 @@ pub(crate) fn push_keys_at<R: IdRule>(
 ) -> Result<(), NoMemory>
     ensures { OnOk result (keys.new.items
         ≡ fold (with_key known.now) keys.old.items
-            (keys_at (R.digest_of rule.now) known.now (halts halt.entry.dir halt.entry.left.now))) }
+        (keys_at (R.digest_of rule.now) known.now (halts halt.entry.dir halt.entry.left.now))) }
 {
     let Some(name) = halt.left.first() else {
         return Ok(());

@@ -16,9 +16,9 @@ ghost use Rattle.inf_resolve.specs.Known.{is_same_key, told_under};
 ghost use Rattle.inf_resolve.specs.Resolved.{resolved};
 ghost use Rattle.inf_resolve.specs.Rounds.{IsAnswered, names_left};
 
-/// Each path leads along a chain that begins with the root's entry: each further one stands under the path's next name in
-/// the directory of the one before, and all were told, at the places of their stamps. It ends with the path, or before a
-/// name whose reply leads nowhere.
+/// Each path leads along a chain that begins with the root's entry. Each further one stands under the path's next name
+/// in the directory of the one before. All were told, at the places of their stamps. The chain ends with the path, or
+/// before a name whose reply leads nowhere.
 pub fn chains_were_told()
     ensures old { (digest : List ℕ → Id) (root : Id) (looked : Looked) (known : List Known) (old new : Walked)
         → resolved digest root looked known ≡ comes.Leads old new → IsChain known looked.old old.chain }
@@ -43,11 +43,11 @@ pub fn keys_are_asked_once()
         → AllByRecursion (λ (k : LookKey). is_some (told_under k known) ≡ false) keys }
 {}
 
-/// Behind the root each further round leads further along one of the paths, so that an attempt has at most as many
-/// rounds as it looks up names, and the first.
+/// Once the root is told, each further round leads further along one of the paths, so that an attempt has at most one
+/// round more than it looks up names.
 pub fn rounds_lead_on()
-    ensures { (digest : List ℕ → Id) (id : Id) (looked : Looked) (known later : List Known) (root : Entry) (keys more : List LookKey)
-        → IsTold known look.Top root → resolved digest id looked known ≡ comes.Asks keys → IsAnswered known keys later
-        → resolved digest id looked later ≡ comes.Asks more
+    ensures { (digest : List ℕ → Id) (id : Id) (looked : Looked) (known later : List Known) (root : Entry)
+        → (keys more : List LookKey) → IsTold known look.Top root → resolved digest id looked known ≡ comes.Asks keys
+        → IsAnswered known keys later → resolved digest id looked later ≡ comes.Asks more
         → names_left (dir_of root.access) looked later < names_left (dir_of root.access) looked known }
 {}

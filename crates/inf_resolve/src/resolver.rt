@@ -38,8 +38,8 @@ impl Resolver {
         }
     }
 
-    /// What becomes of an attempt by what it was told so far. Who asks has looked before whether a reply says that memory
-    /// is wanting, which ends the call.
+    /// What becomes of an attempt by what it was told so far. Whether a reply says that memory is wanting, which ends
+    /// the call, is looked at before.
     pub fn next<R: IdRule>(
         &self,
         alloc: Global,
@@ -89,7 +89,10 @@ impl Resolver {
     {
         let dir = dir_of(&root.access);
         let (old_names, new_names) = (self.looked.old.as_slice(), self.looked.new.as_slice());
-        let (old, new) = (halt_of(known, dir, old_names), halt_of(known, dir, new_names));
+        let (old, new) = (
+            halt_of(known, dir, old_names),
+            halt_of(known, dir, new_names),
+        );
         if let Some((by, place)) = first_busy(known, old, new) {
             return Ok(Resolved::IsBusy(by, place));
         }

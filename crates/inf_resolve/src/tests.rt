@@ -66,13 +66,7 @@ fn told(
     let name = Name::from_slice(alloc, &[letter])?;
     let key = Key::At { dir, name };
     let access = access(found, 7);
-    replied(
-        alloc,
-        dir.id,
-        letter,
-        Reply::Found { key, access },
-        place,
-    )
+    replied(alloc, dir.id, letter, Reply::Found { key, access }, place)
 }
 
 fn replied(

@@ -5,5 +5,6 @@ use Rattle.inf_resolve.proofs.keys.push_keys_from.Given as goal
 
 abbrev pub invariant-loop-name : goal.invariant-loop-name
 invariant-loop-name g l =
-    fold (with_key l.known) l.keys.items (keys_from (g.R.IdRule.digest_of l.rule) l.known l.id (drop l.name-index l.names))
+    fold (with_key l.known) l.keys.items
+    (keys_from (g.R.IdRule.digest_of l.rule) l.known l.id (drop l.name-index l.names))
     ≡ fold (with_key l.known) l.fn.keys.items (keys_from (g.R.IdRule.digest_of l.rule) l.known l.fn.id l.names)

@@ -5,4 +5,5 @@ use Rattle.inf_resolve.proofs.walked.chain_of.Given as goal
 
 abbrev pub invariant-loop-name : goal.invariant-loop-name
 invariant-loop-name l =
-    l.chain.items ++ way l.known l.dir (drop l.name-index l.names) ≡ l.fn.root ∷ way l.known (dir_of l.fn.root.access) l.names
+    l.chain.items ++ way l.known l.dir (drop l.name-index l.names)
+    ≡ l.fn.root ∷ way l.known (dir_of l.fn.root.access) l.names
