@@ -1,0 +1,6 @@
+mod AskedFacts
+mod ChainFacts
+mod KeyFacts
+mod LedFacts
+mod RoundFacts
+mod RoundLaw

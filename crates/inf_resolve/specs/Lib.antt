@@ -1,0 +1,7 @@
+pub mod Chain
+pub mod Examples
+pub mod Keys
+pub mod Known
+pub mod Resolved
+pub mod Rounds
+pub mod Walk
