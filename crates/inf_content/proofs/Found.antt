@@ -1,8 +1,8 @@
 -- Content objects as they are kept, found and changed.
-use Rattle.std.proofs.Common.{◌≡◌, ℕ, Bool, true, false, cond, ◌&&◌, ◌==◌, List, [], ◌∷◌, Option, Some, None, is_some, Bor, refl, sym, ap, ◌∙◌, subst}
+use Rattle.std.proofs.Common.{◌≡◌, ℕ, Bool, true, false, cond, ◌&&◌, ◌==◌, List, [], ◌∷◌, Option, Some, None, is_some, Bor, MutBor, refl, sym, ap, ◌∙◌, subst}
 use Rattle.std.specs.BTreeMap.{insert_entry, is_at}
 use Rattle.std.specs.Map.{lookup, remove_entry, set_value}
-use Rattle.std.specs.Option.{option_copied, option_map}
+use Rattle.std.specs.Option.{OnSome, option_copied, option_copied_mut, option_map}
 use Rattle.std.specs.Ordering.{match_ordering}
 use Rattle.std.specs.declared.cmp.Ordering.{Ordering}
 use Rattle.std.specs.declared.cmp.Ordering.TheVariants.{Less, Equal, Greater}
@@ -18,7 +18,7 @@ use Rattle.inf_base.specs.Content.{Content, Slot}
 use Rattle.inf_base.specs.Same.{is_same_id}
 use Rattle.inf_content.specs.declared.object.Object.{Object}
 use Rattle.inf_content.specs.Contents.{changed_at, content_at, content_of_id, dropped_at, empty_content, id_cmp, if_born, made_at, may_drop, may_drop_found, placed, slots_at, slots_found, with_new, with_slots_at}
-use Rattle.inf_content.specs.Objects.{contents_of, whole}
+use Rattle.inf_content.specs.Objects.{contents_of, whole, with_object_at}
 
 abbrev id_from : List ℕ → Id
 id_from bytes = record { bytes = bytes }
@@ -46,15 +46,7 @@ pub option_map-copied : {X B : Type 0} (f : X → B) (r : Option (Bor X)) → op
 option_map-copied f None = refl
 option_map-copied f (Some x) = refl
 
--- a directory that is there has its object
-is_some_step : (b : Bool) (c : Content) → is_some (cond b (Some c) None) ≡ true → cond b (Some c) None ≡ Some c
-is_some_step true c h = refl
-is_some_step false c h = cc
-
-born_step : (b : Bool) (c : Content) → is_some (cond b (Some c) None) ≡ true → b ≡ true
-born_step true c h = refl
-born_step false c h = cc
-
+-- what the map finds of an identifier is the directory, where it was born then
 found_of_id : (dir : DirRef) (es : List (Id × Object)) (v : Object) → lookup (is_at (id_cmp dir.id)) es ≡ Some v
     → content_of_id dir.id (contents_of es) ≡ Some (whole dir.id v)
 found_of_id dir es v at = content_of_id-kept dir.id es ∙ ap (option_map (whole dir.id)) at
@@ -63,28 +55,12 @@ found_if_born : (dir : DirRef) (es : List (Id × Object)) (v : Object) → looku
     → content_at dir (contents_of es) ≡ cond (v.born == dir.born) (Some (whole dir.id v)) None
 found_if_born dir es v at = ap (if_born dir.born) (found_of_id dir es v at)
 
-pub content_at-here : (dir : DirRef) (es : List (Id × Object)) (cs : List Content) (v : Object)
-    → contents_of es ≡ cs → is_some (content_at dir cs) ≡ true → lookup (is_at (id_cmp dir.id)) es ≡ Some v
-    → content_at dir cs ≡ Some (whole dir.id v)
-content_at-here dir es cs v view here at =
-    let found : content_at dir cs ≡ cond (v.born == dir.born) (Some (whole dir.id v)) None = subst (λ (xs : List Content). content_at dir xs ≡ cond (v.born == dir.born) (Some (whole dir.id v)) None) view (found_if_born dir es v at) in
-    found ∙ is_some_step (v.born == dir.born) (whole dir.id v) (ap is_some (sym found) ∙ here)
+pub none_found : (dir : DirRef) (es : List (Id × Object)) → lookup (is_at (id_cmp dir.id)) es ≡ None → None ≡ content_at dir (contents_of es)
+none_found dir es at = sym (ap (if_born dir.born) (content_of_id-kept dir.id es ∙ ap (option_map (whole dir.id)) at))
 
-born-here : (dir : DirRef) (es : List (Id × Object)) (v : Object)
-    → is_some (content_at dir (contents_of es)) ≡ true → lookup (is_at (id_cmp dir.id)) es ≡ Some v → (v.born == dir.born) ≡ true
-born-here dir es v here at = born_step (v.born == dir.born) (whole dir.id v) (ap is_some (sym (found_if_born dir es v at)) ∙ here)
-
-pub slots_at-here : (dir : DirRef) (es : List (Id × Object)) (cs : List Content) (v : Object)
-    → contents_of es ≡ cs → is_some (content_at dir cs) ≡ true → lookup (is_at (id_cmp dir.id)) es ≡ Some v
-    → slots_at dir cs ≡ v.slots
-slots_at-here dir es cs v view here at = ap slots_found (content_at-here dir es cs v view here at)
-
-pub here_without_object : (dir : DirRef) (es : List (Id × Object)) (cs : List Content)
-    → contents_of es ≡ cs → is_some (content_at dir cs) ≡ true → lookup (is_at (id_cmp dir.id)) es ≡ None → ⊥
-here_without_object dir es cs view here at =
-    let none : content_of_id dir.id (contents_of es) ≡ None = content_of_id-kept dir.id es ∙ ap (option_map (whole dir.id)) at in
-    let gone : content_at dir cs ≡ None = subst (λ (xs : List Content). content_at dir xs ≡ None) view (ap (if_born dir.born) none) in
-    let both : true ≡ false = sym here ∙ ap is_some gone in cc
+pub found_so : (born : Bool) (dir : DirRef) (es : List (Id × Object)) (v : Object) → lookup (is_at (id_cmp dir.id)) es ≡ Some v → (v.born == dir.born) ≡ born
+    → cond born (Some (whole dir.id v)) None ≡ content_at dir (contents_of es)
+found_so born dir es v at is = sym (found_if_born dir es v at ∙ ap (λ (b : Bool). cond b (Some (whole dir.id v)) None) is)
 
 -- a directory that is there, changed as its object is
 changed_step : (b : Bool) (dir : DirRef) (change : Content → Content) (id : Id) (o v w : Object) (es written : List (Id × Object)) (later : Option Object) (changed : List Content)
@@ -102,29 +78,33 @@ changed_at-kept dir change [] v w born is at = refl
 changed_at-kept dir change (e ∷ es) v w born is at =
     rw (same_test dir.id e.0) (changed_step (is_same_id dir.id e.0) dir change e.0 e.1 v w es _ _ _ born (is e.0) (rw (same_test dir.id e.0) at at) (changed_at-kept dir change es v w born is))
 
-pub changed_at-here : (dir : DirRef) (change : Content → Content) (es : List (Id × Object)) (cs : List Content) (v w : Object)
-    → contents_of es ≡ cs → is_some (content_at dir cs) ≡ true → lookup (is_at (id_cmp dir.id)) es ≡ Some v
-    → ((id : Id) → whole id w ≡ change (whole id v))
-    → contents_of (set_value (is_at (id_cmp dir.id)) es w) ≡ changed_at dir change cs
-changed_at-here dir change es cs v w view here at is =
-    let inside : is_some (content_at dir (contents_of es)) ≡ true = subst (λ (xs : List Content). is_some (content_at dir xs) ≡ true) (sym view) here in
-    changed_at-kept dir change es v w (born-here dir es v inside at) is at ∙ ap (changed_at dir change) view
+-- an object written in its place
+pub written : (dir : DirRef) (es : List (Id × Object)) (v w : Object) → lookup (is_at (id_cmp dir.id)) es ≡ Some v → (v.born == dir.born) ≡ true
+    → contents_of (set_value (is_at (id_cmp dir.id)) es w) ≡ with_object_at dir w (contents_of es)
+written dir es v w at born = changed_at-kept dir (λ (c : Content). whole c.dir.id w) es v w born (λ id. refl) at
 
-pub with_slots_at-here : (dir : DirRef) (change : List (List ℕ × Slot) → List (List ℕ × Slot)) (es : List (Id × Object)) (cs : List Content) (v : Object) (slots : List (List ℕ × Slot))
-    → contents_of es ≡ cs → is_some (content_at dir cs) ≡ true → lookup (is_at (id_cmp dir.id)) es ≡ Some v
-    → slots ≡ change v.slots
-    → contents_of (set_value (is_at (id_cmp dir.id)) es (record v { slots = slots })) ≡ with_slots_at dir change cs
-with_slots_at-here dir change es cs v slots view here at is =
-    changed_at-here dir (λ (c : Content). record c { slots = change c.slots }) es cs v (record v { slots = slots }) view here at
-    (λ id. ap (λ (ss : List (List ℕ × Slot)). whole id (record v { slots = ss })) is)
+-- and written back as it was
+pub written_back : (dir : DirRef) (es : List (Id × Object)) (v : Object) → lookup (is_at (id_cmp dir.id)) es ≡ Some v
+    → contents_of (set_value (is_at (id_cmp dir.id)) es v) ≡ contents_of es
+written_back dir es v at = ap contents_of (set_value_same (is_at (id_cmp dir.id)) es v at)
 
--- slots written back as they were
-pub same-here : (dir : DirRef) (es : List (Id × Object)) (cs : List Content) (v : Object) (slots : List (List ℕ × Slot))
-    → contents_of es ≡ cs → lookup (is_at (id_cmp dir.id)) es ≡ Some v → slots ≡ v.slots
-    → contents_of (set_value (is_at (id_cmp dir.id)) es (record v { slots = slots })) ≡ cs
-same-here dir es cs v slots view at is =
-    ap (λ (ss : List (List ℕ × Slot)). contents_of (set_value (is_at (id_cmp dir.id)) es (record v { slots = ss }))) is
-    ∙ ap contents_of (set_value_same (is_at (id_cmp dir.id)) es v at) ∙ view
+-- a change counts only where the directory is
+agrees_born_step : (b : Bool) (f g : Content → Content) (c found : Content) (cs : List Content) → cond b (Some c) None ≡ Some found → f found ≡ g found
+    → cond b (f c) c ∷ cs ≡ cond b (g c) c ∷ cs
+agrees_born_step true f g c found cs is same = let it : c ≡ found = cc in rw it (ap (λ x. x ∷ cs) same)
+agrees_born_step false f g c found cs is same = refl
+
+agrees_step : (b : Bool) (dir : DirRef) (f g : Content → Content) (c found : Content) (cs by_f by_g : List Content) (later : Option Content)
+    → if_born dir.born (cond b (Some c) later) ≡ Some found → f found ≡ g found → (if_born dir.born later ≡ Some found → by_f ≡ by_g)
+    → cond b (cond (c.dir.born == dir.born) (f c) c ∷ cs) (c ∷ by_f) ≡ cond b (cond (c.dir.born == dir.born) (g c) c ∷ cs) (c ∷ by_g)
+agrees_step true dir f g c found cs by_f by_g later is same rest = agrees_born_step (c.dir.born == dir.born) f g c found cs is same
+agrees_step false dir f g c found cs by_f by_g later is same rest = ap (λ xs. c ∷ xs) (rest is)
+
+changed_at-agrees : (dir : DirRef) (f g : Content → Content) (found : Content) (cs : List Content) → content_at dir cs ≡ Some found → f found ≡ g found
+    → changed_at dir f cs ≡ changed_at dir g cs
+changed_at-agrees dir f g found [] is same = refl
+changed_at-agrees dir f g found (c ∷ cs) is same =
+    agrees_step (is_same_id dir.id c.dir.id) dir f g c found cs _ _ _ is same (λ later. changed_at-agrees dir f g found cs later same)
 
 -- a directory that is not there is not changed
 gone_born_step : (b : Bool) (change : Content → Content) (c : Content) (cs : List Content)
@@ -143,6 +123,55 @@ pub changed_at-gone : (dir : DirRef) (change : Content → Content) (cs : List C
 changed_at-gone dir change [] h = refl
 changed_at-gone dir change (c ∷ cs) h =
     gone_step (is_same_id dir.id c.dir.id) dir change c cs _ _ h (changed_at-gone dir change cs)
+
+unchanged : (dir : DirRef) (cs : List Content) → changed_at dir (λ c. c) cs ≡ cs
+unchanged dir [] = refl
+unchanged dir (c ∷ cs) = by (is_same_id dir.id c.dir.id) (c.dir.born == dir.born) (unchanged dir cs)
+  where
+    by : (here born : Bool) → changed_at dir (λ (x : Content). x) cs ≡ cs
+        → cond here (cond born c c ∷ cs) (c ∷ changed_at dir (λ (x : Content). x) cs) ≡ c ∷ cs
+    by true true later = refl
+    by true false later = refl
+    by false born later = ap (λ xs. c ∷ xs) later
+
+-- ---- what was lent of a directory
+module _ (dir : DirRef) (es : List (Id × Object)) (cs : List Content) (lent : Option (MutBor Object)) (view : contents_of es ≡ cs)
+    (found : option_map (whole dir.id) (option_copied_mut lent) ≡ content_at dir (contents_of es)) where
+  content_is : (shown : Option Object) → option_copied_mut lent ≡ shown → content_at dir cs ≡ option_map (whole dir.id) shown
+  content_is shown is = sym (subst (λ (xs : List Content). option_map (whole dir.id) (option_copied_mut lent) ≡ content_at dir xs) view found) ∙ ap (option_map (whole dir.id)) is
+
+  -- none, where it is not there
+  pub none_changed : lent ≡ None → (change : Content → Content) (new : List (Id × Object)) → contents_of new ≡ contents_of es
+      → contents_of new ≡ changed_at dir change cs
+  none_changed is change new same = same ∙ view ∙ sym (changed_at-gone dir change cs (ap is_some (content_is None (ap option_copied_mut is))))
+
+  module _ (object : MutBor Object) (is : lent ≡ Some object) where
+    there : content_at dir cs ≡ Some (whole dir.id object.now)
+    there = content_is (Some object.now) (ap option_copied_mut is)
+
+    pub slots_there : slots_at dir cs ≡ object.now.slots
+    slots_there = ap slots_found there
+
+    pub changed_there : (change : Content → Content) (w : Object) (new : List (Id × Object))
+        → OnSome lent (contents_of new ≡ with_object_at dir w (contents_of es)) → whole dir.id w ≡ change (whole dir.id object.now)
+        → contents_of new ≡ changed_at dir change cs
+    changed_there change w new ends same =
+        subst (λ (o : Option (MutBor Object)). OnSome o (contents_of new ≡ with_object_at dir w (contents_of es))) is ends
+        ∙ ap (with_object_at dir w) view ∙ changed_at-agrees dir (λ (c : Content). whole c.dir.id w) change (whole dir.id object.now) cs there same
+
+    pub slots_changed_there : (change : List (List ℕ × Slot) → List (List ℕ × Slot)) (slots : List (List ℕ × Slot)) (new : List (Id × Object))
+        → OnSome lent (contents_of new ≡ with_object_at dir (record object.now { slots = slots }) (contents_of es)) → slots ≡ change object.now.slots
+        → contents_of new ≡ with_slots_at dir change cs
+    slots_changed_there change slots new ends same =
+        changed_there (λ (c : Content). record c { slots = change c.slots }) (record object.now { slots = slots }) new ends
+        (ap (λ (ss : List (List ℕ × Slot)). whole dir.id (record object.now { slots = ss })) same)
+
+    -- slots that stay as they were
+    pub same_there : (slots : List (List ℕ × Slot)) (new : List (Id × Object))
+        → OnSome lent (contents_of new ≡ with_object_at dir (record object.now { slots = slots }) (contents_of es)) → slots ≡ object.now.slots
+        → contents_of new ≡ cs
+    same_there slots new ends same =
+        slots_changed_there (λ ss. ss) slots new ends same ∙ unchanged dir cs
 
 -- a directory dropped, as its object is
 may_drop_step : (b : Bool) (by : CallRef) (c : Content) → may_drop_found by (cond b (Some c) None) ≡ (b && may_drop by c)

@@ -2,6 +2,7 @@ pub mod BusyNames
 pub mod Contents
 pub mod Examples
 pub mod Kept
+pub mod Lent
 pub mod Named
 pub mod Objects
 pub mod Order

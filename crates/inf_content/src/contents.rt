@@ -1,11 +1,13 @@
 //! The content objects of a server.
 
 ghost use Rattle.std.specs.Prelude.{◌≡◌, [], All, is_some, false, if◌then◌else◌, IfOk, OnOk, OnErr};
-ghost use Rattle.std.specs.Option.{option_map};
+ghost use Rattle.std.specs.Borrow.{sem};
+ghost use Rattle.std.specs.Option.{option_copied_mut, option_map};
 ghost use Rattle.inf_base.specs.declared.caller.CallRef.{CallRef};
 ghost use Rattle.inf_content.specs.Contents.{access_found, born_of, content_at, content_of_id, dropped_at, erased_at, filled_at, held_at, lifted_at, look, made_at, made_of, may_drop_found, reserved_at, seal_of, sealed_at, settled_at, slots_at, unsealed_at, with_file_at, with_meta_at, without_slot_at};
 ghost use Rattle.inf_content.specs.Slot.{erases, holds, reserves};
-ghost use Rattle.inf_content.specs.Objects.{whole};
+ghost use Rattle.inf_content.specs.Lent.{LendsObject};
+ghost use Rattle.inf_content.specs.Objects.{contents_of, whole};
 ghost use Rattle.inf_content.specs.Order.{IdentifiersRise, NamesRise};
 ghost use Rattle.inf_content.specs.Slots.{first, first_taker, inside_of, items_of, told_of_erased, told_of_filled};
 
@@ -145,22 +147,13 @@ impl Contents {
         }
     }
 
-    fn is_here(&self, dir: &DirRef) -> bool
-        ensures { result ≡ is_some (content_at dir.now self.now) }
-    {
-        self.object(dir).is_some()
-    }
-
     /// Gives the first slot that the call holds in the directory the mode that was kept for it, and lifts its hold.
     pub fn settle(&mut self, dir: &DirRef, by: CallRef) -> bool
         ensures told { result ≡ is_some (first (holds by) (slots_at dir.now self.old)) }
         ensures settled { self.new ≡ settled_at dir.now by self.old }
     {
-        if !self.is_here(dir) {
+        let Some(object) = object_mut(&mut self.by_id, dir) else {
             return false;
-        }
-        let Some(object) = self.by_id.get_mut(&dir.id) else {
-            unreachable!()
         };
         object.slots.settle(by)
     }
@@ -169,11 +162,8 @@ impl Contents {
     pub fn set_file(&mut self, dir: &DirRef, name: &Name, meta: FileMeta)
         ensures { self.new ≡ with_meta_at dir.now name.now meta self.old }
     {
-        if !self.is_here(dir) {
+        let Some(object) = object_mut(&mut self.by_id, dir) else {
             return;
-        }
-        let Some(object) = self.by_id.get_mut(&dir.id) else {
-            unreachable!()
         };
         object.slots.set_file(name, meta);
     }
@@ -182,11 +172,8 @@ impl Contents {
     pub fn take_out(&mut self, dir: &DirRef, name: &Name)
         ensures { self.new ≡ without_slot_at dir.now name.now self.old }
     {
-        if !self.is_here(dir) {
+        let Some(object) = object_mut(&mut self.by_id, dir) else {
             return;
-        }
-        let Some(object) = self.by_id.get_mut(&dir.id) else {
-            unreachable!()
         };
         object.slots.take_out(name);
     }
@@ -195,11 +182,8 @@ impl Contents {
     pub fn hold(&mut self, dir: &DirRef, name: &Name, by: CallRef, mode: Option<u16>)
         ensures { self.new ≡ held_at dir.now name.now by mode self.old }
     {
-        if !self.is_here(dir) {
+        let Some(object) = object_mut(&mut self.by_id, dir) else {
             return;
-        }
-        let Some(object) = self.by_id.get_mut(&dir.id) else {
-            unreachable!()
         };
         object.slots.hold(name, by, mode);
     }
@@ -208,11 +192,8 @@ impl Contents {
     pub fn lift(&mut self, dir: &DirRef, by: CallRef)
         ensures { self.new ≡ lifted_at dir.now by self.old }
     {
-        if !self.is_here(dir) {
+        let Some(object) = object_mut(&mut self.by_id, dir) else {
             return;
-        }
-        let Some(object) = self.by_id.get_mut(&dir.id) else {
-            unreachable!()
         };
         object.slots.lift(by);
     }
@@ -228,11 +209,8 @@ impl Contents {
         ensures told { result ≡ told_of_filled dir.now.id link (first (reserves by) (slots_at dir.now self.old)) }
         ensures filled { self.new ≡ filled_at dir.now by link self.old }
     {
-        if !self.is_here(dir) {
+        let Some(object) = object_mut(&mut self.by_id, dir) else {
             return None;
-        }
-        let Some(object) = self.by_id.get_mut(&dir.id) else {
-            unreachable!()
         };
         object.slots.fill(&dir.id, by, link)
     }
@@ -243,11 +221,8 @@ impl Contents {
         ensures told { result ≡ told_of_erased (first (erases by) (slots_at dir.now self.old)) }
         ensures erased { self.new ≡ erased_at dir.now by self.old }
     {
-        if !self.is_here(dir) {
+        let Some(object) = object_mut(&mut self.by_id, dir) else {
             return None;
-        }
-        let Some(object) = self.by_id.get_mut(&dir.id) else {
-            unreachable!()
         };
         object.slots.erase(by)
     }
@@ -256,11 +231,8 @@ impl Contents {
     pub fn seal(&mut self, dir: &DirRef, by: CallRef)
         ensures { self.new ≡ sealed_at dir.now by self.old }
     {
-        if !self.is_here(dir) {
+        let Some(object) = object_mut(&mut self.by_id, dir) else {
             return;
-        }
-        let Some(object) = self.by_id.get_mut(&dir.id) else {
-            unreachable!()
         };
         object.seal = Some(by);
     }
@@ -269,11 +241,8 @@ impl Contents {
     pub fn unseal(&mut self, dir: &DirRef, by: CallRef)
         ensures { self.new ≡ unsealed_at dir.now by self.old }
     {
-        if !self.is_here(dir) {
+        let Some(object) = object_mut(&mut self.by_id, dir) else {
             return;
-        }
-        let Some(object) = self.by_id.get_mut(&dir.id) else {
-            unreachable!()
         };
         object.seal = seal_left(by, object.seal);
     }
@@ -289,12 +258,9 @@ impl Contents {
         ensures ok { OnOk result (self.new ≡ reserved_at dir.now name by access self.old) }
         ensures err { OnErr result (self.new ≡ self.old) }
     {
-        if !self.is_here(dir) {
-            return Ok(());
-        }
         let alloc = self.alloc;
-        let Some(object) = self.by_id.get_mut(&dir.id) else {
-            unreachable!()
+        let Some(object) = object_mut(&mut self.by_id, dir) else {
+            return Ok(());
         };
         object.slots.reserve(alloc, name, by, access)?;
         Ok(())
@@ -305,12 +271,9 @@ impl Contents {
         ensures ok { OnOk result (self.new ≡ with_file_at dir.now name meta self.old) }
         ensures err { OnErr result (self.new ≡ self.old) }
     {
-        if !self.is_here(dir) {
-            return Ok(());
-        }
         let alloc = self.alloc;
-        let Some(object) = self.by_id.get_mut(&dir.id) else {
-            unreachable!()
+        let Some(object) = object_mut(&mut self.by_id, dir) else {
+            return Ok(());
         };
         object.slots.put_file(alloc, name, meta)?;
         Ok(())
@@ -359,5 +322,21 @@ impl Contents {
         };
         self.by_id.insert(id, object)?;
         Ok(Made::New)
+    }
+}
+
+/// The object of a directory, to be changed where it stands.
+fn object_mut<'a>(by_id: &'a mut BTreeMap<Id, Object>, dir: &DirRef) -> Option<&'a mut Object>
+    ensures* lends { sem 𝓛 (LendsObject by_id.entry dir.now result) }
+    ensures found { option_map (whole dir.now.id) (option_copied_mut result)
+        ≡ content_at dir.now (contents_of by_id.old.entries) }
+{
+    let Some(object) = by_id.get_mut(&dir.id) else {
+        return None;
+    };
+    if object.born == dir.born {
+        Some(object)
+    } else {
+        None
     }
 }

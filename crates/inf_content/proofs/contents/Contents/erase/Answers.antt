@@ -1,32 +1,19 @@
-use Rattle.std.proofs.Common.{sym, ap, ◌∙◌}
-use Rattle.std.specs.Option.{option_copied_mut}
-use Rattle.inf_content.specs.Objects.{contents_of}
-use Rattle.inf_content.specs.Slot.{erases}
-use Rattle.inf_content.specs.Slots.{erased, first, told_of_erased}
-use Rattle.inf_content.proofs.Found.{changed_at-gone, here_without_object, slots_at-here, with_slots_at-here}
+use Rattle.inf_content.specs.Slots.{erased}
+use Rattle.inf_content.proofs.Found.{none_changed, slots_changed_there}
 use Rattle.inf_content.proofs.Ordered.{erased_in_order, order_after}
 use Rattle.inf_content.proofs.contents.Contents.erase.Goals as goal
 
-pub returns-then-not-is_here-clause-erased : goal.returns-then-not-is_here-clause-erased
-returns-then-not-is_here-clause-erased c = sym (changed_at-gone c.args.dir.now _ c.args.self.now (sym c.is_here.ensures ∙ c.if-not-is_here.true))
-
-pub unreachable-requires : goal.unreachable-requires
-unreachable-requires c =
-    here_without_object c.args.dir.now c.self.inside.by_id.entries c.args.self.now c.self.view_is
-    (sym c.is_here.ensures ∙ c.if-not-is_here.false) (sym c.get_mut.ensures.value ∙ ap option_copied_mut c.in_default.is)
-
-pub returns-clause-told : goal.returns-clause-told
-returns-clause-told c =
-    c.erase.ensures.told ∙ ap (λ slots. told_of_erased (first (erases c.args.by) slots)) (sym
-    (slots_at-here c.args.dir.now c.self.inside.by_id.entries c.args.self.now c.in-Some.object.now c.self.view_is
-    (sym c.is_here.ensures ∙ c.if-not-is_here.false) (sym c.get_mut.ensures.value ∙ ap option_copied_mut c.in-Some.is)))
+pub returns-in_default-clause-erased : goal.returns-in_default-clause-erased
+returns-in_default-clause-erased c =
+    none_changed c.args.dir.now c.self.inside.by_id.entries c.args.self.now c.object_mut.result c.self.view_is c.object_mut.ensures.found
+    c.in_default.is _ _ c.object_mut.follows.holds-at-none
 
 pub returns-clause-erased : goal.returns-clause-erased
 returns-clause-erased c =
-    ap (λ m. contents_of m) (c.get_mut.follows.holds (record c.in-Some.object.now { slots = c.erase.new.self })).0
-    ∙ with_slots_at-here c.args.dir.now (erased c.args.by) c.self.inside.by_id.entries c.args.self.now c.in-Some.object.now c.erase.new.self
-    c.self.view_is (sym c.is_here.ensures ∙ c.if-not-is_here.false)
-    (sym c.get_mut.ensures.value ∙ ap option_copied_mut c.in-Some.is) c.erase.ensures.erased
+    slots_changed_there c.args.dir.now c.self.inside.by_id.entries c.args.self.now c.object_mut.result c.self.view_is c.object_mut.ensures.found
+    c.in-Some.object c.in-Some.is (erased c.args.by) c.erase.new.self _
+    (c.object_mut.follows.holds (record c.in-Some.object.now { slots = c.erase.new.self })) c.erase.ensures.erased
 
-pub invariant_of-self : goal.invariant_of-self
-invariant_of-self c = order_after c.self.view_is c.self.invariant (erased_in_order c.args.dir.now c.args.by c.args.self.now) (returns-clause-erased c)
+pub invariant_of-self-2 : goal.invariant_of-self-2
+invariant_of-self-2 c =
+    order_after c.self.view_is c.self.invariant (erased_in_order c.args.dir.now c.args.by c.args.self.now) (returns-clause-erased c)

@@ -1,32 +1,19 @@
-use Rattle.std.proofs.Common.{sym, ap, ◌∙◌}
-use Rattle.std.specs.Option.{option_copied_mut}
-use Rattle.inf_content.specs.Objects.{contents_of}
-use Rattle.inf_content.specs.Slot.{reserves}
-use Rattle.inf_content.specs.Slots.{filled_in, first, told_of_filled}
-use Rattle.inf_content.proofs.Found.{changed_at-gone, here_without_object, slots_at-here, with_slots_at-here}
+use Rattle.inf_content.specs.Slots.{filled_in}
+use Rattle.inf_content.proofs.Found.{none_changed, slots_changed_there}
 use Rattle.inf_content.proofs.Ordered.{filled_in_order, order_after}
 use Rattle.inf_content.proofs.contents.Contents.fill.Goals as goal
 
-pub returns-then-not-is_here-clause-filled : goal.returns-then-not-is_here-clause-filled
-returns-then-not-is_here-clause-filled c = sym (changed_at-gone c.args.dir.now _ c.args.self.now (sym c.is_here.ensures ∙ c.if-not-is_here.true))
-
-pub unreachable-requires : goal.unreachable-requires
-unreachable-requires c =
-    here_without_object c.args.dir.now c.self.inside.by_id.entries c.args.self.now c.self.view_is
-    (sym c.is_here.ensures ∙ c.if-not-is_here.false) (sym c.get_mut.ensures.value ∙ ap option_copied_mut c.in_default.is)
-
-pub returns-clause-told : goal.returns-clause-told
-returns-clause-told c =
-    c.fill.ensures.told ∙ ap (λ slots. told_of_filled c.args.dir.now.id c.args.link (first (reserves c.args.by) slots)) (sym
-    (slots_at-here c.args.dir.now c.self.inside.by_id.entries c.args.self.now c.in-Some.object.now c.self.view_is
-    (sym c.is_here.ensures ∙ c.if-not-is_here.false) (sym c.get_mut.ensures.value ∙ ap option_copied_mut c.in-Some.is)))
+pub returns-in_default-clause-filled : goal.returns-in_default-clause-filled
+returns-in_default-clause-filled c =
+    none_changed c.args.dir.now c.self.inside.by_id.entries c.args.self.now c.object_mut.result c.self.view_is c.object_mut.ensures.found
+    c.in_default.is _ _ c.object_mut.follows.holds-at-none
 
 pub returns-clause-filled : goal.returns-clause-filled
 returns-clause-filled c =
-    ap (λ m. contents_of m) (c.get_mut.follows.holds (record c.in-Some.object.now { slots = c.fill.new.self })).0
-    ∙ with_slots_at-here c.args.dir.now (filled_in c.args.by c.args.link) c.self.inside.by_id.entries c.args.self.now c.in-Some.object.now c.fill.new.self
-    c.self.view_is (sym c.is_here.ensures ∙ c.if-not-is_here.false)
-    (sym c.get_mut.ensures.value ∙ ap option_copied_mut c.in-Some.is) c.fill.ensures.filled
+    slots_changed_there c.args.dir.now c.self.inside.by_id.entries c.args.self.now c.object_mut.result c.self.view_is c.object_mut.ensures.found
+    c.in-Some.object c.in-Some.is (filled_in c.args.by c.args.link) c.fill.new.self _
+    (c.object_mut.follows.holds (record c.in-Some.object.now { slots = c.fill.new.self })) c.fill.ensures.filled
 
-pub invariant_of-self : goal.invariant_of-self
-invariant_of-self c = order_after c.self.view_is c.self.invariant (filled_in_order c.args.dir.now c.args.by c.args.link c.args.self.now) (returns-clause-filled c)
+pub invariant_of-self-2 : goal.invariant_of-self-2
+invariant_of-self-2 c =
+    order_after c.self.view_is c.self.invariant (filled_in_order c.args.dir.now c.args.by c.args.link c.args.self.now) (returns-clause-filled c)

@@ -1,25 +1,19 @@
-use Rattle.std.proofs.Common.{sym, ap, ◌∙◌}
-use Rattle.std.specs.Option.{option_copied_mut}
-use Rattle.inf_content.specs.Objects.{contents_of}
 use Rattle.inf_content.specs.Slots.{without_slot}
-use Rattle.inf_content.proofs.Found.{changed_at-gone, here_without_object, with_slots_at-here}
+use Rattle.inf_content.proofs.Found.{none_changed, slots_changed_there}
 use Rattle.inf_content.proofs.Ordered.{order_after, without_slot_in_order}
 use Rattle.inf_content.proofs.contents.Contents.take_out.Goals as goal
 
-pub returns-then-not-is_here : goal.returns-then-not-is_here
-returns-then-not-is_here c = sym (changed_at-gone c.args.dir.now _ c.args.self.now (sym c.is_here.ensures ∙ c.if-not-is_here.true))
-
-pub unreachable-requires : goal.unreachable-requires
-unreachable-requires c =
-    here_without_object c.args.dir.now c.self.inside.by_id.entries c.args.self.now c.self.view_is
-    (sym c.is_here.ensures ∙ c.if-not-is_here.false) (sym c.get_mut.ensures.value ∙ ap option_copied_mut c.in_default.is)
+pub returns-in_default : goal.returns-in_default
+returns-in_default c =
+    none_changed c.args.dir.now c.self.inside.by_id.entries c.args.self.now c.object_mut.result c.self.view_is c.object_mut.ensures.found
+    c.in_default.is _ _ c.object_mut.follows.holds-at-none
 
 pub returns : goal.returns
 returns c =
-    ap (λ m. contents_of m) (c.get_mut.follows.holds (record c.in-Some.object.now { slots = c.take_out.new.self })).0
-    ∙ with_slots_at-here c.args.dir.now (without_slot c.args.name.now) c.self.inside.by_id.entries c.args.self.now c.in-Some.object.now c.take_out.new.self
-    c.self.view_is (sym c.is_here.ensures ∙ c.if-not-is_here.false)
-    (sym c.get_mut.ensures.value ∙ ap option_copied_mut c.in-Some.is) c.take_out.ensures
+    slots_changed_there c.args.dir.now c.self.inside.by_id.entries c.args.self.now c.object_mut.result c.self.view_is c.object_mut.ensures.found
+    c.in-Some.object c.in-Some.is (without_slot c.args.name.now) c.take_out.new.self _
+    (c.object_mut.follows.holds (record c.in-Some.object.now { slots = c.take_out.new.self })) c.take_out.ensures
 
-pub invariant_of-self : goal.invariant_of-self
-invariant_of-self c = order_after c.self.view_is c.self.invariant (without_slot_in_order c.args.dir.now c.args.name.now c.args.self.now) (returns c)
+pub invariant_of-self-2 : goal.invariant_of-self-2
+invariant_of-self-2 c =
+    order_after c.self.view_is c.self.invariant (without_slot_in_order c.args.dir.now c.args.name.now c.args.self.now) (returns c)

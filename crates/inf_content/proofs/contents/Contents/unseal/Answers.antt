@@ -1,24 +1,22 @@
-use Rattle.std.proofs.Common.{sym, ap, ◌∙◌}
-use Rattle.std.specs.Option.{option_copied_mut}
-use Rattle.inf_content.specs.Objects.{contents_of, whole}
-use Rattle.inf_content.proofs.Found.{changed_at-gone, changed_at-here, here_without_object}
+use Rattle.std.proofs.Common.{ap}
+use Rattle.inf_content.specs.Objects.{whole}
+use Rattle.inf_content.proofs.Found.{changed_there, none_changed}
 use Rattle.inf_content.proofs.Ordered.{order_after, unsealed_in_order}
 use Rattle.inf_content.proofs.contents.Contents.unseal.Goals as goal
 
-pub returns-then-not-is_here : goal.returns-then-not-is_here
-returns-then-not-is_here c = sym (changed_at-gone c.args.dir.now _ c.args.self.now (sym c.is_here.ensures ∙ c.if-not-is_here.true))
-
-pub unreachable-requires : goal.unreachable-requires
-unreachable-requires c =
-    here_without_object c.args.dir.now c.self.inside.by_id.entries c.args.self.now c.self.view_is
-    (sym c.is_here.ensures ∙ c.if-not-is_here.false) (sym c.get_mut.ensures.value ∙ ap option_copied_mut c.in_default.is)
+pub returns-in_default : goal.returns-in_default
+returns-in_default c =
+    none_changed c.args.dir.now c.self.inside.by_id.entries c.args.self.now c.object_mut.result c.self.view_is c.object_mut.ensures.found
+    c.in_default.is _ _ c.object_mut.follows.holds-at-none
 
 pub returns : goal.returns
 returns c =
-    ap (λ m. contents_of m) (c.get_mut.follows.holds (record c.in-Some.object.now { seal = c.seal_left-object.result })).0
-    ∙ changed_at-here c.args.dir.now _ c.self.inside.by_id.entries c.args.self.now c.in-Some.object.now (record c.in-Some.object.now { seal = c.seal_left-object.result })
-    c.self.view_is (sym c.is_here.ensures ∙ c.if-not-is_here.false)
-    (sym c.get_mut.ensures.value ∙ ap option_copied_mut c.in-Some.is) (λ id. ap (λ seal. whole id (record c.in-Some.object.now { seal = seal })) c.seal_left-object.ensures)
+    let seal_now = c.seal_left-object.result in
+    changed_there c.args.dir.now c.self.inside.by_id.entries c.args.self.now c.object_mut.result c.self.view_is c.object_mut.ensures.found
+    c.in-Some.object c.in-Some.is _ (record c.in-Some.object.now { seal = seal_now }) _
+    (c.object_mut.follows.holds (record c.in-Some.object.now { seal = seal_now }))
+    (ap (λ seal. whole c.args.dir.now.id (record c.in-Some.object.now { seal = seal })) c.seal_left-object.ensures)
 
-pub invariant_of-self : goal.invariant_of-self
-invariant_of-self c = order_after c.self.view_is c.self.invariant (unsealed_in_order c.args.dir.now c.args.by c.args.self.now) (returns c)
+pub invariant_of-self-2 : goal.invariant_of-self-2
+invariant_of-self-2 c =
+    order_after c.self.view_is c.self.invariant (unsealed_in_order c.args.dir.now c.args.by c.args.self.now) (returns c)
