@@ -1,5 +1,5 @@
 -- What is asked next is what is to be asked of some keys.
-use Rattle.std.proofs.Common.{◌≡◌, ℕ, List, [], ◌∷◌, ◌++◌, Option, Some, None, is_some, false, refl, sym, subst, ◌∙◌}
+use Rattle.std.proofs.Common.{◌≡◌, ℕ, List, [], ◌∷◌, ◌++◌, Option, Some, None, is_some, false, refl, sym, subst}
 use Rattle.std.specs.List.{AllByRecursion, IsDistinct}
 use Rattle.std.specs.Option.{option_or}
 use Rattle.inf_base.specs.declared.caller.CallRef.{CallRef}
@@ -24,28 +24,34 @@ record HasAsked (known : List Known) (keys : List LookKey) : Type 0 where
   all : List LookKey
   is_asked : keys ≡ to_ask known all
 
-asks : (known : List Known) (all taken : List LookKey) (old new : Walked) (keys : List LookKey)
-    → to_ask known all ≡ taken
-    → unless_asked taken (comes.Leads old new) ≡ comes.Asks keys → HasAsked known keys
-asks known all [] old new keys taken is = absurd cc
-asks known all (k ∷ ks) old new keys taken is =
-    let same : k ∷ ks ≡ keys = cc in
-    record { all = all; is_asked = sym same ∙ sym taken }
+-- the keys that are asked behind the root, of which there are some
+pub record AreAsked (all keys : List LookKey) : Type 0 where
+  pub first : LookKey
+  pub others : List LookKey
+  pub some : all ≡ first ∷ others
+  pub same : keys ≡ all
 
-not_busy : (known : List Known) (all : List LookKey) (busy : Option (CallRef × ℕ)) (old new : Walked)
-    (keys : List LookKey)
-    → unless_busy busy (unless_asked (to_ask known all) (comes.Leads old new)) ≡ comes.Asks keys → HasAsked known keys
-not_busy known all None old new keys is = asks known all (to_ask known all) old new keys refl is
-not_busy known all (Some (by, place)) old new keys is = absurd cc
+asked : (all : List LookKey) (old new : Walked) (keys : List LookKey)
+    → unless_asked all (comes.Leads old new) ≡ comes.Asks keys → AreAsked all keys
+asked [] old new keys is = absurd cc
+asked (k ∷ ks) old new keys is =
+    let same : k ∷ ks ≡ keys = cc in
+    record { first = k; others = ks; some = refl; same = sym same }
+
+pub asked_unless_busy : (busy : Option (CallRef × ℕ)) (all : List LookKey) (old new : Walked) (keys : List LookKey)
+    → unless_busy busy (unless_asked all (comes.Leads old new)) ≡ comes.Asks keys → AreAsked all keys
+asked_unless_busy None all old new keys is = asked all old new keys is
+asked_unless_busy (Some (by, place)) all old new keys is = absurd cc
 
 behind : (digest : List ℕ → Id) (looked : Looked) (known : List Known) (root : Entry) (keys : List LookKey)
     → behind_root digest looked known root ≡ comes.Asks keys → HasAsked known keys
 behind digest looked known root keys is =
     let one = halt_of known (dir_of root.access) looked.old in
     let other = halt_of known (dir_of root.access) looked.new in
-    not_busy known (keys_at digest known one ++ keys_at digest known other)
-    (option_or (busy_at known one) (busy_at known other))
-    (walk known root looked.old) (walk known root looked.new) keys is
+    let all = keys_at digest known one ++ keys_at digest known other in
+    let now = asked_unless_busy (option_or (busy_at known one) (busy_at known other)) (to_ask known all)
+    (walk known root looked.old) (walk known root looked.new) keys is in
+    record { all = all; is_asked = now.same }
 
 after_root : (digest : List ℕ → Id) (looked : Looked) (known : List Known) (given : Reply) (place : ℕ)
     (keys : List LookKey)

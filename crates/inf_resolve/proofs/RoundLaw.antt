@@ -1,8 +1,7 @@
 -- Behind the root, each further round leads further along one of the paths.
-use Rattle.std.proofs.Common.{◌≡◌, ℕ, ◌<◌, List, [], ◌∷◌, ◌++◌, Option, Some, None, refl, sym, ap, ◌∙◌, arith}
+use Rattle.std.proofs.Common.{◌≡◌, ℕ, ◌<◌, List, [], ◌∷◌, ◌++◌, refl, sym, ap, ◌∙◌, arith}
 use Rattle.std.specs.Option.{option_or}
 use Rattle.std.proofs.lemmas.List.{append-nil}
-use Rattle.inf_base.specs.declared.caller.CallRef.{CallRef}
 use Rattle.inf_base.specs.declared.directory.DirRef.{DirRef}
 use Rattle.inf_base.specs.declared.entry.Entry.{Entry}
 use Rattle.inf_base.specs.declared.id.Id.{Id}
@@ -12,33 +11,14 @@ use Rattle.inf_base.specs.Same.{dir_of}
 use Rattle.inf_resolve.specs.declared.known.Known.{Known}
 use Rattle.inf_resolve.specs.declared.looked.Looked.{Looked}
 use Rattle.inf_resolve.specs.declared.resolved.Resolved.TheVariants as comes
-use Rattle.inf_resolve.specs.declared.walked.Walked.{Walked}
 use Rattle.inf_resolve.specs.Chain.{IsTold}
 use Rattle.inf_resolve.specs.Keys.{keys_at, to_ask}
 use Rattle.inf_resolve.specs.Known.{told_entry}
-use Rattle.inf_resolve.specs.Resolved.{by_root, by_told, resolved, unless_asked, unless_busy}
+use Rattle.inf_resolve.specs.Resolved.{by_root, by_told, resolved}
 use Rattle.inf_resolve.specs.Rounds.{IsAnswered, names_left}
 use Rattle.inf_resolve.specs.Walk.{busy_at, halt_of, walk}
+use Rattle.inf_resolve.proofs.AskedFacts.{AreAsked, asked_unless_busy}
 use Rattle.inf_resolve.proofs.RoundFacts.{no_further, path_leads_on}
-
--- the keys that are asked, of which there are some
-record AreAsked (all keys : List LookKey) : Type 0 where
-  first : LookKey
-  others : List LookKey
-  some : all ≡ first ∷ others
-  same : keys ≡ all
-
-asked : (all : List LookKey) (old new : Walked) (keys : List LookKey)
-    → unless_asked all (comes.Leads old new) ≡ comes.Asks keys → AreAsked all keys
-asked [] old new keys is = absurd cc
-asked (k ∷ ks) old new keys is =
-    let same : k ∷ ks ≡ keys = cc in
-    record { first = k; others = ks; some = refl; same = sym same }
-
-not_busy : (busy : Option (CallRef × ℕ)) (all : List LookKey) (old new : Walked) (keys : List LookKey)
-    → unless_busy busy (unless_asked all (comes.Leads old new)) ≡ comes.Asks keys → AreAsked all keys
-not_busy None all old new keys is = asked all old new keys is
-not_busy (Some (by, place)) all old new keys is = absurd cc
 
 abbrev all_keys : (List ℕ → Id) → Looked → List Known → DirRef → List LookKey
 all_keys digest looked known root =
@@ -53,7 +33,7 @@ behind digest id looked known root keys top is =
     let told_is =
     ap (by_told digest id looked known) top.is_known ∙ ap (by_root digest looked known top.told.place) top.is_found in
     let entry = told_entry root.key root.access top.told.place in
-    not_busy (option_or (busy_at known (halt_of known (dir_of root.access) looked.old))
+    asked_unless_busy (option_or (busy_at known (halt_of known (dir_of root.access) looked.old))
     (busy_at known (halt_of known (dir_of root.access) looked.new)))
     (all_keys digest looked known (dir_of root.access)) (walk known entry looked.old)
     (walk known entry looked.new) keys (sym told_is ∙ is)

@@ -24,13 +24,11 @@ fn leads_to<R: IdRule>(
 ) -> Result<Id, NoMemory>
     ensures { IfOk result (λ next. next ≡ leads_to (R.digest_of rule.now) id.now name.now (option_copied told.entry)) }
 {
-    match told {
-        Some(
-            Known {
-                reply: Reply::Found { access, .. },
-                ..
-            },
-        ) => Ok(access.id),
+    let Some(told) = told else {
+        return predicted(alloc, rule, id, name);
+    };
+    match &told.reply {
+        Reply::Found { access, .. } => Ok(access.id),
         _ => predicted(alloc, rule, id, name),
     }
 }
