@@ -103,7 +103,7 @@ was_served service objects at ask other_reply new serves = inr serves
 module _ (service : Service) (objects : Objects) (at : At) (root : Access) (tree : Node) (phases : Phases) (ask : Ask)
     (given : Reply) (new : State) (standing : IsStanding service objects root tree phases)
     (unseen : new.contents ≡ (objects at.number).contents
-        → Stands (content_in service (with_state at.number new objects)) root tree) where
+    → Stands (content_in service (with_state at.number new objects)) root tree) where
   abbrev site : Site
   site = site_in service at.number
 

@@ -22,7 +22,7 @@ top_is_root service objects root stands number top is = by (number == root_serve
         let here : number ≡ root_server service = (Decides-eqb _ _).0 same in
         let has : (objects (root_server service)).top ≡ Some top = subst (λ (n : ℕ). (objects n).top ≡ Some top) here is in
         let both : Some top.access ≡ Some root =
-            sym (ap (option_map (λ (t : TopAccess). t.access)) has) ∙ stands.kept in
+        sym (ap (option_map (λ (t : TopAccess). t.access)) has) ∙ stands.kept in
         cc both
     by false apart =
         let none : (objects number).top ≡ None = stands.alone number (λ same. let is = (Decides-eqb _ _).1 same in cc) in

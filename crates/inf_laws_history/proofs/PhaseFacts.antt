@@ -220,7 +220,7 @@ module _ (service : Service) (A : ℕ → Request → Type 0) (T : Key → Acces
       let look = look_in s.who keys index at.number asked is in
       subst (λ (r : Request). Comes (round keys) sent r) (sym look.is)
       (subst (λ (ps : Phases). InHand service.digest ps
-          (served service.digest at.ask_place (told_reply at.serve_place given) (staged s (round keys) sent)))
+      (served service.digest at.ask_place (told_reply at.serve_place given) (staged s (round keys) sent)))
       (sym (same_phases (call_ref s) phases))
       (round_in_hand service.digest phases s keys sent at.ask_place (told_reply at.serve_place given) phase others))
   stage_in_hand (act flow) sent phase others may stands asks there is goes cleans =
@@ -252,12 +252,12 @@ served_in_hand service A T s at ask given phases servers hand asks knows waits a
     let may : MayGoOn s.who.caller ask.request given =
     subst (λ (caller : Caller). MayGoOn caller ask.request given) waits.caller (record { reserves = answering.reserves; seals = answering.seals }) in
     subst (λ (r : Reply). InHand service.digest
-        (with_phase ask.from (next_phase service at (phases ask.from) ask.request given) phases)
-        (served service.digest at.ask_place (told_reply at.serve_place r) s))
+    (with_phase ask.from (next_phase service at (phases ask.from) ask.request given) phases)
+    (served service.digest at.ask_place (told_reply at.serve_place r) s))
     (sym answering.same)
     (subst (λ (by : CallRef). InHand service.digest
-        (with_phase by (next_phase service at (phases by) ask.request given) phases)
-        (served service.digest at.ask_place (told_reply at.serve_place given) s))
+    (with_phase by (next_phase service at (phases by) ask.request given) phases)
+    (served service.digest at.ask_place (told_reply at.serve_place given) s))
     (sym waits.from)
     (stage_in_hand service A T s waits.index at ask.request given phases s.stage s.sent hand.phase hand.others
     hand.may knows.stands asks.asked waits.sent waits.message may answering.cleans))

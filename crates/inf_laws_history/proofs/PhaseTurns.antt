@@ -183,7 +183,7 @@ module _ (service : Service) (who : Who) (at : At) (phase : Phase) where
     (
       ap (made_after service at) has
           ∙ ap (λ (i : Id). has_made (last_dir chain) name (birth_of who chain name version)
-              (record { id = i; born = at.ask_place })) (sym of_birth),
+          (record { id = i; born = at.ask_place })) (sym of_birth),
       of_birth,
     ),
     may,

@@ -43,7 +43,7 @@ module _ (site : Site) (state : State) (place : ℕ) (ask : Ask) where
       (reserve site state ask chain name)
   reserve_comes chain name =
       new_name_comes site state place ask (request.Reserve chain name) refl tt chain name (λ by at blocks. blocks)
-          (λ error denies. denies) _
+      (λ error denies. denies) _
       (λ may. record { passed = may; said = refl; did = refl; succeeds = refl })
 
   -- ---- the content object
@@ -61,8 +61,14 @@ module _ (site : Site) (state : State) (place : ℕ) (ask : Ask) where
         → why given
     kept_fails content there true same given refused =
         let told : reply.Busy (bearer content) spot.Bearer 0 ≡ given = cc in
-        subst why told (record { content = content; here = here; there = there; same = same; bearer_is = refl;
-            spot_is = refl })
+        subst why told (record {
+          content = content;
+          here = here;
+          there = there;
+          same = same;
+          bearer_is = refl;
+          spot_is = refl;
+        })
     kept_fails content there false apart given refused =
         let told : reply.Clash content.triple ≡ given = cc in
         subst why told (record { content = content; here = here; there = there; apart = apart; kept_is = refl })
@@ -79,11 +85,15 @@ module _ (site : Site) (state : State) (place : ℕ) (ask : Ask) where
       let holds = Did site state place ask wanted in
       let found = content_of_id (identity site.digest birth) state.contents in
       behind_check (Fails site state ask wanted) holds (is_here site (identity site.digest birth)) reply.Other _
-          (λ elsewhere. tt) (λ here.
+      (λ elsewhere. tt) (λ here.
       behind_unit (Fails site state ask wanted) holds (unless_there (made_of birth found)) _
-          (there_fails birth here found refl) (λ is.
-      record { passed = record { here = here; is_new = is_new birth found is }; said = refl; did = refl;
-          succeeds = refl }))
+      (there_fails birth here found refl) (λ is.
+      record {
+        passed = record { here = here; is_new = is_new birth found is };
+        said = refl;
+        did = refl;
+        succeeds = refl;
+      }))
 
   -- ---- the link
 
@@ -93,18 +103,26 @@ module _ (site : Site) (state : State) (place : ℕ) (ask : Ask) where
       let wanted = request.Link chain name dir mode in
       let holds = Did site state place ask wanted in
       at_directory site state ask wanted refl tt holds (last_of chain) (chain ∷ []) _ (λ by at stops. stops)
-          (λ entry is_asked.
+      (λ entry is_asked.
       behind_check (Fails site state ask wanted) holds (is_some
-          (first (reserves ask.from) (slots_at (dir_of entry.access) state.contents)))
+      (first (reserves ask.from) (slots_at (dir_of entry.access) state.contents)))
       reply.Other _ (λ none. tt) (λ kept.
-      record { passed = record { entry = entry; is_asked = is_asked; kept = kept }; said = refl; did = refl;
-          succeeds = refl }))
+      record {
+        passed = record { entry = entry; is_asked = is_asked; kept = kept };
+        said = refl;
+        did = refl;
+        succeeds = refl;
+      }))
 
   -- ---- and what undoes it
 
   pub cancel_comes : (dir : DirRef) → Came site state place ask (request.Cancel dir) (cancel site state ask dir)
   cancel_comes dir =
       behind_check (Fails site state ask (request.Cancel dir)) (Did site state place ask (request.Cancel dir))
-          (is_here site dir.id) reply.Other _
-      (λ elsewhere. elsewhere) (λ here. record { passed = record { here = here }; said = refl; did = refl;
-      succeeds = refl })
+      (is_here site dir.id) reply.Other _
+      (λ elsewhere. elsewhere) (λ here. record {
+        passed = record { here = here };
+        said = refl;
+        did = refl;
+        succeeds = refl;
+      })

@@ -50,10 +50,14 @@ module _ (site : Site) (state : State) (place : ℕ) (ask : Ask) (wanted : Reque
       let why = Fails site state ask wanted in
       let holds = Did site state place ask wanted in
       at_directory site state ask wanted of_chain strays holds (last_of chain) (chain ∷ []) _
-          (λ by at stops. blocks by at (inl stops)) (λ entry is_asked.
+      (λ by at stops. blocks by at (inl stops)) (λ entry is_asked.
       behind_check why holds (list_all (lets ask.caller want.Search) chain) (reply.Refused errno.EACCES) _
-      (λ closed. denies errno.EACCES (inl (record { entry = entry; is_asked = is_asked; closed = closed;
-      error_is = refl }))) (λ search.
+      (λ closed. denies errno.EACCES (inl (record {
+        entry = entry;
+        is_asked = is_asked;
+        closed = closed;
+        error_is = refl;
+      }))) (λ search.
       behind_check why holds (lets ask.caller want.Write entry) (reply.Refused errno.EACCES) _
       (λ closed. denies errno.EACCES (inr (inl (record {
         entry = entry;
@@ -65,7 +69,7 @@ module _ (site : Site) (state : State) (place : ℕ) (ask : Ask) (wanted : Reque
         error_is = refl;
       })))) (λ write.
       at_name site state ask wanted of_chain strays holds (last_of chain) name _ entry is_asked
-          (λ by at stops. blocks by at (inr stops)) (λ found is_found.
+      (λ by at stops. blocks by at (inr stops)) (λ found is_found.
       behind_check why holds (is_missing found) (reply.Refused errno.EEXIST) (next entry)
       (λ taken. denies errno.EEXIST (inr (inr (record {
         entry = entry;
@@ -92,7 +96,7 @@ module _ (site : Site) (state : State) (place : ℕ) (ask : Ask) (chain : List E
       (create site state ask chain name mode)
   create_comes name mode =
       new_name_comes site state place ask (finish (op.Create name mode)) refl tt chain name (λ by at blocks. blocks)
-          (λ error denies. denies) _
+      (λ error denies. denies) _
       (λ may. record { passed = may; said = refl; did = refl; succeeds = refl })
 
   stat_found : (name : List ℕ) (entry : Entry) → IsAsked site state ask.from (last_of chain) (chain ∷ []) entry
@@ -101,8 +105,15 @@ module _ (site : Site) (state : State) (place : ℕ) (ask : Ask) (chain : List E
       → Came site state place ask (finish (op.Stat name)) (stat_of found >>= (λ told. done told state))
   stat_found name entry is_asked search seen.Gone is = refl
   stat_found name entry is_asked search seen.Missing is =
-      inr (record { entry = entry; is_asked = is_asked; search = search; allowed = tt; found = seen.Missing;
-          is_found = is; denies = refl })
+      inr (record {
+        entry = entry;
+        is_asked = is_asked;
+        search = search;
+        allowed = tt;
+        found = seen.Missing;
+        is_found = is;
+        denies = refl;
+      })
   stat_found name entry is_asked search (seen.Reserved other) is = tt
   stat_found name entry is_asked search (seen.File meta held) is = record {
     passed = record {
@@ -141,7 +152,7 @@ module _ (site : Site) (state : State) (place : ℕ) (ask : Ask) (chain : List E
       let why = Fails site state ask wanted in
       let holds = Did site state place ask wanted in
       at_directory site state ask wanted refl tt holds (last_of chain) (chain ∷ []) _ (λ by at stops. inl stops)
-          (λ entry is_asked.
+      (λ entry is_asked.
       behind_check why holds (list_all (lets ask.caller want.Search) chain) (reply.Refused errno.EACCES) _
       (λ closed. inl (record { entry = entry; is_asked = is_asked; closed = closed; error_is = refl })) (λ search.
       at_name site state ask wanted refl tt holds (last_of chain) name _ entry is_asked (λ by at stops. inr stops)
@@ -153,12 +164,26 @@ module _ (site : Site) (state : State) (place : ℕ) (ask : Ask) (chain : List E
       → Came site state place ask (finish (op.Walk name)) (Err (no_directory found))
   walk_found name entry is_asked search seen.Gone is = refl
   walk_found name entry is_asked search seen.Missing is =
-      inr (record { entry = entry; is_asked = is_asked; search = search; allowed = tt; found = seen.Missing;
-          is_found = is; denies = refl })
+      inr (record {
+        entry = entry;
+        is_asked = is_asked;
+        search = search;
+        allowed = tt;
+        found = seen.Missing;
+        is_found = is;
+        denies = refl;
+      })
   walk_found name entry is_asked search (seen.Reserved other) is = tt
   walk_found name entry is_asked search (seen.File meta held) is =
-      inr (record { entry = entry; is_asked = is_asked; search = search; allowed = tt; found = seen.File meta held;
-          is_found = is; denies = refl })
+      inr (record {
+        entry = entry;
+        is_asked = is_asked;
+        search = search;
+        allowed = tt;
+        found = seen.File meta held;
+        is_found = is;
+        denies = refl;
+      })
   walk_found name entry is_asked search (seen.Dir dir mode owner group held) is = tt
 
   pub walk_comes : (name : List ℕ) → Came site state place ask (finish (op.Walk name)) (walk site state ask chain name)
@@ -167,7 +192,7 @@ module _ (site : Site) (state : State) (place : ℕ) (ask : Ask) (chain : List E
       let why = Fails site state ask wanted in
       let holds = Did site state place ask wanted in
       at_directory site state ask wanted refl tt holds (last_of chain) (chain ∷ []) _ (λ by at stops. inl stops)
-          (λ entry is_asked.
+      (λ entry is_asked.
       behind_check why holds (list_all (lets ask.caller want.Search) chain) (reply.Refused errno.EACCES) _
       (λ closed. inl (record { entry = entry; is_asked = is_asked; closed = closed; error_is = refl })) (λ search.
       at_name site state ask wanted refl tt holds (last_of chain) name _ entry is_asked (λ by at stops. inr stops)
@@ -180,12 +205,26 @@ module _ (site : Site) (state : State) (place : ℕ) (ask : Ask) (chain : List E
       → Came site state place ask (finish (op.RmdirName name)) (Err (no_directory found))
   none_found name entry is_asked search write seen.Gone is = refl
   none_found name entry is_asked search write seen.Missing is =
-      inr (inr (record { entry = entry; is_asked = is_asked; search = search; allowed = write; found = seen.Missing;
-          is_found = is; denies = refl }))
+      inr (inr (record {
+        entry = entry;
+        is_asked = is_asked;
+        search = search;
+        allowed = write;
+        found = seen.Missing;
+        is_found = is;
+        denies = refl;
+      }))
   none_found name entry is_asked search write (seen.Reserved other) is = tt
   none_found name entry is_asked search write (seen.File meta held) is =
-      inr (inr (record { entry = entry; is_asked = is_asked; search = search; allowed = write;
-          found = seen.File meta held; is_found = is; denies = refl }))
+      inr (inr (record {
+        entry = entry;
+        is_asked = is_asked;
+        search = search;
+        allowed = write;
+        found = seen.File meta held;
+        is_found = is;
+        denies = refl;
+      }))
   none_found name entry is_asked search write (seen.Dir dir mode owner group held) is = tt
 
   pub rmdir_name_comes : (name : List ℕ) → Came site state place ask (finish (op.RmdirName name))
@@ -195,7 +234,7 @@ module _ (site : Site) (state : State) (place : ℕ) (ask : Ask) (chain : List E
       let why = Fails site state ask wanted in
       let holds = Did site state place ask wanted in
       at_directory site state ask wanted refl tt holds (last_of chain) (chain ∷ []) _ (λ by at stops. inl stops)
-          (λ entry is_asked.
+      (λ entry is_asked.
       behind_check why holds (list_all (lets ask.caller want.Search) chain) (reply.Refused errno.EACCES) _
       (λ closed. inl (record { entry = entry; is_asked = is_asked; closed = closed; error_is = refl })) (λ search.
       behind_check why holds (lets ask.caller want.Write entry) (reply.Refused errno.EACCES) _

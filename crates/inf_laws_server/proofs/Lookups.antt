@@ -76,8 +76,12 @@ module _ (site : Site) (state : State) (place : ℕ) (ask : Ask) where
       behind_check why holds (is_here site (root_id site)) reply.Other _ (λ elsewhere. tt) (λ here.
       behind_some why holds state.top reply.Other _ (λ none. tt) (λ top is_top.
       behind_unit why holds (unheld 0 (holder top.held)) _ (top_held top is_top (holder top.held) refl) (λ free.
-      record { passed = record { here = here; top = top; is_top = is_top; free = free }; said = refl; did = refl;
-          succeeds = refl })))
+      record {
+        passed = record { here = here; top = top; is_top = is_top; free = free };
+        said = refl;
+        did = refl;
+        succeeds = refl;
+      })))
 
   -- ---- names
 
@@ -111,8 +115,14 @@ module _ (site : Site) (state : State) (place : ℕ) (ask : Ask) where
         inr (record {
           dir = dir;
           is_taken =
-              record { content = has.content; here = here; there = has.there; slot = slot; found = has.stands;
-              taken = takes };
+              record {
+                content = has.content;
+                here = here;
+                there = has.there;
+                slot = slot;
+                found = has.stands;
+                taken = takes;
+              };
           of_id = of_birth birth (content_of_id id state.contents) has.content has.there;
           spot_is = refl;
         })
@@ -134,7 +144,7 @@ module _ (site : Site) (state : State) (place : ℕ) (ask : Ask) where
     told_comes (Some (reserved by access)) is = taken by (reserved by access) is refl
     told_comes (Some (file meta kept)) is =
         behind_unit why Tells (unheld birth (holder kept)) _ (held (file meta kept) is (holder kept) refl)
-            (λ free. refl)
+        (λ free. refl)
     told_comes (Some (directory access kept)) is =
         behind_unit why Tells (unheld birth (holder kept)) _ (held (directory access kept) is (holder kept) refl)
         (λ free. record { dir = dir; same_id = refl; is_key = refl })
@@ -150,8 +160,15 @@ module _ (site : Site) (state : State) (place : ℕ) (ask : Ask) where
         (told_comes (slot_in name (slots_at dir state.contents)) refl) (λ told is_told tells.
         record {
           passed =
-              record { here = here; dir = dir; of_id = refl; is_born = is_born; free = free; told = told;
-              is_told = is_told };
+              record {
+                here = here;
+                dir = dir;
+                of_id = refl;
+                is_born = is_born;
+                free = free;
+                told = told;
+                is_told = is_told;
+              };
           said = refl;
           did = refl;
           succeeds = tells;

@@ -111,7 +111,7 @@ module _ (site : Site) (state : State) (place : ℕ) (ask : Ask) where
       let holds = Did site state place ask wanted in
       behind_some why holds (last_of (before_last chain)) reply.Other _ (λ none. tt) (λ parent above.
       at_directory site state ask wanted refl tt holds (last_of chain) (chain ∷ []) _ (λ by at stops. inl stops)
-          (λ entry is_asked.
+      (λ entry is_asked.
       behind_check why holds (list_all (lets ask.caller want.Search) (before_last chain)) (reply.Refused errno.EACCES) _
       (λ closed. record {
         parent = parent;
@@ -162,7 +162,7 @@ module _ (site : Site) (state : State) (place : ℕ) (ask : Ask) where
       behind_some why holds (last_of chain) reply.Other _ (λ none. tt) (λ target last.
       behind_some why holds (name_in target.key) reply.Other _ (λ none. tt) (λ name named.
       at_directory site state ask wanted refl tt holds (last_of (before_last chain)) (chain ∷ []) _
-          (λ by at stops. inl stops) (λ entry is_asked.
+      (λ by at stops. inl stops) (λ entry is_asked.
       at_name site state ask wanted refl tt holds (last_of (before_last chain)) name _ entry is_asked
       (λ by at stops. inr (record { target = target; last = last; name = name; named = named; stops = stops }))
       (λ found is_found.
@@ -191,21 +191,33 @@ module _ (site : Site) (state : State) (place : ℕ) (ask : Ask) where
   pub drop_comes : (dir : DirRef) → Came site state place ask (request.Drop dir) (drop_dir site state ask dir)
   drop_comes dir =
       behind_check (Fails site state ask (request.Drop dir)) (Did site state place ask (request.Drop dir))
-          (is_here site dir.id) reply.Other _
-      (λ elsewhere. elsewhere) (λ here. record { passed = record { here = here }; said = refl; did = refl;
-      succeeds = refl })
+      (is_here site dir.id) reply.Other _
+      (λ elsewhere. elsewhere) (λ here. record {
+        passed = record { here = here };
+        said = refl;
+        did = refl;
+        succeeds = refl;
+      })
 
   pub unseal_comes : (dir : DirRef) → Came site state place ask (request.Unseal dir) (unseal site state ask dir)
   unseal_comes dir =
       behind_check (Fails site state ask (request.Unseal dir)) (Did site state place ask (request.Unseal dir))
-          (is_here site dir.id) reply.Other _
-      (λ elsewhere. elsewhere) (λ here. record { passed = record { here = here }; said = refl; did = refl;
-      succeeds = refl })
+      (is_here site dir.id) reply.Other _
+      (λ elsewhere. elsewhere) (λ here. record {
+        passed = record { here = here };
+        said = refl;
+        did = refl;
+        succeeds = refl;
+      })
 
   pub forget_comes : (parent : Id) (dir : DirRef) → Came site state place ask (request.Forget parent dir)
       (forget site state parent dir)
   forget_comes parent dir =
       behind_check (Fails site state ask (request.Forget parent dir))
-          (Did site state place ask (request.Forget parent dir)) (is_here site parent) reply.Other _
-      (λ elsewhere. elsewhere) (λ here. record { passed = record { here = here }; said = refl; did = refl;
-      succeeds = refl })
+      (Did site state place ask (request.Forget parent dir)) (is_here site parent) reply.Other _
+      (λ elsewhere. elsewhere) (λ here. record {
+        passed = record { here = here };
+        said = refl;
+        did = refl;
+        succeeds = refl;
+      })

@@ -126,7 +126,7 @@ pub machine_serves : (site : Site) (old : State) (place : ℕ) (ask : Ask)
     → Serves site old place ask (machine site old place ask).reply (machine site old place ask).state
 machine_serves site old place ask =
     serves_so site old place ask (machine site old place ask).reply (machine site old place ask).state
-        (machine_wants_none site old place ask) refl
+    (machine_wants_none site old place ask) refl
 
 -- ---- what is read off it
 
@@ -153,7 +153,7 @@ module _ (site : Site) (old : State) (place : ℕ) (ask : Ask) (given : Reply) (
       → MayReply site old ask asked said
   may_reply asked said is says =
       subst (λ (r : Reply). MayReply site old ask asked r) says
-          (subst (λ (r : Request). MayReply site old ask r given) is came.replies)
+      (subst (λ (r : Request). MayReply site old ask r given) is came.replies)
 
 -- a failure is told by its row
 module _ (site : Site) (old : State) (ask : Ask) (asked : Request) where
@@ -180,7 +180,7 @@ module _ (site : Site) (old : State) (place : ℕ) (ask : Ask) (given : Reply) (
       → AreInOrder new.contents
   done_in_order asked is ordered =
       subst (λ (s : State). AreInOrder s.contents) (sym is.did)
-          (changed_in_order (change_of site old place ask asked is.passed) old ordered)
+      (changed_in_order (change_of site old place ask asked is.passed) old ordered)
 
   module _ (serves : Serves site old place ask given new) where
     pub served_in_order : AreInOrder old.contents → AreInOrder new.contents
@@ -226,7 +226,7 @@ module _ (site : Site) (old : State) (place : ℕ) (ask : Ask) (asked : Request)
       → IsDone site old place ask asked given new
   always_done given new serves =
       was_done site old place ask given new serves asked known
-          (succeeds_not_fails given asked (by (may_reply site old place ask given new serves asked given known refl)))
+      (succeeds_not_fails given asked (by (may_reply site old place ask given new serves asked given known refl)))
     where
       by : MayReply site old ask asked given → Succeeds given asked
       by (inl succeeds) = succeeds

@@ -87,11 +87,14 @@ pub link_refused : (site : Site) (state : State) (ask : Ask) (chain : List Entry
     → told_link state entry (Some (dir, mode, ask.caller)) ask.from ≡ None
     → link site state ask chain dir mode ≡ Err reply.Other
 link_refused site state ask chain entry dir mode asked told =
-    rw (asked, first_is_none ask.from entry.access.id (Some (dir, mode, ask.caller))
-        (slots_at (dir_of entry.access) state.contents) told) refl
+    rw (
+      asked,
+      first_is_none ask.from entry.access.id (Some (dir, mode, ask.caller))
+          (slots_at (dir_of entry.access) state.contents) told,
+    ) refl
 
 pub nothing_linked : (state : State) (entry : Entry) (link : Link) (by : CallRef) → told_link state entry link by ≡ None
     → filled_at (dir_of entry.access) by link state.contents ≡ state.contents
 nothing_linked state entry link by told =
     nothing_filled (dir_of entry.access) by link state.contents
-        (first_is_none by entry.access.id link (slots_at (dir_of entry.access) state.contents) told)
+    (first_is_none by entry.access.id link (slots_at (dir_of entry.access) state.contents) told)

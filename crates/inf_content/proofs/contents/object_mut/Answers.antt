@@ -16,14 +16,16 @@ pub returns-then-object-dir : goal.returns-then-object-dir
 returns-then-object-dir c =
     let object = c.in-Some.object.now in
     let at : lookup (is_at (id_cmp c.args.dir.now.id)) c.args.by_id.now.entries ≡ Some object = sym c.get_mut.ensures.value ∙ ap option_copied_mut c.in-Some.is in
-    let born : (object.born == c.args.dir.now.born) ≡ true = search rules in
-    ((refl, λ w. ap (λ es. contents_of es) (c.get_mut.follows.holds w).0 ∙ written c.args.dir.now c.args.by_id.now.entries object w at born, refl),
-    record { lends = tt; found = found_so true c.args.dir.now c.args.by_id.now.entries object at born })
+    let born : (object.born == c.args.dir.now.born) ≡ true = search rules in (
+      (refl, λ w. ap (λ es. contents_of es) (c.get_mut.follows.holds w).0 ∙ written c.args.dir.now c.args.by_id.now.entries object w at born, refl),
+      record { lends = tt; found = found_so true c.args.dir.now c.args.by_id.now.entries object at born },
+    )
 
 pub returns-else-object-dir : goal.returns-else-object-dir
 returns-else-object-dir c =
     let object = c.in-Some.object.now in
     let at : lookup (is_at (id_cmp c.args.dir.now.id)) c.args.by_id.now.entries ≡ Some object = sym c.get_mut.ensures.value ∙ ap option_copied_mut c.in-Some.is in
-    let born : (object.born == c.args.dir.now.born) ≡ false = search rules in
-    ((refl, λ w. tt, ap (λ es. contents_of es) (c.get_mut.follows.holds object).0 ∙ written_back c.args.dir.now c.args.by_id.now.entries object at),
-    record { lends = tt; found = found_so false c.args.dir.now c.args.by_id.now.entries object at born })
+    let born : (object.born == c.args.dir.now.born) ≡ false = search rules in (
+      (refl, λ w. tt, ap (λ es. contents_of es) (c.get_mut.follows.holds object).0 ∙ written_back c.args.dir.now c.args.by_id.now.entries object at),
+      record { lends = tt; found = found_so false c.args.dir.now c.args.by_id.now.entries object at born },
+    )

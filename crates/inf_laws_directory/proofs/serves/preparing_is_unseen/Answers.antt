@@ -37,7 +37,7 @@ returns-clause-making c = λ service objects at ask birth done is.
     let id = identity service.digest birth in
     let dir : DirRef = record { id = id; born = at.ask_place } in
     let none : content_in service objects dir ≡ None =
-        content_here service objects at.number done.state dir was_made.passed.here ∙ ap (if_born at.ask_place) was_made.passed.is_new in
+    content_here service objects at.number done.state dir was_made.passed.here ∙ ap (if_born at.ask_place) was_made.passed.is_new in
     unseen_so service objects (with_state at.number done.state objects) dir (Some (empty_content id at.ask_place birth ask.from))
     (made_becomes service objects at.number done.state id at.ask_place birth ask.from was_made.passed.here was_made.passed.is_new (ap (λ (s : State). s.contents) was_made.did))
     (λ there. refl) (λ name. sym (ap (thing_found name) none))

@@ -14,7 +14,7 @@ returns-in_default-clause-refused g c =
     (c.args.chain.now ∷ []) ≡ Ok entry = search rules in
     let told : told_link s.state entry (Some (c.args.linked, c.args.mode, ask.caller)) ask.from ≡ None = search rules in
     link_refused (site_of g.R.IdRule.digest_of s) s.state ask c.args.chain.now entry c.args.linked c.args.mode asked
-        told
+    told
 
 pub returns-in_default-clause-unchanged : goal.returns-in_default-clause-unchanged
 returns-in_default-clause-unchanged g c =
