@@ -51,11 +51,13 @@ with_slots_at dir change contents = changed_at dir (λ (c : Content). record c {
 -- the content objects with one more, in its place by identifier
 abbrev pub placed : Content → List Content → List Content
 placed content [] = content ∷ []
-placed content (c ∷ cs) = match_ordering (id_cmp content.dir.id c.dir.id) (content ∷ c ∷ cs) (content ∷ cs) (c ∷ placed content cs)
+placed content (c ∷ cs) =
+    match_ordering (id_cmp content.dir.id c.dir.id) (content ∷ c ∷ cs) (content ∷ cs) (c ∷ placed content cs)
 
 -- an empty directory
 abbrev pub empty_content : Id → ℕ → Triple → CallRef → Content
-empty_content id born asked by = record { dir = record { id = id; born = born }; triple = asked; maker = by; seal = None; slots = [] }
+empty_content id born asked by =
+    record { dir = record { id = id; born = born }; triple = asked; maker = by; seal = None; slots = [] }
 
 -- the call that sealed it, or else the one that made it
 abbrev pub bearer_or : CallRef → Option CallRef → CallRef

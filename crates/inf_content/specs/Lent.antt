@@ -24,5 +24,6 @@ objects_row = tree.the_row id.the_row the_row global.the_row ord.ghosts eq.ghost
 abbrev pub LendsObject : MutBor (BTreeMap Id Object) → DirRef → Option (MutBor Object) → Fml
 LendsObject objects dir lent =
     LendsSo objects_row the_row objects lent
-    (λ after object. OnSome lent (contents_of after.entries ≡ with_object_at dir object (contents_of objects.now.entries)))
+    (λ after object. OnSome lent (contents_of after.entries
+    ≡ with_object_at dir object (contents_of objects.now.entries)))
     (λ after. contents_of after.entries ≡ contents_of objects.now.entries)

@@ -19,7 +19,8 @@ spare_of name slot = if is_busy slot then None else Some name
 
 -- each slot has the copy that it is to have
 abbrev pub AreSpared : List (List ℕ × Named) → Type 0
-AreSpared entries = (name : List ℕ) (named : Named) → lookup (is_at (slice_cmp nat_cmp name)) entries ≡ Some named → named.spare ≡ spare_of name named.kept
+AreSpared entries = (name : List ℕ) (named : Named) → lookup (is_at (slice_cmp nat_cmp name)) entries ≡ Some named
+    → named.spare ≡ spare_of name named.kept
 
 -- what holds of the slots of a directory as they are kept, and of the list of the busy ones
 pub record AreKept (entries : List (List ℕ × Named)) (busy : Busy) : Type 0 where

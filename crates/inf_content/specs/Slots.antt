@@ -38,7 +38,8 @@ without_slot name slots = remove_entry (is_at (slice_cmp nat_cmp name)) slots
 -- the slots with the one under a name changed
 abbrev pub changed_slot : List ℕ → (Slot → Slot) → List (List ℕ × Slot) → List (List ℕ × Slot)
 changed_slot name change [] = []
-changed_slot name change (e ∷ es) = if is_at (slice_cmp nat_cmp name) e.0 then (e.0, change e.1) ∷ es else e ∷ changed_slot name change es
+changed_slot name change (e ∷ es) =
+    if is_at (slice_cmp nat_cmp name) e.0 then (e.0, change e.1) ∷ es else e ∷ changed_slot name change es
 
 -- the slots with the first one that passes changed
 abbrev pub first_changed : (Slot → Bool) → (Slot → Slot) → List (List ℕ × Slot) → List (List ℕ × Slot)

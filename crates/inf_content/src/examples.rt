@@ -19,7 +19,8 @@ pub fn example_of_making()
     ensures in_order { made_at low_id 3 triple.Root call (made_at high_id 4 triple.Root call [])
         ≡ empty_content low_id 3 triple.Root call ∷ empty_content high_id 4 triple.Root call ∷ [] }
     ensures bearer { made_of triple.Root (content_of_id low_id empty) ≡ made.Bearer call }
-    ensures sealer { made_of triple.Root (content_of_id low_id (sealed_at dir other_call empty)) ≡ made.Bearer other_call }
+    ensures sealer { made_of triple.Root (content_of_id low_id (sealed_at dir other_call empty))
+        ≡ made.Bearer other_call }
     ensures clash { made_of access.birth (content_of_id low_id empty) ≡ made.Clash triple.Root }
     ensures kept { made_at low_id 8 access.birth other_call empty ≡ empty }
 {}
@@ -36,17 +37,20 @@ pub fn example_of_looks()
 /// What was reserved becomes a directory, that of the link if there is one; its place of birth stays.
 pub fn example_of_filling()
     ensures reserved { look dir a (reserved_at dir a call access empty) ≡ seen.Reserved call }
-    ensures filled { filled_at dir call None (reserved_at dir a call access empty) ≡ holding ((a, directory access None) ∷ []) }
+    ensures filled { filled_at dir call None (reserved_at dir a call access empty)
+        ≡ holding ((a, directory access None) ∷ []) }
     ensures at_home { told_of_filled low_id None (first (reserves call) (slots_at dir (reserved_at dir a call access empty)))
         ≡ Some (record { id = high_id; born = 5 }, true) }
     ensures linked { look dir b (filled_at dir call (Some (moved, 0o700, owner)) (reserved_at dir b call access empty))
         ≡ seen.Dir moved 0o700 1 2 None }
-    ensures of_another { filled_at dir other_call None (reserved_at dir a call access empty) ≡ reserved_at dir a call access empty }
+    ensures of_another { filled_at dir other_call None (reserved_at dir a call access empty)
+        ≡ reserved_at dir a call access empty }
 {}
 
 /// A hold ends with the mode that was kept, is lifted, or ends with the slot.
 pub fn example_of_holds()
-    ensures held { held_at dir a call (Some 0o600) (holding ((a, file meta None) ∷ [])) ≡ holding ((a, changing_file call 0o600) ∷ []) }
+    ensures held { held_at dir a call (Some 0o600) (holding ((a, file meta None) ∷ []))
+        ≡ holding ((a, changing_file call 0o600) ∷ []) }
     ensures settled { settled_at dir call (holding ((a, changing_file call 0o600) ∷ []))
         ≡ holding ((a, file (record meta { mode = 0o600 }) None) ∷ []) }
     ensures lifted { lifted_at dir call (holding ((a, held_file call) ∷ (b, reserved call access) ∷ []))
@@ -73,7 +77,8 @@ pub fn example_of_seals()
 
 /// What calls hold or reserve is listed by name; a name is listed once, in its place.
 pub fn example_of_busy_names()
-    ensures listed { busy_names ((a, held_file call) ∷ (b, file meta None) ∷ (c, reserved call access) ∷ []) ≡ a ∷ c ∷ [] }
+    ensures listed { busy_names ((a, held_file call) ∷ (b, file meta None) ∷ (c, reserved call access) ∷ [])
+        ≡ a ∷ c ∷ [] }
     ensures added { with_name b (a ∷ c ∷ []) ≡ a ∷ b ∷ c ∷ [] }
     ensures once { with_name c (a ∷ c ∷ []) ≡ a ∷ c ∷ [] }
     ensures removed { without_name a (a ∷ c ∷ []) ≡ c ∷ [] }

@@ -46,7 +46,8 @@ standing world rule h number = record {
 }
 
 -- the first so many servers by number, each as these events leave it
-pub record AreStanding {R : Type 0} (world : World) (rule : R) (h : List Event) (many : ℕ) (servers : List (Standing R)) : Type 0 where
+pub record AreStanding {R : Type 0} (world : World) (rule : R) (h : List Event) (many : ℕ)
+    (servers : List (Standing R)) : Type 0 where
   pub count : length servers ≡ many
   pub each : (number : ℕ) → number < many → slice_get servers number ≡ Some (standing world rule h number)
 
@@ -56,7 +57,8 @@ pub record AreFlags (h : List Event) (served : List Bool) : Type 0 where
   pub each : (index : ℕ) → index < length h → slice_get served index ≡ Some (is_served (suc index) h)
 
 -- the history is legal, and what is kept beside it is what it comes to
-pub record IsKept {R : Type 0} (world : World) (rule : R) (servers : List (Standing R)) (h : List Event) (served : List Bool) : Type 0 where
+pub record IsKept {R : Type 0} (world : World) (rule : R) (servers : List (Standing R)) (h : List Event)
+    (served : List Bool) : Type 0 where
   pub some_servers : 1 ≤ world.setup.servers
   pub legal : Legal world h
   -- the coordinator is the last
@@ -64,7 +66,8 @@ pub record IsKept {R : Type 0} (world : World) (rule : R) (servers : List (Stand
   pub flags : AreFlags h served
 
 -- one server has served an Ask, and the others are as they were
-pub record IsServedBy {R : Type 0} (digest_of : R → List ℕ → Id) (old new : List (Standing R)) (server : Standing R) (ask_place : ℕ) (ask : Ask) (given : Reply) : Type 0 where
+pub record IsServedBy {R : Type 0} (digest_of : R → List ℕ → Id) (old new : List (Standing R)) (server : Standing R)
+    (ask_place : ℕ) (ask : Ask) (given : Reply) : Type 0 where
   pub after : Standing R
   pub put : new ≡ slice_set old server.number after
   pub serves : Serves (site_of digest_of server) server.state ask_place ask given after.state

@@ -41,7 +41,8 @@ world = record {
     servers = 2;
     digest_bytes = 32;
     cache = 256;
-    clients = line (codes "a") (call.Create (codes "/f") 0o644 ∷ []) ∷ line (codes "b") (call.Stat (codes "/f") ∷ []) ∷ [];
+    clients =
+        line (codes "a") (call.Create (codes "/f") 0o644 ∷ []) ∷ line (codes "b") (call.Stat (codes "/f") ∷ []) ∷ [];
   };
   digest = λ message. zero_id;
 }
@@ -123,7 +124,9 @@ abbrev pub decided : Call → Answer → Decided
 decided asked given = record { caller = root_caller; call = asked; answer = given }
 
 abbrev pub decided_calls : List Decided
-decided_calls = decided (call.Stat (codes "/f")) (answer.Refused errno.ENOENT) ∷ decided (call.Create (codes "/f") 0o644) answer.Done ∷ []
+decided_calls =
+    decided (call.Stat (codes "/f")) (answer.Refused errno.ENOENT)
+    ∷ decided (call.Create (codes "/f") 0o644) answer.Done ∷ []
 
 -- ---- half a round
 

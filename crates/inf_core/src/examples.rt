@@ -49,7 +49,8 @@ pub fn replies()
 pub fn outcomes()
     ensures results { results_of (client_after example.world 0 example.history)
         ++ results_of (client_after example.world 1 example.history) ≡ example.results }
-    ensures unanswered { results_of (client_after example.world 1 (example.first_events 6)) ≡ example.unanswered_stat ∷ [] }
+    ensures unanswered { results_of (client_after example.world 1 (example.first_events 6))
+        ≡ example.unanswered_stat ∷ [] }
     ensures order { decisions example.world example.history example.results ≡ example.decided_calls }
     ensures by_serves { decided_in example.world example.history ≡ example.decided_calls }
     ensures replays { Replays opening_tree example.decided_calls }

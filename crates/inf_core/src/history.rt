@@ -125,7 +125,8 @@ impl<R: IdRule> Core<R> {
         requires asked { IsSome (asked_at ask_place self.old.history) }
         requires waits { is_served ask_place self.old.history ≡ false }
         ensures place { IfOk result (λ r. r.0 ≡ suc (length self.old.history)) }
-        ensures served { IfOk result (λ r. IsServedNext (world_in R.digest_of self.old) self.old.history self.new.history
+        ensures served { IfOk result (λ r.
+            IsServedNext (world_in R.digest_of self.old) self.old.history self.new.history
             ask_place r.1) }
         ensures legal { Legal (world_in R.digest_of self.new) self.new.history }
         ensures replays { AllReplay (world_in R.digest_of self.new) self.new.history }

@@ -21,7 +21,8 @@ pub data Next : Type 0 where
   is_over : Next
 
 abbrev pub next_of : ClientState → Option Message → Next
-next_of s (Some message) = asks message.number (record { from = call_ref s; caller = s.who.caller; request = message.request })
+next_of s (Some message) =
+    asks message.number (record { from = call_ref s; caller = s.who.caller; request = message.request })
 next_of s None = waits
 
 abbrev pub next_in : ClientState → List Call → Next

@@ -33,7 +33,8 @@ abbrev pub entry_of : Key → Access → Entry
 entry_of k access = record { key = k; access = access; stamp = 2 }
 
 abbrev pub root_entry : Entry
-root_entry = entry_of key.Top (record { id = zero_id; born = 0; mode = 0o755; owner = 0; group = 0; birth = triple.Root })
+root_entry =
+    entry_of key.Top (record { id = zero_id; born = 0; mode = 0o755; owner = 0; group = 0; birth = triple.Root })
 
 abbrev pub birth_of_a : Triple
 birth_of_a = triple.Of zero_id (codes "a") 0
@@ -104,7 +105,8 @@ told_root = answered 1 3 (reply.Found key.Top root_entry.access)
 
 -- and `a` at 4, as a name of the root that was born then
 abbrev pub told_a : ℕ → Sent
-told_a born = answered 2 4 (reply.Found (key.At (record { id = zero_id; born = born }) (codes "a")) (a_entry birth_of_a).access)
+told_a born =
+    answered 2 4 (reply.Found (key.At (record { id = zero_id; born = born }) (codes "a")) (a_entry birth_of_a).access)
 
 abbrev pub a_told : Entry
 a_told = record (a_entry birth_of_a) { stamp = 4 }

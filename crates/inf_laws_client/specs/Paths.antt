@@ -106,7 +106,8 @@ FlowFollows (asked ∷ calls) flow = Follows asked flow
 -- a round looks up the path of the call under way, and a flow stands on it; nothing is asked before a round is composed
 abbrev pub StandsOnPath : (List ℕ → Id) → Who → List Call → Stage → List Sent → Type 0
 StandsOnPath digest who calls compose sent = sent ≡ []
-StandsOnPath digest who calls (round keys) sent = (keys_of digest who (next_course calls) ≡ round keys) × AreToldFor keys sent
+StandsOnPath digest who calls (round keys) sent =
+    (keys_of digest who (next_course calls) ≡ round keys) × AreToldFor keys sent
 StandsOnPath digest who calls (act flow) sent = FlowFollows calls flow
 StandsOnPath digest who calls (winds ending m ms) sent = Unit {0}
 

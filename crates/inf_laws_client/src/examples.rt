@@ -16,7 +16,8 @@ ghost use Rattle.inf_laws_client.specs.Run.{alone, digest, ended_at, opening_run
 
 /// A directory is made, gets a file, and cannot be removed; an empty one is removed, and leaves nothing behind.
 pub fn example_of_whole_lives()
-    ensures full { shows 40 (call.Mkdir (codes "/a") 0o755 ∷ call.Create (codes "/a/f") 0o644 ∷ call.Rmdir (codes "/a") ∷ [])
+    ensures full { shows 40 (call.Mkdir (codes "/a") 0o755 ∷ call.Create (codes "/a/f") 0o644
+        ∷ call.Rmdir (codes "/a") ∷ [])
         ≡ ended_at answer.Done 8 1 8 4 ∷ ended_at answer.Done 14 9 14 3 ∷ ended_at (answer.Refused errno.ENOTEMPTY) 20 15 20 3 ∷ [] }
     ensures empty { shows 40 (call.Mkdir (codes "/a") 0o755 ∷ call.Rmdir (codes "/a") ∷ [])
         ≡ ended_at answer.Done 8 1 8 4 ∷ ended_at answer.Done 16 9 18 5 ∷ [] }
@@ -42,7 +43,8 @@ pub fn example_of_paths()
 
 /// Two directories whose identifiers are equal: the second is not made, and its name is free again.
 pub fn example_of_clashes()
-    ensures clash { shows 40 (call.Mkdir (codes "/xa") 0o755 ∷ call.Mkdir (codes "/ya") 0o755 ∷ call.Stat (codes "/ya") ∷ [])
+    ensures clash { shows 40 (call.Mkdir (codes "/xa") 0o755 ∷ call.Mkdir (codes "/ya") 0o755
+        ∷ call.Stat (codes "/ya") ∷ [])
         ≡ ended_at answer.Done 8 1 8 4
         ∷ ended_at (answer.IdClash (triple.Of zero_id (codes "ya") 0) (triple.Of zero_id (codes "xa") 0)) 14 9 16 4
         ∷ ended_at (answer.Refused errno.ENOENT) 20 17 20 2 ∷ [] }
@@ -59,7 +61,8 @@ pub fn example_of_clean_ups()
 
 /// A client that wants memory before it makes the content object takes back the name instead.
 pub fn example_of_wanting_memory()
-    ensures { next_step (begun digest (making cancel.request) [] the_maker) ≡ asks cancel.number (making cancel.request) }
+    ensures { next_step (begun digest (making cancel.request) [] the_maker)
+        ≡ asks cancel.number (making cancel.request) }
 {}
 
 /// What comes of the answers to a round of two lookups: a name is followed where it links to the directory before it; a

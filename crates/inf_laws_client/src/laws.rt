@@ -28,7 +28,8 @@ ghost use Rattle.inf_laws_directory.specs.Told.{IsToldAs};
 /// A client knows what it was told, and links it into chains from the root on; `proofs/` says the same of whatever is
 /// true of all that is told.
 pub fn clients_know_what_they_were_told()
-    ensures start { (tellings : List Telling) (who : Who) (calls : List Call) → KnowsOnly (IsAmong tellings) (idle who calls) }
+    ensures start { (tellings : List Telling) (who : Who) (calls : List Call)
+        → KnowsOnly (IsAmong tellings) (idle who calls) }
     ensures composing { (digest : List ℕ → Id) (tellings : List Telling) (s : ClientState)
         → KnowsOnly (IsAmong tellings) s → KnowsOnly (IsAmong tellings) (composed digest s) }
     ensures giving_up { (tellings : List Telling) (s : ClientState)
@@ -36,7 +37,8 @@ pub fn clients_know_what_they_were_told()
     ensures beginning { (digest : List ℕ → Id) (tellings : List Telling) (s : ClientState) (ask : Ask)
         → KnowsOnly (IsAmong tellings) s → KnowsOnly (IsAmong tellings) (begun digest ask s.sent s) }
     ensures asking { (tellings : List Telling) (s : ClientState) (place number : ℕ) (ask : Ask)
-        → KnowsOnly (IsAmong tellings) s → next_step s ≡ asks number ask → KnowsOnly (IsAmong tellings) (placed place s) }
+        → KnowsOnly (IsAmong tellings) s → next_step s ≡ asks number ask
+        → KnowsOnly (IsAmong tellings) (placed place s) }
     ensures telling { (digest : List ℕ → Id) (tellings : List Telling) (s : ClientState) (place : ℕ) (told : Told)
         → KnowsOnly (IsAmong tellings) s → TellsOnly (IsAmong tellings) told.reply
         → AnswersTop s.stage s.sent place told.reply → KnowsOnly (IsAmong tellings) (served digest place told s) }
@@ -54,29 +56,36 @@ pub fn what_is_sent_was_told()
 
 /// A flow stands on the path of its call, where each lookup of a name is told under that name.
 pub fn flows_follow_paths()
-    ensures rounds { (digest : List ℕ → Id) (who : Who) (asked : Call) (course : Course) (sent : List Sent) → course_of asked ≡ Some course
+    ensures rounds { (digest : List ℕ → Id) (who : Who) (asked : Call) (course : Course) (sent : List Sent)
+        → course_of asked ≡ Some course
         → AreToldFor (look.Top ∷ keys_along digest who.root course.looked) sent
         → TurnFollows asked (after_round (Some course) sent) }
-    ensures acts { (digest : List ℕ → Id) (who : Who) (asked : Call) (flow : Flow) (ask_place place : ℕ) (reply : Reply) → Follows asked flow
+    ensures acts { (digest : List ℕ → Id) (who : Who) (asked : Call) (flow : Flow) (ask_place place : ℕ) (reply : Reply)
+        → Follows asked flow
         → TurnFollows asked (after_act digest who flow ask_place place reply) }
 {}
 
 /// A client keeps to the path of the call under way, where each lookup of a name is told under that name.
 pub fn clients_keep_to_paths()
     ensures start { (digest : List ℕ → Id) (who : Who) (calls : List Call) → KeepsToPath digest (idle who calls) }
-    ensures composing { (digest : List ℕ → Id) (s : ClientState) → KeepsToPath digest s → KeepsToPath digest (composed digest s) }
-    ensures giving_up { (digest : List ℕ → Id) (s : ClientState) → KeepsToPath digest s → KeepsToPath digest (given_up s) }
-    ensures beginning { (digest : List ℕ → Id) (s : ClientState) (ask : Ask) → KeepsToPath digest s → KeepsToPath digest (begun digest ask s.sent s) }
+    ensures composing { (digest : List ℕ → Id) (s : ClientState) → KeepsToPath digest s
+        → KeepsToPath digest (composed digest s) }
+    ensures giving_up { (digest : List ℕ → Id) (s : ClientState) → KeepsToPath digest s
+        → KeepsToPath digest (given_up s) }
+    ensures beginning { (digest : List ℕ → Id) (s : ClientState) (ask : Ask) → KeepsToPath digest s
+        → KeepsToPath digest (begun digest ask s.sent s) }
     ensures asking { (digest : List ℕ → Id) (s : ClientState) (place number : ℕ) (ask : Ask)
         → KeepsToPath digest s → next_step s ≡ asks number ask → KeepsToPath digest (placed place s) }
     ensures telling { (digest : List ℕ → Id) (s : ClientState) (place : ℕ) (told : Told)
-        → KeepsToPath digest s → AnswersLookup s.stage s.sent place told.reply → KeepsToPath digest (served digest place told s) }
+        → KeepsToPath digest s → AnswersLookup s.stage s.sent place told.reply
+        → KeepsToPath digest (served digest place told s) }
 {}
 
 /// A client asks the messages of its group in their order, so that what answers what was asked at a place answers the
 /// client's lookup there.
 pub fn clients_ask_their_groups()
-    ensures start { (postings : List Posting) (who : Who) (calls : List Call) → AsksItsGroup (WasAsked postings) (idle who calls) }
+    ensures start { (postings : List Posting) (who : Who) (calls : List Call)
+        → AsksItsGroup (WasAsked postings) (idle who calls) }
     ensures composing { (digest : List ℕ → Id) (postings : List Posting) (s : ClientState)
         → AsksItsGroup (WasAsked postings) s → AsksItsGroup (WasAsked postings) (composed digest s) }
     ensures giving_up { (postings : List Posting) (s : ClientState)

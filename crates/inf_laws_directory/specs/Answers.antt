@@ -35,7 +35,8 @@ if_free standing after = check (is_none standing) errno.EEXIST >> Ok after
 -- what is told of what stands there; a directory has length 0
 abbrev pub told_of : Thing → Answer
 told_of (a_file meta) = answer.Stat kind.File meta
-told_of (a_dir access) = answer.Stat kind.Dir (record { mode = access.mode; owner = access.owner; group = access.group; length = 0 })
+told_of (a_dir access) =
+    answer.Stat kind.Dir (record { mode = access.mode; owner = access.owner; group = access.group; length = 0 })
 
 -- what is told of what may stand under a name of the last directory of the chain
 abbrev pub told_along : Caller → List Entry → Option Thing → Result Answer Errno

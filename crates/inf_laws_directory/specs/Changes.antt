@@ -17,7 +17,8 @@ pub record LooksAsBefore (old new : Directories) (dir : DirRef) : Type 0 where
 
 -- each directory that a path leads to looks as before
 abbrev pub LooksSame : Directories → Directories → Access → Type 0
-LooksSame old new root = (path : List (List ℕ)) (access : Access) → Reaches old root path access → LooksAsBefore old new (dir_of access)
+LooksSame old new root = (path : List (List ℕ)) (access : Access) → Reaches old root path access
+    → LooksAsBefore old new (dir_of access)
 
 -- no content object goes
 abbrev pub AllStay : Directories → Directories → Type 0
@@ -29,7 +30,8 @@ IsEmpty dirs dir = (name : List ℕ) → thing_under name dir dirs ≡ None
 
 -- no path leads to the directory
 abbrev pub IsUnreached : Directories → Access → DirRef → Type 0
-IsUnreached dirs root dir = (path : List (List ℕ)) (access : Access) → Reaches dirs root path access → dir_of access ≡ dir → ⊥
+IsUnreached dirs root dir = (path : List (List ℕ)) (access : Access) → Reaches dirs root path access
+    → dir_of access ≡ dir → ⊥
 
 -- a thing comes under a free name of a directory, and all others stay
 pub record Puts (old new : Directories) (dir : DirRef) (name : List ℕ) (thing : Thing) : Type 0 where

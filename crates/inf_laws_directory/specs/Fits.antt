@@ -20,7 +20,8 @@ use Rattle.inf_laws_directory.specs.Phases.{Phase, has_made, has_reserved, has_s
 -- a reservation that was made, where the chain has a last entry
 abbrev pub reserved_at_end : Option Entry → Phase → List ℕ → ℕ → Phase
 reserved_at_end None phase name version = phase
-reserved_at_end (Some last) phase name version = has_reserved (dir_of last.access) name (triple.Of last.access.id name version)
+reserved_at_end (Some last) phase name version =
+    has_reserved (dir_of last.access) name (triple.Of last.access.id name version)
 
 -- a seal that was set on the directory that ends the chain, behind the one before it
 abbrev pub sealed_under : Option Entry → Phase → Key → Access → Phase

@@ -24,13 +24,15 @@ use Rattle.inf_laws_directory.specs.Replays.{IsPathOf, IsRefused, MayWrite}
 use Rattle.inf_laws_directory.specs.Standing.{Decides, GoesOnOlder, IsToldAlong}
 
 -- the chain was told, and leads to the directory in which the last name of the path is
-pub record IsAimed (service : Service) (objects : Objects) (root : Access) (phases : Phases) (text name : List ℕ) (chain : List Entry) : Type 0 where
+pub record IsAimed (service : Service) (objects : Objects) (root : Access) (phases : Phases) (text name : List ℕ)
+    (chain : List Entry) : Type 0 where
   pub path : List (List ℕ)
   pub told : IsToldAlong service objects root phases path chain
   pub names : IsPathOf text path name
 
 -- the same, of a name behind which the path goes on
-pub record IsStopped (service : Service) (objects : Objects) (root : Access) (phases : Phases) (asked : Call) (name : List ℕ) (chain : List Entry) : Type 0 where
+pub record IsStopped (service : Service) (objects : Objects) (root : Access) (phases : Phases) (asked : Call)
+    (name : List ℕ) (chain : List Entry) : Type 0 where
   pub text : List ℕ
   pub path : List (List ℕ)
   pub next : List ℕ
@@ -40,7 +42,8 @@ pub record IsStopped (service : Service) (objects : Objects) (root : Access) (ph
   pub names : path_of text ≡ Ok (path ++ name ∷ next ∷ rest)
 
 -- the chain was told, and leads to the directory itself
-pub record IsAimedAt (service : Service) (objects : Objects) (root : Access) (phases : Phases) (text : List ℕ) (chain : List Entry) : Type 0 where
+pub record IsAimedAt (service : Service) (objects : Objects) (root : Access) (phases : Phases) (text : List ℕ)
+    (chain : List Entry) : Type 0 where
   pub path : List (List ℕ)
   pub name : List ℕ
   pub told : IsToldAlong service objects root phases (path ++ name ∷ []) chain
@@ -56,18 +59,23 @@ pub record MayWriteAt (caller : Caller) (chain : List Entry) : Type 0 where
 abbrev pub AimsWith : Service → Objects → Access → Phases → Call → List Entry → Op → Type 0
 AimsWith service objects root phases (call.Create text mode) chain (op.Create name asked) =
     (asked ≡ mode) × IsAimed service objects root phases text name chain
-AimsWith service objects root phases (call.Stat text) chain (op.Stat name) = IsAimed service objects root phases text name chain
-AimsWith service objects root phases (call.Rmdir text) chain (op.RmdirName name) = IsAimed service objects root phases text name chain
+AimsWith service objects root phases (call.Stat text) chain (op.Stat name) =
+    IsAimed service objects root phases text name chain
+AimsWith service objects root phases (call.Rmdir text) chain (op.RmdirName name) =
+    IsAimed service objects root phases text name chain
 AimsWith service objects root phases asked chain (op.Walk name) = IsStopped service objects root phases asked name chain
 AimsWith service objects root phases asked chain any_op = ⊥
 
 -- the request is made for the call; what permission a link or an unlink rests on, an earlier request asked for
 abbrev pub Aims : Service → Objects → Access → Phases → Caller → Call → Request → Type 0
-Aims service objects root phases caller asked (request.Finish chain with) = AimsWith service objects root phases asked chain with
-Aims service objects root phases caller (call.Mkdir text mode) (request.Reserve chain name) = IsAimed service objects root phases text name chain
+Aims service objects root phases caller asked (request.Finish chain with) =
+    AimsWith service objects root phases asked chain with
+Aims service objects root phases caller (call.Mkdir text mode) (request.Reserve chain name) =
+    IsAimed service objects root phases text name chain
 Aims service objects root phases caller (call.Mkdir text mode) (request.Link chain name dir asked) =
     (asked ≡ mode) × IsAimed service objects root phases text name chain × MayWriteAt caller chain
-Aims service objects root phases caller (call.Rmdir text) (request.Seal chain) = IsAimedAt service objects root phases text chain
+Aims service objects root phases caller (call.Rmdir text) (request.Seal chain) =
+    IsAimedAt service objects root phases text chain
 Aims service objects root phases caller (call.Rmdir text) (request.Unlink chain) =
     IsAimedAt service objects root phases text chain × MayWriteAt caller (before_last chain)
 Aims service objects root phases caller asked (request.Lookup k) = Unit {0}

@@ -20,10 +20,12 @@ Links dirs parent name access = thing_under name parent dirs ≡ Some (a_dir acc
 
 -- no directory has a link to it
 abbrev pub IsUnlinked : Directories → DirRef → Type 0
-IsUnlinked dirs dir = (parent : DirRef) (name : List ℕ) (access : Access) → Links dirs parent name access → dir_of access ≡ dir → ⊥
+IsUnlinked dirs dir = (parent : DirRef) (name : List ℕ) (access : Access) → Links dirs parent name access
+    → dir_of access ≡ dir → ⊥
 
 -- the name is kept for the call, with the access object of a directory of this birth
-pub record KeepsName (service : Service) (objects : Objects) (call : CallRef) (parent : DirRef) (name : List ℕ) (birth : Triple) : Type 0 where
+pub record KeepsName (service : Service) (objects : Objects) (call : CallRef) (parent : DirRef) (name : List ℕ)
+    (birth : Triple) : Type 0 where
   pub access : Access
   pub slot : slot_in name (slots_kept service objects parent) ≡ Some (reserved call access)
   pub birth_kept : access.birth ≡ birth
@@ -36,7 +38,8 @@ pub record KeepsSealed (service : Service) (objects : Objects) (call : CallRef) 
   pub slots : content.slots ≡ []
 
 -- the directory stands under this name
-pub record StandsUnder (service : Service) (objects : Objects) (parent : DirRef) (name : List ℕ) (target : DirRef) : Type 0 where
+pub record StandsUnder (service : Service) (objects : Objects) (parent : DirRef) (name : List ℕ)
+    (target : DirRef) : Type 0 where
   pub access : Access
   pub linked : Links (content_in service objects) parent name access
   pub same : dir_of access ≡ target
@@ -90,7 +93,8 @@ pub record AreOwned (service : Service) (objects : Objects) (root : Access) (pha
   -- the root, and each directory that stands somewhere, has its content object
   pub root_kept : is_some (content_in service objects (dir_of root)) ≡ true
   pub linked_kept : (parent : DirRef) (name : List ℕ) (access : Access)
-      → Links (content_in service objects) parent name access → is_some (content_in service objects (dir_of access)) ≡ true
+      → Links (content_in service objects) parent name access
+      → is_some (content_in service objects (dir_of access)) ≡ true
   pub placed : (dir : DirRef) → is_some (content_in service objects dir) ≡ true
       → HasPlace (content_in service objects) root phases dir
   -- a directory stands at one place at most, and the root stands at none

@@ -19,7 +19,8 @@ use Rattle.inf_laws_directory.specs.Stands.{Stands}
 use Rattle.inf_laws_directory.specs.Things.{Directories}
 
 -- the directories stand for the tree, and the chain leads along the path to its last entry
-pub record IsAt (dirs : Directories) (root : Access) (tree : Node) (path : List (List ℕ)) (chain : List Entry) (last : Entry) : Type 0 where
+pub record IsAt (dirs : Directories) (root : Access) (tree : Node) (path : List (List ℕ)) (chain : List Entry)
+    (last : Entry) : Type 0 where
   pub sorted : IsTree tree
   pub stands : Stands dirs root tree
   pub leads : Leads dirs root path chain
@@ -39,6 +40,7 @@ abbrev pub IsRefused : Node → Caller → Call → Errno → Type 0
 IsRefused tree caller asked error = apply tree caller asked ≡ record { answer = answer.Refused error; tree = tree }
 
 -- the call has this answer, and what stands then stands for the tree after it
-pub record Answers (tree : Node) (caller : Caller) (asked : Call) (given : Answer) (root : Access) (new : Directories) : Type 0 where
+pub record Answers (tree : Node) (caller : Caller) (asked : Call) (given : Answer) (root : Access)
+    (new : Directories) : Type 0 where
   pub answered : (apply tree caller asked).answer ≡ given
   pub stands : Stands new root (apply tree caller asked).tree

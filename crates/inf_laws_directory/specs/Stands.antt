@@ -43,7 +43,8 @@ Shows dirs root tree = (path : List (List ℕ))
 
 -- each directory that a path leads to has its content object: one without shows as an empty one does, but is none
 abbrev pub AreThere : Directories → Access → Type 0
-AreThere dirs root = (path : List (List ℕ)) (access : Access) → Reaches dirs root path access → HasContent dirs (dir_of access)
+AreThere dirs root = (path : List (List ℕ)) (access : Access) → Reaches dirs root path access
+    → HasContent dirs (dir_of access)
 
 pub record Stands (dirs : Directories) (root : Access) (tree : Node) : Type 0 where
   pub shows : Shows dirs root tree

@@ -9,10 +9,12 @@ use Rattle.inf_laws_directory.specs.Told.{IsToldAs}
 
 pub record Keeps (service : Service) (old new : Objects) (root : Access) (before after : Phases) : Type 0 where
   pub owned : AreOwned service new root after
-  pub told : (key : Key) (access : Access) → IsToldAs service old root before key access → IsToldAs service new root after key access
+  pub told : (key : Key) (access : Access) → IsToldAs service old root before key access
+      → IsToldAs service new root after key access
 
 -- the same, where entries of this birth were told to nobody yet
-pub record KeepsOlder (service : Service) (place : ℕ) (old new : Objects) (root : Access) (before after : Phases) : Type 0 where
+pub record KeepsOlder (service : Service) (place : ℕ) (old new : Objects) (root : Access)
+    (before after : Phases) : Type 0 where
   pub owned : AreOwned service new root after
   pub told : (key : Key) (access : Access) → (access.born ≡ place → ⊥)
       → IsToldAs service old root before key access → IsToldAs service new root after key access

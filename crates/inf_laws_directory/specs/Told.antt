@@ -31,7 +31,8 @@ IsTold service objects root phases entry = IsToldAs service objects root phases 
 
 abbrev pub AreTold : Service → Objects → Access → Phases → List Entry → Type 0
 AreTold service objects root phases [] = Unit {0}
-AreTold service objects root phases (e ∷ es) = IsTold service objects root phases e × AreTold service objects root phases es
+AreTold service objects root phases (e ∷ es) =
+    IsTold service objects root phases e × AreTold service objects root phases es
 
 -- the entries link: the key of each is a name of the directory before it
 abbrev pub LinkFrom : Access → List (List ℕ) → List Entry → Type 0

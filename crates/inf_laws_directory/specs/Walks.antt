@@ -17,9 +17,11 @@ use Rattle.inf_laws_directory.specs.Things.{Directories, thing_under}
 
 -- the walk comes to the directory of this access object, where each entry of the chain lets the caller search; it shows
 -- there what stands in the servers' directory
-pub record ComesTo (dirs : Directories) (tree : Node) (caller : Caller) (path : List (List ℕ)) (chain : List Entry) (access : Access) : Type 0 where
+pub record ComesTo (dirs : Directories) (tree : Node) (caller : Caller) (path : List (List ℕ)) (chain : List Entry)
+    (access : Access) : Type 0 where
   pub entries : Entries
   pub stands : node_at path (Some tree) ≡ Some (dir (meta_of access) entries)
   pub walked : (name : List ℕ) → parent_of tree caller (record { directory = path; name = name })
       ≡ (check (list_all (lets caller want.Search) chain) errno.EACCES >> Ok (record { meta = meta_of access; entries = entries }))
-  pub shows : (name : List ℕ) → option_map shown_node (found name entries) ≡ option_map shown_thing (thing_under name (dir_of access) dirs)
+  pub shows : (name : List ℕ) → option_map shown_node (found name entries)
+      ≡ option_map shown_thing (thing_under name (dir_of access) dirs)

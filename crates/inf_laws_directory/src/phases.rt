@@ -62,7 +62,8 @@ pub fn reserving_keeps()
         (path : List (List ℕ)) (chain : List Entry) (last : Entry) (name : List ℕ) (done : Response)
         → AreOwned service objects root phases → phases ask.from ≡ idle
         → Leads (shown_of service objects phases) root path chain → last_of chain ≡ Some last
-        → reserve (site_in service number) (objects number) ask chain name ≡ Ok done → done.reply ≡ reply.Reserved version
+        → reserve (site_in service number) (objects number) ask chain name ≡ Ok done
+        → done.reply ≡ reply.Reserved version
         → Keeps service objects (with_state number done.state objects) root phases
         (with_phase ask.from (has_reserved (dir_of last.access) name (triple.Of last.access.id name version)) phases) }
 {}
@@ -97,7 +98,8 @@ pub fn undoing_keeps()
         → drop_dir (site_in service number) (objects number) ask made ≡ Ok done
         → Keeps service objects (with_state number done.state objects) root phases
         (with_phase ask.from (has_reserved parent name birth) phases) }
-    ensures cancelled { (service : Service) (objects : Objects) (number : ℕ) (root : Access) (phases : Phases) (ask : Ask)
+    ensures cancelled { (service : Service) (objects : Objects) (number : ℕ) (root : Access)
+        (phases : Phases) (ask : Ask)
         (parent : DirRef) (name : List ℕ) (birth : Triple) (done : Response)
         → AreOwned service objects root phases → phases ask.from ≡ has_reserved parent name birth
         → cancel (site_in service number) (objects number) ask parent ≡ Ok done
@@ -135,13 +137,16 @@ pub fn ending_keeps()
         → AreOwned service objects root phases → phases ask.from ≡ has_unlinked target
         → drop_dir (site_in service number) (objects number) ask target ≡ Ok done
         → Keeps service objects (with_state number done.state objects) root phases (with_phase ask.from idle phases) }
-    ensures unsealed { (service : Service) (objects : Objects) (number : ℕ) (root : Access) (phases : Phases) (ask : Ask)
+    ensures unsealed { (service : Service) (objects : Objects) (number : ℕ) (root : Access)
+        (phases : Phases) (ask : Ask)
         (parent target : DirRef) (name : List ℕ) (done : Response)
         → AreOwned service objects root phases → phases ask.from ≡ has_sealed parent name target
         → unseal (site_in service number) (objects number) ask target ≡ Ok done
         → Keeps service objects (with_state number done.state objects) root phases (with_phase ask.from idle phases) }
-    ensures forgotten { (service : Service) (objects : Objects) (number : ℕ) (root : Access) (phases : Phases) (ask : Ask)
+    ensures forgotten { (service : Service) (objects : Objects) (number : ℕ) (root : Access)
+        (phases : Phases) (ask : Ask)
         (parent : Id) (target : DirRef) (done : Response)
-        → AreOwned service objects root phases → forget (site_in service number) (objects number) parent target ≡ Ok done
+        → AreOwned service objects root phases
+        → forget (site_in service number) (objects number) parent target ≡ Ok done
         → Keeps service objects (with_state number done.state objects) root phases phases }
 {}

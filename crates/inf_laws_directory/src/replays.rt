@@ -76,25 +76,29 @@ pub fn walks_replay()
     ensures creates { (service : Service) (objects : Objects) (number : ℕ) (root : Access) (tree : Node)
         (phases : Phases) (ask : Ask) (text : List ℕ) (path rest : List (List ℕ)) (name next : List ℕ) (mode : ℕ)
         (chain : List Entry) (last : Entry) (error : Errno)
-        → IsAt (shown_of service objects phases) root tree path chain last → path_of text ≡ Ok (path ++ name ∷ next ∷ rest)
+        → IsAt (shown_of service objects phases) root tree path chain last
+        → path_of text ≡ Ok (path ++ name ∷ next ∷ rest)
         → walk (site_in service number) (objects number) ask chain name ≡ Err (reply.Refused error)
         → IsRefused tree ask.caller (call.Create text mode) error }
     ensures stats { (service : Service) (objects : Objects) (number : ℕ) (root : Access) (tree : Node)
         (phases : Phases) (ask : Ask) (text : List ℕ) (path rest : List (List ℕ)) (name next : List ℕ)
         (chain : List Entry) (last : Entry) (error : Errno)
-        → IsAt (shown_of service objects phases) root tree path chain last → path_of text ≡ Ok (path ++ name ∷ next ∷ rest)
+        → IsAt (shown_of service objects phases) root tree path chain last
+        → path_of text ≡ Ok (path ++ name ∷ next ∷ rest)
         → walk (site_in service number) (objects number) ask chain name ≡ Err (reply.Refused error)
         → IsRefused tree ask.caller (call.Stat text) error }
     ensures mkdirs { (service : Service) (objects : Objects) (number : ℕ) (root : Access) (tree : Node)
         (phases : Phases) (ask : Ask) (text : List ℕ) (path rest : List (List ℕ)) (name next : List ℕ) (mode : ℕ)
         (chain : List Entry) (last : Entry) (error : Errno)
-        → IsAt (shown_of service objects phases) root tree path chain last → path_of text ≡ Ok (path ++ name ∷ next ∷ rest)
+        → IsAt (shown_of service objects phases) root tree path chain last
+        → path_of text ≡ Ok (path ++ name ∷ next ∷ rest)
         → walk (site_in service number) (objects number) ask chain name ≡ Err (reply.Refused error)
         → IsRefused tree ask.caller (call.Mkdir text mode) error }
     ensures rmdirs { (service : Service) (objects : Objects) (number : ℕ) (root : Access) (tree : Node)
         (phases : Phases) (ask : Ask) (text : List ℕ) (path rest : List (List ℕ)) (name next : List ℕ)
         (chain : List Entry) (last : Entry) (error : Errno)
-        → IsAt (shown_of service objects phases) root tree path chain last → path_of text ≡ Ok (path ++ name ∷ next ∷ rest)
+        → IsAt (shown_of service objects phases) root tree path chain last
+        → path_of text ≡ Ok (path ++ name ∷ next ∷ rest)
         → walk (site_in service number) (objects number) ask chain name ≡ Err (reply.Refused error)
         → IsRefused tree ask.caller (call.Rmdir text) error }
 {}

@@ -48,7 +48,8 @@ use crate::stands::{opening_stands, unseen_changes_stand};
 /// Before anything is served, with each call idle, what stands stands for the opening tree.
 pub fn the_opening_stands()
     ensures { (service : Service) (phases : Phases) → ((call : CallRef) → phases call ≡ idle)
-        → IsStanding service (λ number. opening (site_in service number)) (root_access (site_in service 0)) opening_tree phases }
+        → IsStanding service (λ number.
+        opening (site_in service number)) (root_access (site_in service 0)) opening_tree phases }
 {
     opening_stands();
     opening_is_owned();
@@ -57,14 +58,17 @@ pub fn the_opening_stands()
 /// The creation of a file decides its call.
 pub fn served_creations_stand()
     ensures done { (service : Service) (objects : Objects) (number : ℕ) (root : Access) (tree : Node) (phases : Phases)
-        (ask : Ask) (text : List ℕ) (path : List (List ℕ)) (name : List ℕ) (mode : ℕ) (chain : List Entry) (done : Response)
+        (ask : Ask) (text : List ℕ) (path : List (List ℕ)) (name : List ℕ) (mode : ℕ) (chain : List Entry)
+        (done : Response)
         → IsStanding service objects root tree phases → phases ask.from ≡ idle
         → IsToldAlong service objects root phases path chain → IsPathOf text path name
         → create (site_in service number) (objects number) ask chain name mode ≡ Ok done
         → Decides service objects (with_state number done.state objects) root tree phases phases
         ask.caller (call.Create text mode) answer.Done }
-    ensures refused { (service : Service) (objects : Objects) (number : ℕ) (root : Access) (tree : Node) (phases : Phases)
-        (ask : Ask) (text : List ℕ) (path : List (List ℕ)) (name : List ℕ) (mode : ℕ) (chain : List Entry) (error : Errno)
+    ensures refused { (service : Service) (objects : Objects) (number : ℕ) (root : Access) (tree : Node)
+        (phases : Phases)
+        (ask : Ask) (text : List ℕ) (path : List (List ℕ)) (name : List ℕ) (mode : ℕ) (chain : List Entry)
+        (error : Errno)
         → IsStanding service objects root tree phases → phases ask.from ≡ idle
         → IsToldAlong service objects root phases path chain → IsPathOf text path name
         → create (site_in service number) (objects number) ask chain name mode ≡ Err (reply.Refused error)
@@ -81,11 +85,14 @@ pub fn served_reservations_stand()
         (done : Response)
         → IsStanding service objects root tree phases → phases ask.from ≡ idle
         → IsToldAlong service objects root phases path chain → last_of chain ≡ Some last
-        → reserve (site_in service number) (objects number) ask chain name ≡ Ok done → done.reply ≡ reply.Reserved version
+        → reserve (site_in service number) (objects number) ask chain name ≡ Ok done
+        → done.reply ≡ reply.Reserved version
         → GoesOn service objects (with_state number done.state objects) root tree phases
         (with_phase ask.from (has_reserved (dir_of last.access) name (triple.Of last.access.id name version)) phases) }
-    ensures refused { (service : Service) (objects : Objects) (number : ℕ) (root : Access) (tree : Node) (phases : Phases)
-        (ask : Ask) (text : List ℕ) (path : List (List ℕ)) (name : List ℕ) (mode : ℕ) (chain : List Entry) (error : Errno)
+    ensures refused { (service : Service) (objects : Objects) (number : ℕ) (root : Access) (tree : Node)
+        (phases : Phases)
+        (ask : Ask) (text : List ℕ) (path : List (List ℕ)) (name : List ℕ) (mode : ℕ) (chain : List Entry)
+        (error : Errno)
         → IsStanding service objects root tree phases → phases ask.from ≡ idle
         → IsToldAlong service objects root phases path chain → IsPathOf text path name
         → reserve (site_in service number) (objects number) ask chain name ≡ Err (reply.Refused error)
@@ -100,7 +107,8 @@ pub fn served_reservations_stand()
 /// The link decides the making of a directory.
 pub fn served_links_stand()
     ensures { (service : Service) (objects : Objects) (number : ℕ) (root : Access) (tree : Node) (phases : Phases)
-        (ask : Ask) (text : List ℕ) (path : List (List ℕ)) (name : List ℕ) (mode : ℕ) (chain : List Entry) (last : Entry)
+        (ask : Ask) (text : List ℕ) (path : List (List ℕ)) (name : List ℕ) (mode : ℕ) (chain : List Entry)
+        (last : Entry)
         (birth : Triple) (made : DirRef) (done : Response)
         → IsStanding service objects root tree phases → last_of chain ≡ Some last
         → phases ask.from ≡ has_made (dir_of last.access) name birth made
@@ -117,14 +125,16 @@ pub fn served_links_stand()
 /// A seal is not seen; one that is refused refuses the removal.
 pub fn served_seals_stand()
     ensures done { (service : Service) (objects : Objects) (number : ℕ) (root : Access) (tree : Node) (phases : Phases)
-        (ask : Ask) (path : List (List ℕ)) (name : List ℕ) (chain : List Entry) (parent target : Entry) (done : Response)
+        (ask : Ask) (path : List (List ℕ)) (name : List ℕ) (chain : List Entry) (parent target : Entry)
+        (done : Response)
         → IsStanding service objects root tree phases → phases ask.from ≡ idle
         → IsToldAlong service objects root phases (path ++ name ∷ []) chain
         → last_of chain ≡ Some target → last_of (before_last chain) ≡ Some parent
         → seal (site_in service number) (objects number) ask chain ≡ Ok done
         → GoesOn service objects (with_state number done.state objects) root tree phases
         (with_phase ask.from (has_sealed (dir_of parent.access) name (dir_of target.access)) phases) }
-    ensures refused { (service : Service) (objects : Objects) (number : ℕ) (root : Access) (tree : Node) (phases : Phases)
+    ensures refused { (service : Service) (objects : Objects) (number : ℕ) (root : Access) (tree : Node)
+        (phases : Phases)
         (ask : Ask) (text : List ℕ) (path : List (List ℕ)) (name : List ℕ) (chain : List Entry) (error : Errno)
         → IsStanding service objects root tree phases → phases ask.from ≡ idle
         → IsToldAlong service objects root phases (path ++ name ∷ []) chain → IsPathOf text path name
@@ -166,13 +176,15 @@ pub fn served_looks_stand()
         → stat (site_in service number) (objects number) ask chain name ≡ Ok done → done.reply ≡ reply.Stat kind meta
         → Decides service objects (with_state number done.state objects) root tree phases phases
         ask.caller (call.Stat text) (answer.Stat kind meta) }
-    ensures not_told { (service : Service) (objects : Objects) (number : ℕ) (root : Access) (tree : Node) (phases : Phases)
+    ensures not_told { (service : Service) (objects : Objects) (number : ℕ) (root : Access) (tree : Node)
+        (phases : Phases)
         (ask : Ask) (text : List ℕ) (path : List (List ℕ)) (name : List ℕ) (chain : List Entry) (error : Errno)
         → IsStanding service objects root tree phases → phases ask.from ≡ idle
         → IsToldAlong service objects root phases path chain → IsPathOf text path name
         → stat (site_in service number) (objects number) ask chain name ≡ Err (reply.Refused error)
         → IsRefused tree ask.caller (call.Stat text) error }
-    ensures stopped { (service : Service) (objects : Objects) (number : ℕ) (root : Access) (tree : Node) (phases : Phases)
+    ensures stopped { (service : Service) (objects : Objects) (number : ℕ) (root : Access) (tree : Node)
+        (phases : Phases)
         (ask : Ask) (asked : Call) (text : List ℕ) (path rest : List (List ℕ)) (name next : List ℕ) (chain : List Entry)
         (error : Errno)
         → IsStanding service objects root tree phases → phases ask.from ≡ idle
@@ -222,7 +234,8 @@ pub fn served_clean_ups_stand()
         → IsStanding service objects root tree phases → phases ask.from ≡ has_reserved parent name birth
         → cancel (site_in service number) (objects number) ask parent ≡ Ok done
         → GoesOn service objects (with_state number done.state objects) root tree phases (with_phase ask.from idle phases) }
-    ensures dropped { (service : Service) (objects : Objects) (number : ℕ) (root : Access) (tree : Node) (phases : Phases)
+    ensures dropped { (service : Service) (objects : Objects) (number : ℕ) (root : Access) (tree : Node)
+        (phases : Phases)
         (ask : Ask) (target : DirRef) (done : Response)
         → IsStanding service objects root tree phases → phases ask.from ≡ has_unlinked target
         → drop_dir (site_in service number) (objects number) ask target ≡ Ok done
@@ -234,7 +247,8 @@ pub fn served_clean_ups_stand()
         → GoesOn service objects (with_state number done.state objects) root tree phases (with_phase ask.from idle phases) }
     ensures forgotten { (service : Service) (objects : Objects) (number : ℕ) (root : Access) (tree : Node)
         (phases : Phases) (ask : Ask) (parent : Id) (target : DirRef) (done : Response)
-        → IsStanding service objects root tree phases → forget (site_in service number) (objects number) parent target ≡ Ok done
+        → IsStanding service objects root tree phases
+        → forget (site_in service number) (objects number) parent target ≡ Ok done
         → GoesOn service objects (with_state number done.state objects) root tree phases phases }
 {
     preparing_is_unseen();

@@ -51,14 +51,16 @@ pub fn preparing_is_unseen()
     ensures making { (service : Service) (objects : Objects) (at : At) (ask : Ask) (birth : Triple) (done : Response)
         → make (site_in service at.number) (objects at.number) at.ask_place ask birth ≡ Ok done
         → IsUnseen (content_in service objects) (directories_after service objects at.number done.state) }
-    ensures cancelling { (service : Service) (objects : Objects) (number : ℕ) (ask : Ask) (dir : DirRef) (done : Response)
+    ensures cancelling { (service : Service) (objects : Objects) (number : ℕ) (ask : Ask) (dir : DirRef)
+        (done : Response)
         → AreInOrder (objects number).contents → cancel (site_in service number) (objects number) ask dir ≡ Ok done
         → IsUnseen (content_in service objects) (directories_after service objects number done.state) }
     ensures sealing { (service : Service) (objects : Objects) (number : ℕ) (ask : Ask) (chain : List Entry)
         (done : Response)
         → seal (site_in service number) (objects number) ask chain ≡ Ok done
         → IsUnseen (content_in service objects) (directories_after service objects number done.state) }
-    ensures unsealing { (service : Service) (objects : Objects) (number : ℕ) (ask : Ask) (dir : DirRef) (done : Response)
+    ensures unsealing { (service : Service) (objects : Objects) (number : ℕ) (ask : Ask) (dir : DirRef)
+        (done : Response)
         → unseal (site_in service number) (objects number) ask dir ≡ Ok done
         → IsUnseen (content_in service objects) (directories_after service objects number done.state) }
 {}

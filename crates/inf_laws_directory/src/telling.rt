@@ -47,7 +47,8 @@ pub fn reservations_and_seals_ask_permission()
         (last : Entry) (name : List ℕ) (done : Response)
         → reserve (site_in service number) (objects number) ask chain name ≡ Ok done → last_of chain ≡ Some last
         → MayWrite ask.caller chain last }
-    ensures seals { (service : Service) (objects : Objects) (number : ℕ) (ask : Ask) (chain : List Entry) (parent : Entry)
+    ensures seals { (service : Service) (objects : Objects) (number : ℕ) (ask : Ask) (chain : List Entry)
+        (parent : Entry)
         (done : Response)
         → seal (site_in service number) (objects number) ask chain ≡ Ok done → last_of (before_last chain) ≡ Some parent
         → MayWrite ask.caller (before_last chain) parent }

@@ -49,7 +49,8 @@ pub record IsBehindEntry (h : List Event) (call : CallRef) (ask_place born : ℕ
   pub same : access.born ≡ born
 
 -- the call of this result was answered Again, for it met a change of this other call
-pub record IsAgainBecause (world : World) (h : List Event) (results : List CallResult) (result : CallResult) (by : CallRef) : Type 0 where
+pub record IsAgainBecause (world : World) (h : List Event) (results : List CallResult) (result : CallResult)
+    (by : CallRef) : Type 0 where
   -- the result has the place of a Serve
   pub at : At
   pub placed : result.place ≡ Some at.serve_place

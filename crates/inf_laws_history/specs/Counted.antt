@@ -35,4 +35,5 @@ answered ref is given = record { caller = is.line.caller; call = is.call; answer
 pub record IsCounted (world : World) (h : List Event) (results : List CallResult) (result : CallResult) : Type 0 where
   pub of_script : IsOfScript world result.call
   pub placed : is_some result.place ≡ is_decided result.answer
-  pub replayed : is_decided result.answer ≡ true → Contains (decisions world h results) (answered result.call of_script result.answer)
+  pub replayed : is_decided result.answer ≡ true
+      → Contains (decisions world h results) (answered result.call of_script result.answer)

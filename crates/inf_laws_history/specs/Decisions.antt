@@ -49,7 +49,8 @@ decided_if digest true s = decided_at_stage digest s s.stage
 decided_if digest false s = []
 
 abbrev pub decided_when : (List ℕ → Id) → Bool → ℕ → Told → ClientState → List Decided
-decided_when digest true ask_place told s = decided_if digest (is_complete (recorded ask_place told s)) (recorded ask_place told s)
+decided_when digest true ask_place told s =
+    decided_if digest (is_complete (recorded ask_place told s)) (recorded ask_place told s)
 decided_when digest false ask_place told s = []
 
 -- what a client's call comes to by this answer, if it decides it
@@ -57,7 +58,8 @@ abbrev pub decided_for : (List ℕ → Id) → ℕ → Told → ClientState → 
 decided_for digest ask_place told s = decided_when digest (has_place ask_place s.sent) ask_place told s
 
 abbrev pub decided_at : World → List Event → ℕ → Told → Option Posted → List Decided
-decided_at world h ask_place told (Some posted) = decided_for world.digest ask_place told (client_after world posted.ask.from.client h)
+decided_at world h ask_place told (Some posted) =
+    decided_for world.digest ask_place told (client_after world posted.ask.from.client h)
 decided_at world h ask_place told None = []
 
 -- the calls that the Serves of a history decide, in the order of these Serves
@@ -65,4 +67,5 @@ abbrev pub decided_in : World → List Event → List Decided
 decided_in world [] = []
 decided_in world (event.Ask number ask ∷ h) = decided_in world h
 decided_in world (event.Serve number ask_place given ∷ h) =
-    decided_in world h ++ decided_at world h ask_place (told_reply (suc (length h)) (heard given)) (asked_at ask_place h)
+    decided_in world h
+    ++ decided_at world h ask_place (told_reply (suc (length h)) (heard given)) (asked_at ask_place h)

@@ -67,7 +67,8 @@ abbrev pub is_unlinked : CallRef → List Event → Content → Bool
 is_unlinked by h content = is_same_call content.maker by && not (was_linked content.dir h)
 
 abbrev pub changes_in : CallRef → List Event → Content → Bool
-changes_in by h content = is_of by content.seal || list_any (λ e. is_taken by e.1) content.slots || is_unlinked by h content
+changes_in by h content =
+    is_of by content.seal || list_any (λ e. is_taken by e.1) content.slots || is_unlinked by h content
 
 -- a hold, a reservation, a seal, an unlinked directory, a pending mark or an admitted change of the call
 abbrev pub stands : CallRef → List Event → State → Bool
@@ -126,14 +127,16 @@ if_name_taken by (Some name) content = name_taken by name content
 -- it is the content object of this very birth, sealed by the call, or made by it and not sealed
 abbrev pub bears : CallRef → Triple → Content → Bool
 bears by birth content =
-    is_same_triple birth content.triple && (is_of by content.seal || (is_none content.seal && is_same_call content.maker by))
+    is_same_triple birth content.triple
+    && (is_of by content.seal || (is_none content.seal && is_same_call content.maker by))
 
 -- a hold or reservation on the name asked, the hold on the root's access object, one on a name in the directory that is to
 -- be sealed, the seal of the directory asked, or the content object of the very directory that is to be made
 abbrev pub touches : CallRef → Spot → Request → State → Bool
 touches by spot.Slot (request.Lookup look.Top) state = is_taken_at_top by state.top
 touches by spot.Slot (request.Lookup (look.At id name)) state = name_taken by name (content_of_id id state.contents)
-touches by spot.Slot (request.Finish chain asked) state = if_name_taken by (asked_name asked) (asked_content state (last_of chain))
+touches by spot.Slot (request.Finish chain asked) state =
+    if_name_taken by (asked_name asked) (asked_content state (last_of chain))
 touches by spot.Slot (request.Reserve chain name) state = name_taken by name (asked_content state (last_of chain))
 touches by spot.Slot (request.Unlink chain) state =
     if_name_taken by (target_name (last_of chain)) (asked_content state (last_of (before_last chain)))
@@ -143,6 +146,7 @@ touches by spot.Sealed (request.Finish chain asked) state = is_sealed_by by (ask
 touches by spot.Sealed (request.Reserve chain name) state = is_sealed_by by (asked_content state (last_of chain))
 touches by spot.Sealed (request.Link chain name dir mode) state = is_sealed_by by (asked_content state (last_of chain))
 touches by spot.Sealed (request.Seal chain) state = is_sealed_by by (asked_content state (last_of chain))
-touches by spot.Sealed (request.Unlink chain) state = is_sealed_by by (asked_content state (last_of (before_last chain)))
+touches by spot.Sealed (request.Unlink chain) state =
+    is_sealed_by by (asked_content state (last_of (before_last chain)))
 touches by spot.Bearer (request.Make birth) state = list_any (bears by birth) state.contents
 touches by any_spot any_request state = false

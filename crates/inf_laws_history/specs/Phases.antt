@@ -51,7 +51,8 @@ pub record SealsIn (chain : List Entry) (phase : Phase) : Type 0 where
 abbrev pub FlowHas : Who → Flow → Phase → Type 0
 FlowHas who (finishes chain what) phase = phase ≡ idle
 FlowHas who (reserves chain name mode) phase = phase ≡ idle
-FlowHas who (makes chain name mode version id) phase = phase ≡ has_reserved (last_dir chain) name (birth_of who chain name version)
+FlowHas who (makes chain name mode version id) phase =
+    phase ≡ has_reserved (last_dir chain) name (birth_of who chain name version)
 FlowHas who (links chain name mode version dir) phase =
     phase ≡ has_made (last_dir chain) name (birth_of who chain name version) dir
 FlowHas who (seals chain) phase = phase ≡ idle

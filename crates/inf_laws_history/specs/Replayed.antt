@@ -27,4 +27,5 @@ decisions world h results = filter_map (decided_of world) (in_order (length h) r
 
 -- whatever results agree with the history, their calls in order of place are answered as the plain tree answers them
 abbrev pub AllReplay : World → List Event → Type 0
-AllReplay world h = (results : List CallResult) → Outcome world h results → Replays opening_tree (decisions world h results)
+AllReplay world h = (results : List CallResult) → Outcome world h results
+    → Replays opening_tree (decisions world h results)

@@ -18,7 +18,8 @@ use crate::laws::every_legal_history_keeps;
 /// the directory that the lookup before it told.
 pub fn again_names_a_change_in_flight()
     ensures { (world : World) (h : List Event) (results : List CallResult) → Legal world h → Outcome world h results
-        → All (λ (result : CallResult). (by : CallRef) → result.answer ≡ answer.Again by → IsAgainBecause world h results result by) results }
+        → All (λ (result : CallResult). (by : CallRef) → result.answer ≡ answer.Again by
+        → IsAgainBecause world h results result by) results }
 {
     every_legal_history_keeps();
 }
@@ -26,5 +27,6 @@ pub fn again_names_a_change_in_flight()
 /// Whoever was answered IdClash was to make a directory whose birth has the identifier of another.
 pub fn clashes_are_of_two_births()
     ensures { (world : World) (h : List Event) (results : List CallResult) → Legal world h → Outcome world h results
-        → All (λ (result : CallResult). (own kept : Triple) → result.answer ≡ answer.IdClash own kept → IsClashBecause world h result own kept) results }
+        → All (λ (result : CallResult). (own kept : Triple) → result.answer ≡ answer.IdClash own kept
+        → IsClashBecause world h result own kept) results }
 {}

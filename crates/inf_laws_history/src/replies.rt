@@ -21,7 +21,8 @@ pub fn links_are_never_replied_other()
     ensures { (world : World) (h : List Event) → Legal world h → (at : At) (given : Reply) (posted : Posted)
         → event_at at.serve_place h ≡ Some (event.Serve at.number at.ask_place given)
         → asked_at at.ask_place h ≡ Some posted
-        → (chain : List Entry) (name : List ℕ) (dir : DirRef) (mode : ℕ) → posted.ask.request ≡ request.Link chain name dir mode
+        → (chain : List Entry) (name : List ℕ) (dir : DirRef) (mode : ℕ)
+        → posted.ask.request ≡ request.Link chain name dir mode
         → given ≢ reply.Other }
 {
     every_legal_history_keeps();

@@ -20,8 +20,10 @@ pub fn example_of_others()
 
 /// A version is free again once its row is removed, which the identifier and the place of birth name together.
 pub fn example_of_removals()
-    ensures first { first_taken 1 (codes "a") (without_row (id_of 1) (dir_born 5) two_rows) ≡ false ∷ true ∷ false ∷ [] }
-    ensures second { first_taken 1 (codes "a") (without_row (id_of 1) (dir_born 6) two_rows) ≡ true ∷ false ∷ false ∷ [] }
+    ensures first { first_taken 1 (codes "a") (without_row (id_of 1) (dir_born 5) two_rows)
+        ≡ false ∷ true ∷ false ∷ [] }
+    ensures second { first_taken 1 (codes "a") (without_row (id_of 1) (dir_born 6) two_rows)
+        ≡ true ∷ false ∷ false ∷ [] }
     ensures elsewhere { without_row (id_of 2) (dir_born 5) two_rows ≡ two_rows }
     ensures unborn { without_row (id_of 1) (dir_born 7) two_rows ≡ two_rows }
 {}

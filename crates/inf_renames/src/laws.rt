@@ -23,8 +23,10 @@ pub fn least_versions_are_free()
 
 /// With room made in a parent, all rows stay, and so does the room of the others.
 pub fn room_is_for_one_parent()
-    ensures rows { (parent : Id) (lists : List (Id × Kept)) → rows_of parent (with_room parent lists) ≡ rows_of parent lists }
-    ensures spare { (parent : Id) (lists : List (Id × Kept)) → spare_of parent (with_room parent lists) ≡ spare_of parent lists + 1 }
+    ensures rows { (parent : Id) (lists : List (Id × Kept))
+        → rows_of parent (with_room parent lists) ≡ rows_of parent lists }
+    ensures spare { (parent : Id) (lists : List (Id × Kept))
+        → spare_of parent (with_room parent lists) ≡ spare_of parent lists + 1 }
     ensures others { (parent : Id) (lists : List (Id × Kept)) → OthersStay parent lists (with_room parent lists) }
 {}
 
@@ -34,15 +36,18 @@ pub fn rows_are_added_to_one_parent()
         → rows_of parent (with_row parent row lists) ≡ rows_of parent lists ++ row_in parent row ∷ [] }
     ensures spare { (parent : Id) (row : Row) (lists : List (Id × Kept)) → 1 ≤ spare_of parent lists
         → spare_of parent (with_row parent row lists) + 1 ≡ spare_of parent lists }
-    ensures others { (parent : Id) (row : Row) (lists : List (Id × Kept)) → OthersStay parent lists (with_row parent row lists) }
+    ensures others { (parent : Id) (row : Row) (lists : List (Id × Kept))
+        → OthersStay parent lists (with_row parent row lists) }
 {}
 
 /// The parent's first row of the directory goes and leaves no room; the other parents stay as they were.
 pub fn rows_are_forgotten_of_one_parent()
     ensures rows { (parent : Id) (dir : DirRef) (lists : List (Id × Kept))
         → rows_of parent (forgotten parent dir lists) ≡ without_row parent dir (rows_of parent lists) }
-    ensures spare { (parent : Id) (dir : DirRef) (lists : List (Id × Kept)) → spare_of parent (forgotten parent dir lists) ≡ spare_of parent lists }
-    ensures others { (parent : Id) (dir : DirRef) (lists : List (Id × Kept)) → OthersStay parent lists (forgotten parent dir lists) }
+    ensures spare { (parent : Id) (dir : DirRef) (lists : List (Id × Kept))
+        → spare_of parent (forgotten parent dir lists) ≡ spare_of parent lists }
+    ensures others { (parent : Id) (dir : DirRef) (lists : List (Id × Kept))
+        → OthersStay parent lists (forgotten parent dir lists) }
 {}
 
 /// The lists stand for one list of the rows of all parents in the order of adding: they begin as the empty one, tell
@@ -56,7 +61,8 @@ pub fn lists_follow_one_list()
     ensures added { (lists new : List (Id × Kept)) (rows : List RenameRow) (row : RenameRow) → HasRows lists rows
         → rows_of row.parent new ≡ rows_of row.parent lists ++ row ∷ [] → OthersStay row.parent lists new
         → HasRows new (rows ++ row ∷ []) }
-    ensures removed { (lists new : List (Id × Kept)) (rows : List RenameRow) (parent : Id) (dir : DirRef) → HasRows lists rows
+    ensures removed { (lists new : List (Id × Kept)) (rows : List RenameRow) (parent : Id) (dir : DirRef)
+        → HasRows lists rows
         → rows_of parent new ≡ without_row parent dir (rows_of parent lists) → OthersStay parent lists new
         → HasRows new (without_row parent dir rows) }
 {}

@@ -54,7 +54,9 @@ world_with clients = record {
 
 -- `a` creates a file, and `b` asks for it
 abbrev pub world : World
-world = world_with (line (codes "a") (call.Create (codes "/f") 0o644 ∷ []) ∷ line (codes "b") (call.Stat (codes "/f") ∷ []) ∷ [])
+world =
+    world_with (line (codes "a") (call.Create (codes "/f") 0o644 ∷ [])
+    ∷ line (codes "b") (call.Stat (codes "/f") ∷ []) ∷ [])
 
 -- `c` asks for a file in a directory that is not there
 abbrev pub deep_world : World

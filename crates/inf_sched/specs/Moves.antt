@@ -50,7 +50,8 @@ GoesOn world client old new Later =
 abbrev pub ByAlone : World → ℕ → ℕ → ℕ → Scene → Scene → Type 0
 ByAlone world client number zero old new = new ≡ old
 ByAlone world client number (suc events) old new =
-    IfElse (has_ended world client number old) (new ≡ old) (GoesOn world client old new (λ mid. ByAlone world client number events mid new))
+    IfElse (has_ended world client number old) (new
+    ≡ old) (GoesOn world client old new (λ mid. ByAlone world client number events mid new))
 
 -- `=a`: the call meant is the one under way, or the next one where none is
 abbrev pub ByCall : World → ℕ → Scene → Scene → Type 0
@@ -62,14 +63,16 @@ ByCalls world client zero old new = new ≡ old
 ByCalls world client (suc calls) old new =
     IfElse (has_calls world old client)
     (FollowedBy (λ mid. ByCall world client old mid)
-    (λ mid. IfElse (has_ended world client (number_in world old client) mid) (ByCalls world client calls mid new) (new ≡ mid)))
+    (λ mid.
+    IfElse (has_ended world client (number_in world old client) mid) (ByCalls world client calls mid new) (new ≡ mid)))
     (new ≡ old)
 
 -- `*`: so many clients, from this one on, each alone as far as its calls end
 abbrev pub ByRest : World → ℕ → ℕ → Scene → Scene → Type 0
 ByRest world client zero old new = new ≡ old
 ByRest world client (suc clients) old new =
-    FollowedBy (λ mid. ByCalls world client (calls_left world old client) old mid) (λ mid. ByRest world (client + 1) clients mid new)
+    FollowedBy (λ mid. ByCalls world client (calls_left world old client) old mid) (λ mid.
+    ByRest world (client + 1) clients mid new)
 
 abbrev pub ByMove : World → Move → Scene → Scene → Type 0
 ByMove world (move.Step client) old new = ByStep world client old new

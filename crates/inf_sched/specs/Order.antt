@@ -13,7 +13,8 @@ use Rattle.inf_sched.specs.Scene.{Scene, client_in, is_gone, opening}
 -- the moves are made one after another
 abbrev pub ByMoves : World → List Move → Scene → Scene → Type 0
 ByMoves world [] old new = new ≡ old
-ByMoves world (move ∷ moves) old new = FollowedBy (λ mid. ByMove world move old mid) (λ mid. ByMoves world moves mid new)
+ByMoves world (move ∷ moves) old new =
+    FollowedBy (λ mid. ByMove world move old mid) (λ mid. ByMoves world moves mid new)
 
 -- what a client's calls came to: where it gave up what was left, these calls wanted memory; else they are unanswered
 abbrev pub came_to : Bool → ClientState → List CallResult

@@ -63,11 +63,13 @@ pub record AreClients (world : World) (h : List Event) (clients : List Client) :
   pub idle : (client : ℕ) (a : Client) → slice_get clients client ≡ Some a → a.handed ≡ false
 
 -- so many queues, each with the Asks that fit
-pub record AreQueues (fits : ℕ → Posting → Bool) (h : List Event) (many : ℕ) (queues : List (List Posting)) : Type 0 where
+pub record AreQueues (fits : ℕ → Posting → Bool) (h : List Event) (many : ℕ)
+    (queues : List (List Posting)) : Type 0 where
   pub count : length queues ≡ many
   pub each : (index : ℕ) (queue : List Posting) → slice_get queues index ≡ Some queue → IsQueue (fits index) h queue
 
-pub record IsKept (world : World) (h : List Event) (now : List Client) (to_server by_client : List (List Posting)) : Type 0 where
+pub record IsKept (world : World) (h : List Event) (now : List Client)
+    (to_server by_client : List (List Posting)) : Type 0 where
   pub legal : Legal world h
   pub clients : AreClients world h now
   pub servers : AreQueues is_to h (world.setup.servers + 1) to_server
@@ -146,7 +148,8 @@ unset (suc many) = false ∷ unset many
 -- the first so many clients before anything has happened
 pub record AreOpening (world : World) (many : ℕ) (clients : List Client) : Type 0 where
   pub count : length clients ≡ many
-  pub each : (client : ℕ) (a : Client) → slice_get clients client ≡ Some a → a ≡ client_with (start world client) false no_asks false
+  pub each : (client : ℕ) (a : Client) → slice_get clients client ≡ Some a
+      → a ≡ client_with (start world client) false no_asks false
   pub gone : gone_of clients ≡ unset many
 
 pub record AreEmpty (many : ℕ) (queues : List (List Posting)) : Type 0 where

@@ -38,7 +38,8 @@ client_in world scene client = client_after world client scene.history
 
 -- whether the client has an ask to make
 abbrev pub can_ask : World → Scene → ℕ → Bool
-can_ask world scene client = not (is_gone scene client) && is_ask (next_step (planned world.digest (client_in world scene client)))
+can_ask world scene client =
+    not (is_gone scene client) && is_ask (next_step (planned world.digest (client_in world scene client)))
 
 -- the client makes an ask: its next one; where it wanted memory for some calls, its next one behind these; where it wanted
 -- memory in the midst of a flow, the first of what lifts that flow's changes

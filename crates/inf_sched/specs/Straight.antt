@@ -42,7 +42,8 @@ with_next_ask world client scene = with_ask (next_step (planned world.digest (cl
 
 -- what the machine replies to the Ask at this place; where there is none, nothing is served
 abbrev pub reply_to : World → ℕ → ℕ → List Event → Option Posted → Reply
-reply_to world number place h (Some posted) = (machine (site_of world number) (server_after world number h) place posted.ask).reply
+reply_to world number place h (Some posted) =
+    (machine (site_of world number) (server_after world number h) place posted.ask).reply
 reply_to world number place h None = reply.Other
 
 -- the Ask is served

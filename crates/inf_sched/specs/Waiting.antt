@@ -51,7 +51,8 @@ pub record IsWithin (h : List Event) (p : Posting) : Type 0 where
 
 -- of the Asks that fit, those that wait are in the queue, in their order; others in it were served
 pub record IsQueue (fits : Posting → Bool) (h : List Event) (queue : List Posting) : Type 0 where
-  pub finds : (also : Posting → Bool) → find (λ p. also p && is_open h p) queue ≡ find (λ p. also p && (fits p && is_open h p)) (postings h)
+  pub finds : (also : Posting → Bool)
+      → find (λ p. also p && is_open h p) queue ≡ find (λ p. also p && (fits p && is_open h p)) (postings h)
   pub within : All (IsWithin h) queue
 
 abbrev pub first_of : List Posting → Option Posting

@@ -35,7 +35,8 @@ pub fn lone_clients()
 /// What a round of two lookups makes: both are asked before one is waited for, and no more than these.
 pub fn rounds()
     ensures alone { (deep_after (a_alone ∷ [])).history ≡ one_round }
-    ensures no_third { (deep_after (a_steps ∷ a_steps ∷ a_steps ∷ serves_0 ∷ a_steps ∷ a_alone ∷ [])).history ≡ one_round }
+    ensures no_third { (deep_after (a_steps ∷ a_steps ∷ a_steps ∷ serves_0 ∷ a_steps ∷ a_alone ∷ [])).history
+        ≡ one_round }
     ensures in_turn { (deep_after in_turn).history ≡ round_in_turn }
     ensures result { results_in deep_world (deep_after in_turn) ≡ decided 0 missing 6 1 3 ∷ [] }
 {}
@@ -50,7 +51,8 @@ pub fn ended_calls()
 /// that it wanted memory.
 pub fn wanting()
     ensures by_client { ByOrder world (a_steps ∷ []) [] (no_memory None None 0 ∷ not_asked ∷ []) }
-    ensures by_server { ByOrder world (a_steps ∷ serves_0 ∷ []) wanted_by_server (no_memory (Some 1) (Some 2) 1 ∷ not_asked ∷ []) }
+    ensures by_server { ByOrder world (a_steps ∷ serves_0 ∷ []) wanted_by_server (no_memory (Some 1) (Some 2) 1
+        ∷ not_asked ∷ []) }
 
     // Without want of memory `a` asks.
     ensures silent { ¬ MakesCalmly world (a_steps ∷ []) [] (results_of []) }

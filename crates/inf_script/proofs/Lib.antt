@@ -5,4 +5,5 @@ pub mod OrderFacts
 pub mod NameFacts
 pub mod PathFacts
 pub mod WordFacts
+pub mod GoodLines
 pub mod Soundness

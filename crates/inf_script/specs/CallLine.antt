@@ -75,7 +75,12 @@ calling (suc place) call (client ∷ clients) = client ∷ calling place call cl
 abbrev pub with_call : Draft → ℕ → Result Call Why → Result Draft Why
 with_call draft client (Err reason) = Err reason
 with_call draft client (Ok call) =
-    if nat_lt (call_count draft.clients) MOST_CALLS then Ok (record draft { reached = section.Calls; clients = calling client call draft.clients }) else Err why.TooMany
+    if nat_lt (call_count draft.clients) MOST_CALLS then Ok (record draft {
+      reached = section.Calls;
+      clients =
+          calling client call draft.clients;
+    })
+    else Err why.TooMany
 
 abbrev pub call_of : Draft → Option ℕ → List (List ℕ) → Result Draft Why
 call_of draft None words = Err why.UnknownClient

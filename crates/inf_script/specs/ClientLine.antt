@@ -18,7 +18,12 @@ new_client name = record { name = name; caller = record { uid = 0; gid = 0 }; ca
 -- one client more, of which there may be so many
 abbrev pub with_client : Draft → List ℕ → Result Draft Why
 with_client draft name =
-    if nat_lt (length draft.clients) MOST_CLIENTS then Ok (record draft { reached = section.Clients; clients = draft.clients ++ new_client name ∷ [] }) else Err why.TooMany
+    if nat_lt (length draft.clients) MOST_CLIENTS then Ok (record draft {
+      reached = section.Clients;
+      clients =
+          draft.clients ++ new_client name ∷ [];
+    })
+    else Err why.TooMany
 
 abbrev pub client_end : Draft → List ℕ → List (List ℕ) → Result Draft Why
 client_end draft name [] = with_client draft name
@@ -35,7 +40,8 @@ client_user draft name (word ∷ words) = if bytes_eq word (codes "0") then clie
 abbrev pub client_name : Draft → List (List ℕ) → Result Draft Why
 client_name draft [] = bad_word
 client_name draft (name ∷ words) =
-    if is_client_name name then (if is_some (place_of name draft.clients) then Err why.DoubleClient else client_user draft name words) else bad_word
+    if is_client_name name then (if is_some (place_of name draft.clients) then Err why.DoubleClient else client_user draft name words)
+    else bad_word
 
 -- `client NAME 0 0`
 abbrev pub client_line : Draft → List (List ℕ) → Result Draft Why

@@ -57,16 +57,25 @@ with_line line = with_lines (codes "client a 0 0" ∷ line ∷ codes "end" ∷ [
 pub record ScriptsAreRead : Type 0 where
   pub shortest : Says (codes "infinifs 1" ++ 10 ∷ codes "end") 1 [] (move.Rest ∷ [])
   pub all_lines : Says
-      (text_of (codes "# a comment" ∷ [] ∷ codes "infinifs 1" ∷ codes "servers 3" ∷ codes "client b 0 0" ∷ codes "client a1 0 0" ∷ codes "call a1 create /f 644" ∷ codes "call b stat /..f"
-      ∷ codes "  # another" ∷ codes "call a1 stat /f" ∷ codes "order +a1 =b s2 s0:a1" ∷ codes "order c c:b *" ∷ codes "end" ∷ codes "#" ∷ []))
-      3 (client_with (codes "b") (call.Stat (codes "/..f") ∷ []) ∷ client_with (codes "a1") (call.Create (codes "/f") 420 ∷ call.Stat (codes "/f") ∷ []) ∷ [])
-      (move.Step 1 ∷ move.Alone 0 ∷ move.Serve 2 None ∷ move.Serve 0 (Some 1) ∷ move.Serve 3 None ∷ move.Serve 3 (Some 0) ∷ move.Rest ∷ [])
+      (text_of (codes "# a comment" ∷ [] ∷ codes "infinifs 1" ∷ codes "servers 3" ∷ codes "client b 0 0"
+      ∷ codes "client a1 0 0" ∷ codes "call a1 create /f 644" ∷ codes "call b stat /..f"
+      ∷ codes "  # another" ∷ codes "call a1 stat /f" ∷ codes "order +a1 =b s2 s0:a1" ∷ codes "order c c:b *"
+      ∷ codes "end" ∷ codes "#" ∷ []))
+      3 (client_with (codes "b") (call.Stat (codes "/..f") ∷ [])
+      ∷ client_with (codes "a1") (call.Create (codes "/f") 420 ∷ call.Stat (codes "/f") ∷ []) ∷ [])
+      (move.Step 1 ∷ move.Alone 0 ∷ move.Serve 2 None ∷ move.Serve 0 (Some 1) ∷ move.Serve 3 None
+      ∷ move.Serve 3 (Some 0) ∷ move.Rest ∷ [])
   pub one_byte : Sets (with_lines (codes "digest-bytes 1" ∷ codes "end" ∷ [])) 1 1
   pub all_bytes : Sets (with_lines (codes "digest-bytes 32" ∷ codes "servers 64" ∷ codes "end" ∷ [])) 64 32
   pub bytes_behind_servers : Sets (with_lines (codes "servers 2" ∷ [] ∷ codes "digest-bytes 8" ∷ codes "end" ∷ [])) 2 8
-  pub blanks : Says (text_of ((9 ∷ codes " infinifs" ++ 32 ∷ 9 ∷ codes "1 " ++ 13 ∷ []) ∷ (13 ∷ []) ∷ codes "end  " ∷ [])) 1 [] (move.Rest ∷ [])
-  pub returns : Says (returns_of (codes "infinifs 1" ∷ codes "client a 0 0" ∷ [] ∷ codes "call a stat /f" ∷ codes "order +a" ∷ codes "end" ∷ [])) 1 (client_with (codes "a") (call.Stat (codes "/f") ∷ []) ∷ []) (move.Step 0 ∷ [])
-  pub most_servers : Says (with_lines (codes "servers 64" ∷ codes "client abcdefghijklmn09 0 0" ∷ codes "order s63:abcdefghijklmn09" ∷ codes "end" ∷ [])) 64 (client_with (codes "abcdefghijklmn09") [] ∷ []) (move.Serve 63 (Some 0) ∷ [])
+  pub blanks : Says (text_of ((9 ∷ codes " infinifs" ++ 32 ∷ 9 ∷ codes "1 " ++ 13 ∷ []) ∷ (13 ∷ []) ∷ codes "end  "
+      ∷ [])) 1 [] (move.Rest ∷ [])
+  pub returns : Says (returns_of (codes "infinifs 1" ∷ codes "client a 0 0" ∷ [] ∷ codes "call a stat /f"
+      ∷ codes "order +a" ∷ codes "end" ∷ [])) 1 (client_with (codes "a") (call.Stat (codes "/f") ∷ [])
+      ∷ []) (move.Step 0 ∷ [])
+  pub most_servers : Says (with_lines (codes "servers 64" ∷ codes "client abcdefghijklmn09 0 0"
+      ∷ codes "order s63:abcdefghijklmn09" ∷ codes "end" ∷ [])) 64 (client_with (codes "abcdefghijklmn09") []
+      ∷ []) (move.Serve 63 (Some 0) ∷ [])
 
 -- a script with one call, of the client `a`
 abbrev pub Calls : List ℕ → Call → Type 0
@@ -88,7 +97,8 @@ pub record CallsAreRead : Type 0 where
   pub least_mode : Calls (codes "call a create /f 000") (call.Create (codes "/f") 0)
   pub greatest_mode : Calls (codes "call a mkdir /d 777") (call.Mkdir (codes "/d") 511)
   pub longest_name : Calls (codes "call a stat /" ++ replicate 255 120) (call.Stat (47 ∷ replicate 255 120))
-  pub longest_name_below : Calls (codes "call a stat /d/" ++ replicate 255 120) (call.Stat (codes "/d/" ++ replicate 255 120))
+  pub longest_name_below : Calls (codes "call a stat /d/"
+      ++ replicate 255 120) (call.Stat (codes "/d/" ++ replicate 255 120))
 
 pub record LinesAreRefused : Type 0 where
   pub empty : IsRefused 1 why.BadWord []
@@ -103,11 +113,15 @@ pub record LinesAreRefused : Type 0 where
   pub behind_the_end : IsRefused 4 why.BadWord (with_lines (codes "end" ∷ [] ∷ codes "client a 0 0" ∷ []))
   pub servers_again : IsRefused 3 why.BadWord (with_lines (codes "servers 2" ∷ codes "servers x" ∷ codes "end" ∷ []))
   pub servers_late : IsRefused 3 why.BadWord (with_line (codes "servers 2"))
-  pub client_late : IsRefused 4 why.BadWord (with_lines (codes "client a 0 0" ∷ codes "call a stat /f" ∷ codes "client b 0 0" ∷ codes "end" ∷ []))
-  pub call_late : IsRefused 4 why.BadWord (with_lines (codes "client a 0 0" ∷ codes "order *" ∷ codes "call a stat /f" ∷ codes "end" ∷ []))
-  pub digest_bytes_again : IsRefused 3 why.BadWord (with_lines (codes "digest-bytes 8" ∷ codes "digest-bytes 0" ∷ codes "end" ∷ []))
+  pub client_late : IsRefused 4 why.BadWord (with_lines (codes "client a 0 0" ∷ codes "call a stat /f"
+      ∷ codes "client b 0 0" ∷ codes "end" ∷ []))
+  pub call_late : IsRefused 4 why.BadWord (with_lines (codes "client a 0 0" ∷ codes "order *" ∷ codes "call a stat /f"
+      ∷ codes "end" ∷ []))
+  pub digest_bytes_again : IsRefused 3 why.BadWord (with_lines (codes "digest-bytes 8" ∷ codes "digest-bytes 0"
+      ∷ codes "end" ∷ []))
   pub digest_bytes_late : IsRefused 3 why.BadWord (with_line (codes "digest-bytes 8"))
-  pub digest_bytes_first : IsRefused 1 why.BadWord (text_of (codes "digest-bytes 8" ∷ codes "infinifs 1" ∷ codes "end" ∷ []))
+  pub digest_bytes_first : IsRefused 1 why.BadWord (text_of (codes "digest-bytes 8" ∷ codes "infinifs 1"
+      ∷ codes "end" ∷ []))
   pub digest_bytes_misspelt : IsRefused 2 why.BadWord (with_lines (codes "digest_bytes 8" ∷ codes "end" ∷ []))
   pub cache : IsRefused 2 why.BadWord (with_lines (codes "cache 8" ∷ codes "end" ∷ []))
   pub return_before_blank : IsRefused 1 why.BadWord (text_of ((codes "infinifs 1" ++ 13 ∷ 32 ∷ []) ∷ codes "end" ∷ []))
@@ -219,15 +233,21 @@ pub record IsRefusedBy (last : ℕ) (refusal : ScriptRefusal) : Type 0 where
 -- the limits as numbers: what keeps them is read on, and one more is refused
 pub record LimitsHold : Type 0 where
   pub long_line : (draft : Draft) (line : List ℕ) → 32768 < length line → after_line draft line ≡ Err why.TooLong
-  pub longest_line : (draft : Draft) (line : List ℕ) → length line ≤ 32768 → is_utf8 line ≡ true → after_line draft line ≡ after_words draft (words_of (without_return line))
-  pub more_clients : (draft : Draft) (name : List ℕ) → 64 ≤ length draft.clients → with_client draft name ≡ Err why.TooMany
+  pub longest_line : (draft : Draft) (line : List ℕ) → length line ≤ 32768 → is_utf8 line ≡ true
+      → after_line draft line ≡ after_words draft (words_of (without_return line))
+  pub more_clients : (draft : Draft) (name : List ℕ) → 64 ≤ length draft.clients
+      → with_client draft name ≡ Err why.TooMany
   pub most_clients : (draft : Draft) (name : List ℕ) → length draft.clients < 64 → IsOk (with_client draft name)
-  pub more_calls : (draft : Draft) (client : ℕ) (called : Call) → 20000 ≤ call_count draft.clients → with_call draft client (Ok called) ≡ Err why.TooMany
-  pub most_calls : (draft : Draft) (client : ℕ) (called : Call) → call_count draft.clients < 20000 → IsOk (with_call draft client (Ok called))
-  pub more_moves : (draft : Draft) (moves : List Move) → 1000000 < length moves → with_moves draft (Ok moves) ≡ Err why.TooMany
+  pub more_calls : (draft : Draft) (client : ℕ) (called : Call) → 20000 ≤ call_count draft.clients
+      → with_call draft client (Ok called) ≡ Err why.TooMany
+  pub most_calls : (draft : Draft) (client : ℕ) (called : Call) → call_count draft.clients < 20000
+      → IsOk (with_call draft client (Ok called))
+  pub more_moves : (draft : Draft) (moves : List Move) → 1000000 < length moves
+      → with_moves draft (Ok moves) ≡ Err why.TooMany
   pub most_moves : (draft : Draft) (moves : List Move) → length moves ≤ 1000000 → IsOk (with_moves draft (Ok moves))
   pub longest_text : (text : List ℕ) → length text ≤ 67108864 → meaning text ≡ reading text false
 
 -- a text of more bytes than a script may have is refused in the line that holds the byte behind them, or before
 abbrev pub TooLongIsRefused : Type 0
-TooLongIsRefused = (text : List ℕ) → 67108864 < length text → IsErrAnd (meaning text) (IsRefusedBy (length (lines_of true (take 67108864 text)) + 1))
+TooLongIsRefused = (text : List ℕ) → 67108864 < length text
+    → IsErrAnd (meaning text) (IsRefusedBy (length (lines_of true (take 67108864 text)) + 1))

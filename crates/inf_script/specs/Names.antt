@@ -10,7 +10,8 @@ is_octal byte = nat_le 48 byte && nat_le byte 55
 
 -- three octal digits
 abbrev pub mode_of : List ℕ → Result ℕ Why
-mode_of (a ∷ b ∷ c ∷ []) = if is_octal a && is_octal b && is_octal c then Ok ((a - 48) * 64 + (b - 48) * 8 + (c - 48)) else bad_number
+mode_of (a ∷ b ∷ c ∷ []) =
+    if is_octal a && is_octal b && is_octal c then Ok ((a - 48) * 64 + (b - 48) * 8 + (c - 48)) else bad_number
 mode_of word = bad_number
 
 -- digits, with a zero in front only where it is the whole word

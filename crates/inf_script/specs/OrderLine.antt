@@ -39,12 +39,14 @@ server_move clients (Ok number) name = serve_move clients number name
 
 -- what stands behind the letter of a server: its number up to a colon, and a name behind that
 abbrev pub server_text : ℕ → List ClientLine → List ℕ → Result Move Why
-server_text servers clients text = server_move clients (number_below servers (before (position is_colon text) text)) (behind (position is_colon text) text)
+server_text servers clients text =
+    server_move clients (number_below servers (before (position is_colon text) text)) (behind (position is_colon text) text)
 
 -- what stands behind the letter of the coordinator
 abbrev pub coordinator_move : ℕ → List ClientLine → List ℕ → Result Move Why
 coordinator_move servers clients [] = serve_move clients servers None
-coordinator_move servers clients (byte ∷ name) = if is_colon byte then serve_move clients servers (Some name) else bad_word
+coordinator_move servers clients (byte ∷ name) =
+    if is_colon byte then serve_move clients servers (Some name) else bad_word
 
 abbrev pub rest_move : List ℕ → Result Move Why
 rest_move [] = Ok move.Rest
@@ -68,16 +70,20 @@ with_move (Ok moves) (Ok next) = Ok (moves ++ next ∷ [])
 -- the words are taken in order, and the first that spells no move decides
 abbrev pub moves_from : ℕ → List ClientLine → Result (List Move) Why → List (List ℕ) → Result (List Move) Why
 moves_from servers clients so_far [] = so_far
-moves_from servers clients so_far (word ∷ words) = moves_from servers clients (with_move so_far (move_of servers clients word)) words
+moves_from servers clients so_far (word ∷ words) =
+    moves_from servers clients (with_move so_far (move_of servers clients word)) words
 
 -- these are the moves of all order lines so far, of which there may be so many
 abbrev pub with_moves : Draft → Result (List Move) Why → Result Draft Why
 with_moves draft (Err reason) = Err reason
-with_moves draft (Ok moves) = if nat_le (length moves) MOST_MOVES then Ok (record draft { reached = section.Order; moves = moves }) else Err why.TooMany
+with_moves draft (Ok moves) =
+    if nat_le (length moves) MOST_MOVES then Ok (record draft { reached = section.Order; moves = moves })
+    else Err why.TooMany
 
 abbrev pub order_moves : Draft → List (List ℕ) → Result Draft Why
 order_moves draft [] = bad_word
-order_moves draft (word ∷ words) = with_moves draft (moves_from (servers_of draft) draft.clients (Ok draft.moves) (word ∷ words))
+order_moves draft (word ∷ words) =
+    with_moves draft (moves_from (servers_of draft) draft.clients (Ok draft.moves) (word ∷ words))
 
 -- `order MOVE ..`
 abbrev pub order_line : Draft → List (List ℕ) → Result Draft Why

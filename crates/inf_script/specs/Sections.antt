@@ -16,7 +16,8 @@ use Rattle.inf_script.specs.OrderLine.{order_line}
 
 -- `end`
 abbrev pub end_line : Draft → List (List ℕ) → Result Draft Why
-end_line draft words = if may_stand section.Order draft.reached then no_more (record draft { reached = section.Ended }) words else bad_word
+end_line draft words =
+    if may_stand section.Order draft.reached then no_more (record draft { reached = section.Ended }) words else bad_word
 
 -- a line by its first word and the words behind it
 abbrev pub word_line : Draft → List ℕ → List (List ℕ) → Result Draft Why

@@ -16,7 +16,8 @@ no_more value (word ∷ words) = bad_word
 
 abbrev pub version : Draft → List (List ℕ) → Result Draft Why
 version draft [] = bad_word
-version draft (word ∷ words) = if bytes_eq word (codes "1") then no_more (record draft { reached = section.Settings }) words else bad_word
+version draft (word ∷ words) =
+    if bytes_eq word (codes "1") then no_more (record draft { reached = section.Settings }) words else bad_word
 
 -- `infinifs 1`
 abbrev pub first_line : Draft → List (List ℕ) → Result Draft Why
@@ -32,7 +33,8 @@ servers_number draft (word ∷ words) = servers_end draft (number_within 1 MOST_
 
 -- `servers N`, once
 abbrev pub servers_line : Draft → List (List ℕ) → Result Draft Why
-servers_line draft words = if may_stand section.Settings draft.reached && is_none draft.servers then servers_number draft words else bad_word
+servers_line draft words =
+    if may_stand section.Settings draft.reached && is_none draft.servers then servers_number draft words else bad_word
 
 abbrev pub digest_bytes_end : Draft → Result ℕ Why → List (List ℕ) → Result Draft Why
 digest_bytes_end draft (Err reason) words = Err reason
@@ -44,4 +46,6 @@ digest_bytes_number draft (word ∷ words) = digest_bytes_end draft (number_with
 
 -- `digest-bytes N`, once
 abbrev pub digest_bytes_line : Draft → List (List ℕ) → Result Draft Why
-digest_bytes_line draft words = if may_stand section.Settings draft.reached && is_none draft.digest_bytes then digest_bytes_number draft words else bad_word
+digest_bytes_line draft words =
+    if may_stand section.Settings draft.reached && is_none draft.digest_bytes then digest_bytes_number draft words
+    else bad_word

@@ -64,7 +64,8 @@ refusal_line refusal = line (codes "script " ++ decimal refusal.line ++ codes " 
 -- ---- what a text comes to
 
 -- whose call a result is of, and why it was answered as the plain tree does not answer
-pub record HasCause (world : World) (h : List Event) (results : List CallResult) (scene : Scene) (result : CallResult) : Type 0 where
+pub record HasCause (world : World) (h : List Event) (results : List CallResult) (scene : Scene)
+    (result : CallResult) : Type 0 where
   -- it is of a call of the script; where its answer was decided it has a place, and is one of those that replay
   pub counted : IsCounted world h results result
   -- a change of another client's call was in flight, and touched this call
@@ -124,7 +125,9 @@ BreaksOff text old new = Keeps old new ⊎ IfSome text (λ t. PartWritten t old 
 -- what reading the source did: it gave as much of the text as a script may have, and whether there is more
 abbrev pub TextDid : Result Text InputFault → Option (List ℕ) → ℕ → ℕ → Type 0
 TextDid (Ok read) text before after =
-    Stays before after × IfSome text (λ t. (read.bytes.items ≡ take MOST_SCRIPT_BYTES t) × (read.more ≡ nat_lt MOST_SCRIPT_BYTES (length t))) × (read.more ≡ true → MOST_SCRIPT_BYTES ≤ length read.bytes.items)
+    Stays before after × IfSome text (λ t. (read.bytes.items ≡ take MOST_SCRIPT_BYTES t)
+    × (read.more ≡ nat_lt MOST_SCRIPT_BYTES (length t)))
+    × (read.more ≡ true → MOST_SCRIPT_BYTES ≤ length read.bytes.items)
 TextDid (Err fault.Read) text before after = Rose before after
 TextDid (Err (fault.Refused refusal)) text before after = ⊥
 TextDid (Err fault.NoMemory) text before after = Stays before after
@@ -139,7 +142,8 @@ pub record IsScriptOf (text : Option (List ℕ)) (script : Script) : Type 0 wher
 abbrev pub InputDid : Result Script InputFault → Option (List ℕ) → ℕ → ℕ → Type 0
 InputDid (Ok script) text before after = Stays before after × IsScriptOf text script
 InputDid (Err fault.Read) text before after = Rose before after
-InputDid (Err (fault.Refused refusal)) text before after = Stays before after × IfSome text (λ t. meaning t ≡ Err refusal)
+InputDid (Err (fault.Refused refusal)) text before after =
+    Stays before after × IfSome text (λ t. meaning t ≡ Err refusal)
 InputDid (Err fault.NoMemory) text before after = Stays before after
 
 -- the statuses that say that a text was written whole

@@ -24,12 +24,12 @@ returns-clause-ok c =
     c.in-Some.object c.in-Some.is (with_slot c.args.name (file c.args.meta None)) c.put_file.new.self _
     (c.object_mut.follows.holds (record c.in-Some.object.now { slots = c.put_file.new.self })) c.in_ok-put_file.ensures.ok
 
-pub invariant_of-self-2 : goal.invariant_of-self-2
-invariant_of-self-2 c =
+pub invariant_of-self-in_err-put_file : goal.invariant_of-self-in_err-put_file
+invariant_of-self-in_err-put_file c =
     order_after c.self.view_is c.self.invariant (λ order. order) (same_there c.args.dir.now c.self.inside.by_id.entries c.args.self.now c.object_mut.result c.self.view_is c.object_mut.ensures.found
     c.in-Some.object c.in-Some.is c.put_file.new.self _
     (c.object_mut.follows.holds (record c.in-Some.object.now { slots = c.put_file.new.self })) c.in_err-put_file.ensures.err)
 
-pub invariant_of-self-3 : goal.invariant_of-self-3
-invariant_of-self-3 c =
+pub invariant_of-self-2 : goal.invariant_of-self-2
+invariant_of-self-2 c =
     order_after c.self.view_is c.self.invariant (with_file_in_order c.args.dir.now c.args.name c.args.meta c.args.self.now) (returns-clause-ok c)

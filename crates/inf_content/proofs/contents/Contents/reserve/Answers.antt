@@ -23,12 +23,12 @@ returns-clause-ok c =
     c.in-Some.object c.in-Some.is (with_slot c.args.name (reserved c.args.by c.args.access)) c.reserve.new.self _
     (c.object_mut.follows.holds (record c.in-Some.object.now { slots = c.reserve.new.self })) c.in_ok-reserve.ensures.ok
 
-pub invariant_of-self-2 : goal.invariant_of-self-2
-invariant_of-self-2 c =
+pub invariant_of-self-in_err-reserve : goal.invariant_of-self-in_err-reserve
+invariant_of-self-in_err-reserve c =
     order_after c.self.view_is c.self.invariant (λ order. order) (same_there c.args.dir.now c.self.inside.by_id.entries c.args.self.now c.object_mut.result c.self.view_is c.object_mut.ensures.found
     c.in-Some.object c.in-Some.is c.reserve.new.self _
     (c.object_mut.follows.holds (record c.in-Some.object.now { slots = c.reserve.new.self })) c.in_err-reserve.ensures.err)
 
-pub invariant_of-self-3 : goal.invariant_of-self-3
-invariant_of-self-3 c =
+pub invariant_of-self-2 : goal.invariant_of-self-2
+invariant_of-self-2 c =
     order_after c.self.view_is c.self.invariant (reserved_in_order c.args.dir.now c.args.name c.args.by c.args.access c.args.self.now) (returns-clause-ok c)
