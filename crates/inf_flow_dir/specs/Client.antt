@@ -59,8 +59,7 @@ abbrev pub no_counts : Counts
 no_counts = record { first = None; last = None; attempts = 0; rounds = 0; messages = 0; is_begun = false }
 
 abbrev pub idle : Who → List Call → ClientState
-idle who calls =
-    record { who = who; number = 1; left = calls; stage = compose; sent = []; counts = no_counts; results = [] }
+idle who calls = record { who = who; number = 1; left = calls; stage = compose; sent = []; counts = no_counts; results = [] }
 
 abbrev pub call_ref : ClientState → CallRef
 call_ref s = record { client = s.who.client; number = s.number }

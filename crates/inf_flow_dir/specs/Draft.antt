@@ -26,12 +26,9 @@ deed_of (aim.Mkdir name mode room) = makes_dir name mode
 deed_of aim.Rmdir = removes_dir
 
 abbrev pub course_by : List (List ℕ) → Deed → Course
-course_by looked (creates name mode) =
-    record { looked = looked; arrive = λ chain. finishes chain (op.Create name mode); stop = walk_stop }
-course_by looked (stats name) =
-    record { looked = looked; arrive = λ chain. finishes chain (op.Stat name); stop = walk_stop }
-course_by looked (makes_dir name mode) =
-    record { looked = looked; arrive = λ chain. reserves chain name mode; stop = walk_stop }
+course_by looked (creates name mode) = record { looked = looked; arrive = λ chain. finishes chain (op.Create name mode); stop = walk_stop }
+course_by looked (stats name) = record { looked = looked; arrive = λ chain. finishes chain (op.Stat name); stop = walk_stop }
+course_by looked (makes_dir name mode) = record { looked = looked; arrive = λ chain. reserves chain name mode; stop = walk_stop }
 course_by looked removes_dir = record { looked = looked; arrive = seals; stop = rmdir_stop }
 
 abbrev pub course_with : Drafted → Course

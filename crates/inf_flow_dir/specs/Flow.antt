@@ -90,8 +90,7 @@ abbrev pub clean_up : Who → Flow → List Message
 clean_up who (finishes chain asked) = []
 clean_up who (reserves chain name mode) = []
 clean_up who (makes chain name mode version id) = lift who (last_dir chain) request.Cancel ∷ []
-clean_up who (links chain name mode version dir) =
-    lift who dir request.Drop ∷ lift who (last_dir chain) request.Cancel ∷ []
+clean_up who (links chain name mode version dir) = lift who dir request.Drop ∷ lift who (last_dir chain) request.Cancel ∷ []
 clean_up who (seals chain) = []
 clean_up who (unlinks chain) = lift who (last_dir chain) request.Unseal ∷ []
 
@@ -108,10 +107,8 @@ forget_in who dir (triple.Of parent name version) = to who parent (request.Forge
 
 abbrev pub row_of : Who → Id → Option Entry → List Message
 row_of who parent None = []
-row_of who parent (Some entry) =
-    if lives_at parent entry.key entry.access.birth then [] else forget_in who (dir_of entry.access) entry.access.birth
+row_of who parent (Some entry) = if lives_at parent entry.key entry.access.birth then [] else forget_in who (dir_of entry.access) entry.access.birth
 
 -- what follows the unlinking
 abbrev pub after_unlink : Who → List Entry → List Message
-after_unlink who chain =
-    lift who (last_dir chain) request.Drop ∷ row_of who (last_id who (way_to chain)) (last_entry chain)
+after_unlink who chain = lift who (last_dir chain) request.Drop ∷ row_of who (last_id who (way_to chain)) (last_entry chain)

@@ -39,17 +39,13 @@ split name [] = ([], name)
 split name (next ∷ rest) = (name ∷ (split next rest).0, (split next rest).1)
 
 abbrev pub course_in : Call → List (List ℕ) × List ℕ → Option Course
-course_in (call.Create path mode) (way, name) =
-    Some (record { looked = way; arrive = λ chain. finishes chain (op.Create name mode); stop = walk_stop })
-course_in (call.Stat path) (way, name) =
-    Some (record { looked = way; arrive = λ chain. finishes chain (op.Stat name); stop = walk_stop })
-course_in (call.Mkdir path mode) (way, name) =
-    Some (record { looked = way; arrive = λ chain. reserves chain name mode; stop = walk_stop })
+course_in (call.Create path mode) (way, name) = Some (record { looked = way; arrive = λ chain. finishes chain (op.Create name mode); stop = walk_stop })
+course_in (call.Stat path) (way, name) = Some (record { looked = way; arrive = λ chain. finishes chain (op.Stat name); stop = walk_stop })
+course_in (call.Mkdir path mode) (way, name) = Some (record { looked = way; arrive = λ chain. reserves chain name mode; stop = walk_stop })
 course_in other names = None
 
 abbrev pub course_at : Call → Result (List (List ℕ)) Errno → Option Course
-course_at (call.Rmdir path) (Ok (name ∷ names)) =
-    Some (record { looked = name ∷ names; arrive = seals; stop = rmdir_stop })
+course_at (call.Rmdir path) (Ok (name ∷ names)) = Some (record { looked = name ∷ names; arrive = seals; stop = rmdir_stop })
 course_at asked (Ok (name ∷ names)) = course_in asked (split name names)
 course_at asked other = None
 

@@ -58,10 +58,8 @@ next_entry before None = stops
 next_entry before (Some told) = of told.reply
   where
     of : Reply → Next
-    of (reply.Found k access) =
-        if links_to (dir_of before.access) k then steps (told_entry k access told.serve_place) else stops
-    of (reply.Busy by at born) =
-        if born == before.access.born then is_busy (answer.Again by) told.serve_place else stops
+    of (reply.Found k access) = if links_to (dir_of before.access) k then steps (told_entry k access told.serve_place) else stops
+    of (reply.Busy by at born) = if born == before.access.born then is_busy (answer.Again by) told.serve_place else stops
     of any_reply = stops
 
 abbrev pub arrive : Course → List Entry → Turn
@@ -85,8 +83,7 @@ follow course chain before (name ∷ names) (x ∷ xs) =
 
 -- the root's entry begins the chain
 abbrev pub from_root : Course → List Sent → Told → Reply → Turn
-from_root course xs told (reply.Found k access) =
-    follow course (told_entry k access told.serve_place ∷ []) (told_entry k access told.serve_place) course.looked xs
+from_root course xs told (reply.Found k access) = follow course (told_entry k access told.serve_place ∷ []) (told_entry k access told.serve_place) course.looked xs
 from_root course xs told (reply.Busy by at born) = ends (answer.Again by) told.serve_place
 from_root course xs told any_reply = again
 
@@ -103,8 +100,7 @@ abbrev pub after_round : Option Course → List Sent → Turn
 after_round None sent = again
 after_round (Some course) [] = again
 after_round (Some course) (x ∷ xs) =
-    if list_any (λ (y : Sent). wants_memory y.told) (x ∷ xs) then winds_up (answers answer.NoMemory None) []
-    else of x.told
+    if list_any (λ (y : Sent). wants_memory y.told) (x ∷ xs) then winds_up (answers answer.NoMemory None) [] else of x.told
   where
     of : Option Told → Turn
     of None = again
@@ -120,8 +116,7 @@ fails who flow place reply.NoMem = winds_up (answers answer.NoMemory None) (clea
 fails who flow place any_reply = winds_up retries (clean_up who flow)
 
 abbrev pub after_make : Who → Flow → Triple → ℕ → Reply → Turn
-after_make who flow own place (reply.Clash kept) =
-    winds_up (answers (answer.IdClash own kept) (Some place)) (clean_up who flow)
+after_make who flow own place (reply.Clash kept) = winds_up (answers (answer.IdClash own kept) (Some place)) (clean_up who flow)
 after_make who flow own place any_reply = fails who flow place any_reply
 
 abbrev pub done : ℕ → List Message → Turn
@@ -130,8 +125,7 @@ done place more = winds_up (answers answer.Done (Some place)) more
 -- by the place of the Ask, that of its Serve, and the reply
 abbrev pub after_act : (List ℕ → Id) → Who → Flow → ℕ → ℕ → Reply → Turn
 after_act digest who (finishes chain (op.Create name mode)) asked place reply.Fine = done place []
-after_act digest who (finishes chain (op.Stat name)) asked place (reply.Stat kind meta) =
-    ends (answer.Stat kind meta) place
+after_act digest who (finishes chain (op.Stat name)) asked place (reply.Stat kind meta) = ends (answer.Stat kind meta) place
 after_act digest who (reserves chain name mode) asked place (reply.Reserved version) =
     goes_on (act (makes chain name mode version (identity digest (birth_of who chain name version))))
 after_act digest who (makes chain name mode version id) asked place reply.Fine =
@@ -182,5 +176,4 @@ after_record digest s = settled digest (is_complete s) s
 
 -- the Ask at a place was served; only an Ask of the present group is waited for
 abbrev pub served : (List ℕ → Id) → ℕ → Told → ClientState → ClientState
-served digest ask_place told s =
-    if has_place ask_place s.sent then after_record digest (recorded ask_place told s) else s
+served digest ask_place told s = if has_place ask_place s.sent then after_record digest (recorded ask_place told s) else s

@@ -63,8 +63,7 @@ impl Draft {
 
     /// The directory of the last name is removed.
     fn of_all(alloc: Global, names: Vec<Name>) -> Result<Option<Self>, NoMemory>
-        ensures { (path : List ℕ) → IfOk result
-            (λ draft. course_if draft ≡ course_at (call.Rmdir path) (Ok names.items)) }
+        ensures { (path : List ℕ) → IfOk result (λ draft. course_if draft ≡ course_at (call.Rmdir path) (Ok names.items)) }
     {
         if names.is_empty() {
             return Ok(None);
@@ -89,8 +88,7 @@ impl Draft {
 
     /// The keys of the round: the root's, and those of the names that are looked up.
     pub fn keys<R: IdRule>(&self, alloc: Global, rule: &R, who: &Who) -> Result<LookKeys, NoMemory>
-        ensures { IfOk result (λ keys. keys ≡ look.Top
-            ∷ keys_along (R.digest_of rule.now) who.now.root self.now.looked) }
+        ensures { IfOk result (λ keys. keys ≡ look.Top ∷ keys_along (R.digest_of rule.now) who.now.root self.now.looked) }
     {
         let mut keys = Vec::with_capacity(alloc, 1 + self.looked.len())?;
         keys.push(LookKey::Top)?;

@@ -43,8 +43,7 @@ pub fn done(place: Place, more: CleanUps) -> Turn
 
 /// A message did not succeed: the clean-up, and then what its reply says.
 pub fn failed(clean_ups: CleanUps, place: Place, reply: &Reply) -> Turn
-    ensures { (who : Who) (flow : Flow) → clean_up who flow ≡ clean_ups
-        → turn_of result ≡ fails who flow place reply.now }
+    ensures { (who : Who) (flow : Flow) → clean_up who flow ≡ clean_ups → turn_of result ≡ fails who flow place reply.now }
 {
     let ending = match reply {
         Reply::Busy { by, .. } => Ending::Answers(Answer::Again(*by), Some(place)),

@@ -71,8 +71,7 @@ fn after_finish(op: &Op, place: Place, reply: &Reply) -> Turn
 
 fn after_reserve<R: IdRule>(rule: &R, who: &Who, new: NewDir, place: Place, reply: &Reply) -> Turn
     requires { 0 < length new.chain }
-    ensures { (asked : ℕ) → turn_of result ≡ after_act (R.digest_of rule.now) who.now
-        (reserves new.chain new.name new.mode) asked place reply.now }
+    ensures { (asked : ℕ) → turn_of result ≡ after_act (R.digest_of rule.now) who.now (reserves new.chain new.name new.mode) asked place reply.now }
 {
     match reply {
         Reply::Reserved(version) => {
@@ -138,8 +137,7 @@ fn clash(who: &Who, new: NewDir, version: u64, kept: &Triple, place: Place) -> T
 fn after_link(who: &Who, new: NewDir, dir: DirRef, place: Place, reply: &Reply) -> Turn
     requires { 0 < length new.chain }
     ensures { (digest : List ℕ → Id) (version asked : ℕ)
-        → turn_of result
-        ≡ after_act digest who.now (links new.chain new.name new.mode version dir) asked place reply.now }
+        → turn_of result ≡ after_act digest who.now (links new.chain new.name new.mode version dir) asked place reply.now }
 {
     match reply {
         Reply::Fine => done(place, CleanUps::none()),
@@ -152,8 +150,7 @@ fn after_link(who: &Who, new: NewDir, dir: DirRef, place: Place, reply: &Reply) 
 
 fn after_seal(chain: Chain, place: Place, reply: &Reply) -> Turn
     requires { 0 < length chain }
-    ensures { (digest : List ℕ → Id) (who : Whom) (asked : ℕ)
-        → turn_of result ≡ after_act digest who (seals chain) asked place reply.now }
+    ensures { (digest : List ℕ → Id) (who : Whom) (asked : ℕ) → turn_of result ≡ after_act digest who (seals chain) asked place reply.now }
 {
     match reply {
         Reply::Fine => Turn::GoesOn(DirFlow::new(Phase::Unlinks(chain))),
@@ -163,8 +160,7 @@ fn after_seal(chain: Chain, place: Place, reply: &Reply) -> Turn
 
 fn after_unlinking(who: &Who, chain: Chain, place: Place, reply: &Reply) -> Turn
     requires { 0 < length chain }
-    ensures { (digest : List ℕ → Id) (asked : ℕ)
-        → turn_of result ≡ after_act digest who.now (unlinks chain) asked place reply.now }
+    ensures { (digest : List ℕ → Id) (asked : ℕ) → turn_of result ≡ after_act digest who.now (unlinks chain) asked place reply.now }
 {
     match reply {
         Reply::Fine => done(place, after_unlink(who, chain.as_slice())),

@@ -69,8 +69,7 @@ fn arrive(aim: Aim, chain: Vec<Entry>) -> Turn
 
 /// The path stops at this name, which may be the last that is looked up.
 fn stop_at(aim: Aim, chain: Vec<Entry>, name: Name, is_last: bool) -> Turn
-    ensures { (looked names : List (List ℕ)) → (length names == 0) ≡ is_last
-        → turn_of result ≡ stop_at (course_by looked (deed_of aim)) chain.items name names }
+    ensures { (looked names : List (List ℕ)) → (length names == 0) ≡ is_last → turn_of result ≡ stop_at (course_by looked (deed_of aim)) chain.items name names }
 {
     let op = match aim {
         Aim::Rmdir if is_last => Op::RmdirName(name),
