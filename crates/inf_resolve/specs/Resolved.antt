@@ -55,7 +55,7 @@ by_told digest root looked known None = first_round digest root looked known
 by_told digest root looked known (Some told) = by_root digest looked known told.place told.reply
 
 -- By the digest, the root's identifier, the names that are looked up, and what the attempt was told so far. That
--- memory is wanting ends a call whatever else was told: who asks looks at that before. A cache has its place in `known`: an
--- entry of it that the attempt uses is a Found at its stamp.
+-- memory is wanting ends a call whatever else was told: who asks looks at that before. A cache has its place in
+-- `known`: an entry of it that the attempt uses is a Found at its stamp.
 abbrev pub resolved : (List ℕ → Id) → Id → Looked → List Known → Resolved
 resolved digest root looked known = by_told digest root looked known (told_under look.Top known)
