@@ -5,6 +5,7 @@ use Rattle.inf_base.specs.declared.caller.CallRef.{CallRef}
 use Rattle.inf_base.specs.declared.entry.Entry.{Entry}
 use Rattle.inf_base.specs.Checks.{check}
 use Rattle.inf_base.specs.Same.{dir_of, is_same_call}
+use Rattle.inf_base.proofs.Same.{same_call}
 use Rattle.inf_content.specs.Contents.{content_at, seal_of}
 use Rattle.inf_message.specs.declared.reply.Reply.TheVariants as reply
 use Rattle.inf_message.specs.declared.reply.Spot.TheVariants as spot
@@ -15,7 +16,6 @@ use Rattle.inf_laws_server.specs.Passed.{IsAsked}
 use Rattle.inf_laws_directory.specs.Objects.{Objects, Service, site_in}
 use Rattle.inf_laws_directory.specs.Owned.{AreOwned}
 use Rattle.inf_laws_directory.specs.Phases.{IsSealing, Phases}
-use Rattle.inf_laws_directory.proofs.CallFacts.{same_call}
 use Rattle.inf_laws_directory.proofs.Kept.{content_here}
 use Rattle.inf_laws_directory.proofs.OwnedFacts.{sealed_by}
 

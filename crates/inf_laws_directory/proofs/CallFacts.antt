@@ -1,29 +1,11 @@
 -- The phases of calls, once the phase of one has changed.
-use Rattle.std.proofs.Common.{◌≡◌, ℕ, ◌==◌, ◌&&◌, Bool, true, false, cond, Option, Some, None, refl, sym, ap, subst, ◌∙◌}
+use Rattle.std.proofs.Common.{◌≡◌, Bool, true, false, cond, Option, Some, None, refl, sym, ap, subst, ◌∙◌}
 use Rattle.std.proofs.lemmas.Bool.{both_ways}
-use Rattle.std.proofs.lemmas.Bool.Decides.{Decides-eqb}
 use mathlib.Core.Path.{fun_ext}
 use Rattle.inf_base.specs.declared.caller.CallRef.{CallRef}
 use Rattle.inf_base.specs.Same.{is_same_call}
+use Rattle.inf_base.proofs.Same.{same_call, same_call_self}
 use Rattle.inf_laws_directory.specs.Phases.{Phase, Phases, with_phase}
-
-same_parts : (a b : CallRef) (clients numbers : Bool) → (a.client == b.client) ≡ clients → (a.number == b.number) ≡ numbers
-    → (clients && numbers) ≡ true → a ≡ b
-same_parts a b true true clients numbers same =
-    let client : a.client ≡ b.client = (Decides-eqb a.client b.client).0 clients in
-    let number : a.number ≡ b.number = (Decides-eqb a.number b.number).0 numbers in
-    ap (λ (c : ℕ). call_from c a.number) client ∙ ap (λ (n : ℕ). call_from b.client n) number
-  where
-    call_from : ℕ → ℕ → CallRef
-    call_from client number = record { client = client; number = number }
-same_parts a b true false clients numbers same = cc
-same_parts a b false numbers_same clients numbers same = cc
-
-pub same_call : (a b : CallRef) → is_same_call a b ≡ true → a ≡ b
-same_call a b same = same_parts a b (a.client == b.client) (a.number == b.number) refl refl same
-
-pub same_call_self : (a : CallRef) → is_same_call a a ≡ true
-same_call_self a = let client = (Decides-eqb a.client a.client).1 refl in let number = (Decides-eqb a.number a.number).1 refl in rw (client, number) refl
 
 -- what holds of a call in its new phase, and of all others in theirs, holds of each
 pub each_call : (by : CallRef) (phase : Phase) (phases : Phases) (P : CallRef → Phase → Type 0) → P by phase

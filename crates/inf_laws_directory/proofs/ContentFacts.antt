@@ -7,43 +7,22 @@ use Rattle.std.specs.Option.{option_map}
 use Rattle.std.specs.Ordering.{nat_cmp, match_ordering, is_eq}
 use Rattle.std.specs.declared.cmp.Ordering.{Ordering}
 use Rattle.std.specs.declared.cmp.Ordering.TheVariants.{Less, Equal, Greater}
-use Rattle.std.proofs.lemmas.Bool.Decides.{Decides-eqb}
 use Rattle.std.proofs.lemmas.List.Elements.{All-head, All-tail}
 use Rattle.std.proofs.lemmas.Map.Keys.{sorted_head, sorted_tail}
 use Rattle.std.proofs.lemmas.Map.Text.{is_eq-slice_cmp}
-use Rattle.std.proofs.lemmas.Slice.Eq.{bytes_eq-Decides}
 use Rattle.inf_base.specs.declared.caller.CallRef.{CallRef}
 use Rattle.inf_base.specs.declared.directory.DirRef.{DirRef}
 use Rattle.inf_base.specs.declared.id.Id.{Id}
 use Rattle.inf_base.specs.Content.{Content, Slot}
 use Rattle.inf_base.specs.Same.{is_same_dir, is_same_id}
+use Rattle.inf_base.proofs.Same.{same_dir, same_id, same_id_self}
 use Rattle.inf_content.specs.Contents.{changed_at, content_at, content_of_id, dropped_at, id_cmp, if_born, may_drop, placed, slots_at, slots_found}
 use Rattle.inf_content.specs.Order.{IdentifiersRise}
-use Rattle.inf_renames.proofs.RenamesFacts.{same_id}
 use Rattle.inf_laws_directory.proofs.SlotFacts.{AreSorted}
 
 -- the content objects are in the order of their identifiers, which are told apart by their bytes
 pub same_id_test : (a b : Id) → is_eq (id_cmp a b) ≡ is_same_id a b
 same_id_test a b = is_eq-slice_cmp a.bytes b.bytes
-
-pub same_id_self : (a : Id) → is_same_id a a ≡ true
-same_id_self a = (bytes_eq-Decides a.bytes a.bytes).1 refl
-
-abbrev dir_from : Id → ℕ → DirRef
-dir_from id born = record { id = id; born = born }
-
-same_parts : (a b : DirRef) (same_ids same_births : Bool) → is_same_id a.id b.id ≡ same_ids → (a.born == b.born) ≡ same_births
-    → (same_ids && same_births) ≡ true → a ≡ b
-same_parts a b true true ids births same =
-    ap (λ (id : Id). dir_from id a.born) (same_id a.id b.id ids) ∙ ap (λ (born : ℕ). dir_from b.id born) ((Decides-eqb a.born b.born).0 births)
-same_parts a b true false ids births same = cc
-same_parts a b false births_same ids births same = cc
-
-pub same_dir : (a b : DirRef) → is_same_dir a b ≡ true → a ≡ b
-same_dir a b same = same_parts a b (is_same_id a.id b.id) (a.born == b.born) refl refl same
-
-pub same_dir_self : (a : DirRef) → is_same_dir a a ≡ true
-same_dir_self a = rw (same_id_self a.id) ((Decides-eqb a.born a.born).1 refl)
 
 same_id_back : (a b : Id) → is_same_id a b ≡ true → is_same_id b a ≡ true
 same_id_back a b same = subst (λ (x : Id). is_same_id b x ≡ true) (sym (same_id a b same)) (same_id_self b)
@@ -93,7 +72,7 @@ module _ (dir : DirRef) (change : Content → Content) (keeps : (c : Content) �
       by_born : (b : Bool) → (c.dir.born == dir.born) ≡ b → is_same_id c.dir.id dir.id ≡ true
           → content_at other (cond b (change c) c ∷ cs) ≡ content_at other (c ∷ cs)
       by_born true born here =
-          let is : c.dir ≡ dir = same_parts c.dir dir true true here born refl in
+          let is : c.dir ≡ dir = same_dir c.dir dir (rw (here, born) refl) in
           let old : is_same_dir c.dir other ≡ false = subst (λ (d : DirRef). is_same_dir d other ≡ false) (sym is) apart in
           let new : is_same_dir (change c).dir other ≡ false = subst (λ (d : DirRef). is_same_dir d other ≡ false) (sym (keeps c)) old in
           passed_over other (change c) cs new
@@ -159,7 +138,7 @@ dropped_apart dir other by (c ∷ cs) sorted apart =
     by_drop : (born allowed : Bool) → (c.dir.born == dir.born) ≡ born → is_same_id c.dir.id dir.id ≡ true
         → content_at other (cond (born && allowed) cs (c ∷ cs)) ≡ content_at other (c ∷ cs)
     by_drop true true births here =
-        let is : c.dir ≡ dir = same_parts c.dir dir true true here births refl in
+        let is : c.dir ≡ dir = same_dir c.dir dir (rw (here, births) refl) in
         let old : is_same_dir c.dir other ≡ false = subst (λ (d : DirRef). is_same_dir d other ≡ false) (sym is) apart in
         none_later (is_same_id other.id c.dir.id) refl ∙ sym (passed_over other c cs old)
     by_drop true false births here = refl

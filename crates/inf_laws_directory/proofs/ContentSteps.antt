@@ -9,6 +9,7 @@ use Rattle.inf_base.specs.declared.key.Key.TheVariants as key
 use Rattle.inf_base.specs.declared.triple.Triple.{Triple}
 use Rattle.inf_base.specs.Content.{Content}
 use Rattle.inf_base.specs.Same.{dir_of, is_same_dir}
+use Rattle.inf_base.proofs.Same.{same_dir_self}
 use Rattle.inf_content.specs.Contents.{slots_found}
 use Rattle.inf_content.specs.Slots.{slot_in}
 use Rattle.inf_laws_directory.specs.Objects.{Objects, Service, content_in, slots_kept}
@@ -18,7 +19,6 @@ use Rattle.inf_laws_directory.specs.Phases.{IsLoose, IsReserving, IsSealing, Pha
 use Rattle.inf_laws_directory.specs.Things.{thing_in}
 use Rattle.inf_laws_directory.specs.Told.{IsGone, IsToldAs}
 use Rattle.inf_laws_directory.proofs.CallFacts.{each_call, phase_apart, phase_here}
-use Rattle.inf_laws_directory.proofs.ContentFacts.{same_dir_self}
 use Rattle.inf_laws_directory.proofs.Kept.{Becomes, Slots, each_dir}
 
 -- the same slots stand in all directories, where they do in the one that changed

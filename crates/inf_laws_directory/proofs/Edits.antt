@@ -10,13 +10,13 @@ use Rattle.std.proofs.lemmas.Slice.Eq.{bytes_eq-Decides}
 use Rattle.inf_base.specs.declared.access.Access.{Access}
 use Rattle.inf_base.specs.declared.file.FileMeta.{FileMeta}
 use Rattle.inf_base.specs.Same.{dir_of, is_same_dir}
+use Rattle.inf_base.proofs.Same.{same_dir}
 use Rattle.inf_tree.specs.Tree.{DirMeta, Entries, IsTree, Node, changed, cut, dir, file, found, hung, names_of, none, placed, without}
 use Rattle.inf_tree.proofs.Lookups.{found-placed, found-without}
 use Rattle.inf_laws_directory.specs.Changes.{AllStay, IsEmpty, IsNew, IsUnreached, Puts, Takes, is_at}
 use Rattle.inf_laws_directory.specs.Stands.{Shows, Stands, child, meta_of, node_at, shown_node, shown_thing}
 use Rattle.inf_laws_directory.specs.Things.{Directories, HasContent, Reaches, Thing, a_dir, a_file, thing_at, thing_under}
 use Rattle.inf_laws_directory.proofs.Leaves.{ChangesLeaf, HasNothingBehind, leaf_once, leaf_shows, leaf_there}
-use Rattle.inf_laws_directory.proofs.ContentFacts.{same_dir}
 use Rattle.inf_laws_directory.proofs.Nodes.{IfTree, IsDirOf, IsTree-node_at, cases_name, dir_from_shown, own_name, seen, shows_from}
 
 -- entries that differ from others at one name, behind which nothing shows before or after

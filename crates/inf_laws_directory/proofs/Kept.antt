@@ -13,12 +13,12 @@ use Rattle.inf_base.specs.declared.triple.Triple.{Triple}
 use Rattle.inf_base.specs.Content.{Content, Slot}
 use Rattle.inf_base.specs.Identity.{server_of}
 use Rattle.inf_base.specs.Same.{is_same_dir, is_same_id}
+use Rattle.inf_base.proofs.Same.{same_dir, same_id, same_id_self}
 use Rattle.inf_content.specs.Contents.{changed_at, content_at, content_of_id, dropped_at, empty_content, if_born, made_at, may_drop, may_drop_found, placed, with_new, with_slots_at}
 use Rattle.inf_server.specs.State.{Site, State, is_here}
 use Rattle.inf_laws_directory.specs.Objects.{Objects, Service, content_in, site_in, with_state}
 use Rattle.inf_content.specs.Order.{AreInOrder, IdentifiersRise}
-use Rattle.inf_laws_directory.proofs.ContentFacts.{absent_id, bytes_of, changed_apart, changed_here, dropped_apart, placed_apart, placed_here, same_dir, same_id_self, with_changed}
-use Rattle.inf_renames.proofs.RenamesFacts.{same_id}
+use Rattle.inf_laws_directory.proofs.ContentFacts.{absent_id, bytes_of, changed_apart, changed_here, dropped_apart, placed_apart, placed_here, with_changed}
 
 abbrev pub Slots : Type 0
 Slots = List (List ℕ × Slot)

@@ -6,11 +6,11 @@ use Rattle.std.proofs.lemmas.Slice.Eq.{bytes_eq-Decides}
 use Rattle.inf_base.specs.declared.access.Access.{Access}
 use Rattle.inf_base.specs.declared.directory.DirRef.{DirRef}
 use Rattle.inf_base.specs.Same.{dir_of}
+use Rattle.inf_base.proofs.Same.{same_dir}
 use Rattle.inf_tree.specs.Tree.{Node, changed}
 use Rattle.inf_laws_directory.specs.Changes.{AllStay, IsUnreached, is_at}
 use Rattle.inf_laws_directory.specs.Stands.{AreThere, Shown, Shows, child, node_at, shown_node, shown_thing}
 use Rattle.inf_laws_directory.specs.Things.{Directories, HasContent, Reaches, StandOnce, Thing, a_dir, thing_at, thing_under}
-use Rattle.inf_laws_directory.proofs.ContentFacts.{same_dir}
 use Rattle.inf_laws_directory.proofs.Nodes.{cases_path, changed_elsewhere, changed_here, node_at-here, seen}
 use Rattle.inf_laws_directory.proofs.Ways.{same_at, thing_at-next}
 

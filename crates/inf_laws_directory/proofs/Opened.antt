@@ -5,11 +5,12 @@ use Rattle.inf_base.specs.declared.directory.DirRef.{DirRef}
 use Rattle.inf_base.specs.Content.{Content}
 use Rattle.inf_base.specs.Identity.{server_of}
 use Rattle.inf_base.specs.Same.{is_same_dir, is_same_id}
+use Rattle.inf_base.proofs.Same.{same_id_self}
 use Rattle.inf_content.specs.Contents.{content_at, slots_found}
 use Rattle.inf_content.specs.Slots.{slot_in}
 use Rattle.inf_server.specs.State.{State, opening, root_content, root_dir}
 use Rattle.inf_laws_directory.specs.Objects.{Objects, Service, content_in, site_in, slots_kept}
-use Rattle.inf_laws_directory.proofs.ContentFacts.{passed_over, same_id_self}
+use Rattle.inf_laws_directory.proofs.ContentFacts.{passed_over}
 use Rattle.inf_laws_directory.proofs.Kept.{each_dir}
 
 either_none : (other : DirRef) (b : Bool) (here elsewhere : State) → content_at other here.contents ≡ None → content_at other elsewhere.contents ≡ None

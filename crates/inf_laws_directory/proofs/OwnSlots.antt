@@ -6,10 +6,10 @@ use Rattle.std.specs.Ordering.{nat_cmp}
 use Rattle.inf_base.specs.declared.access.Access.{Access}
 use Rattle.inf_base.specs.declared.caller.CallRef.{CallRef}
 use Rattle.inf_base.specs.Content.{Slot, reserved, file, directory}
+use Rattle.inf_base.proofs.Same.{same_call, same_call_self}
 use Rattle.inf_content.specs.Slot.{reserves}
 use Rattle.inf_content.specs.Slots.{first, slot_in}
 use Rattle.inf_laws_directory.proofs.AskedFacts.{is_there}
-use Rattle.inf_laws_directory.proofs.CallFacts.{same_call, same_call_self}
 use Rattle.inf_laws_directory.proofs.SlotFacts.{AreSorted, first_is_changed, first_passes}
 
 record IsReservedBy (by : CallRef) (slot : Slot) : Type 0 where

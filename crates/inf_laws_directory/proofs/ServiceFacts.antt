@@ -5,6 +5,7 @@ use Rattle.std.specs.Str.{bytes_eq}
 use Rattle.inf_base.specs.declared.directory.DirRef.{DirRef}
 use Rattle.inf_base.specs.Content.{Content}
 use Rattle.inf_base.specs.Same.{is_same_dir}
+use Rattle.inf_base.proofs.Same.{same_dir}
 use Rattle.inf_content.specs.Contents.{slots_at, slots_found}
 use Rattle.inf_content.specs.Slots.{slot_in}
 use Rattle.inf_server.specs.State.{State, is_here}
@@ -12,7 +13,7 @@ use Rattle.inf_laws_directory.specs.Changes.{AllStay, LooksAsBefore, Puts, Takes
 use Rattle.inf_laws_directory.specs.Objects.{Objects, Service, content_in, site_in, slots_kept, with_state}
 use Rattle.inf_laws_directory.specs.Serves.{IsUnseen, directories_after}
 use Rattle.inf_laws_directory.specs.Things.{Directories, HasContent, Thing, thing_in, thing_under}
-use Rattle.inf_laws_directory.proofs.ContentFacts.{same_dir, with_changed}
+use Rattle.inf_laws_directory.proofs.ContentFacts.{with_changed}
 use Rattle.inf_laws_directory.proofs.Kept.{Becomes, HasChanged, Slots, content_here, each_dir, slots_become}
 
 -- what stands under a name of what was found

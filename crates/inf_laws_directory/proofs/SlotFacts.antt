@@ -15,6 +15,7 @@ use Rattle.std.proofs.lemmas.Slice.Eq.{bytes_eq-Decides}
 use Rattle.inf_base.specs.declared.access.Access.{Access}
 use Rattle.inf_base.specs.declared.caller.CallRef.{CallRef}
 use Rattle.inf_base.specs.Content.{Slot, reserved, file, directory}
+use Rattle.inf_base.proofs.Same.{same_name, same_name_self}
 use Rattle.inf_content.specs.Order.{NamesRise}
 use Rattle.inf_content.specs.Slot.{freed, reserves}
 use Rattle.inf_content.specs.Slots.{first, first_changed, lifted, slot_in, with_slot, without_slot}
@@ -30,12 +31,6 @@ IsBefore name names = AllByRecursion (λ (other : List ℕ). slice_cmp nat_cmp n
 pub same_test : (a b : List ℕ) → is_at (slice_cmp nat_cmp a) b ≡ bytes_eq a b
 same_test a b = is_eq-slice_cmp a b
 
-pub same_self : (a : List ℕ) → bytes_eq a a ≡ true
-same_self a = (bytes_eq-Decides a a).1 refl
-
-pub same_name : (a b : List ℕ) → bytes_eq a b ≡ true → a ≡ b
-same_name a b = (bytes_eq-Decides a b).0
-
 apart_back : (a b : List ℕ) → bytes_eq a b ≡ false → bytes_eq b a ≡ false
 apart_back a b apart = false_from_ne_true _ (λ same. both_ways _ apart ((bytes_eq-Decides a b).1 (sym (same_name b a same))))
 
@@ -49,12 +44,12 @@ absent name (e ∷ es) before = rw before.0 (absent name es before.1)
 
 -- one slot under a name
 pub with_slot_here : (name : List ℕ) (slot : Slot) (slots : List (List ℕ × Slot)) → slot_in name (with_slot name slot slots) ≡ Some slot
-with_slot_here name slot [] = rw (same_test name name, same_self name) refl
+with_slot_here name slot [] = rw (same_test name name, same_name_self name) refl
 with_slot_here name slot (e ∷ es) = by (slice_cmp nat_cmp name e.0) refl (with_slot_here name slot es)
   where
     by : (o : Ordering) → slice_cmp nat_cmp name e.0 ≡ o → slot_in name (with_slot name slot es) ≡ Some slot
         → slot_in name (match_ordering o ((name, slot) ∷ e ∷ es) ((e.0, slot) ∷ es) (e ∷ with_slot name slot es)) ≡ Some slot
-    by Less is later = rw (same_test name name, same_self name) refl
+    by Less is later = rw (same_test name name, same_name_self name) refl
     by Equal is later = rw is refl
     by Greater is later = rw is later
 
@@ -135,8 +130,8 @@ first_is_changed test change (e ∷ es) found sorted is =
     by true passes is later =
         let same : e ≡ found = cc in
         subst (λ (x : List ℕ × Slot). IsChanged test change (e ∷ es) x) same (record {
-          old = rw (same_test e.0 e.0, same_self e.0) refl;
-          new = rw (passes, same_test e.0 e.0, same_self e.0) refl;
+          old = rw (same_test e.0 e.0, same_name_self e.0) refl;
+          new = rw (passes, same_test e.0 e.0, same_name_self e.0) refl;
           others = λ other apart. rw (passes, same_test other e.0, apart_back e.0 other apart) refl;
         })
     by false fails is later =

@@ -9,6 +9,7 @@ use Rattle.inf_base.specs.declared.key.Key.TheVariants as key
 use Rattle.inf_base.specs.declared.triple.Triple.{Triple}
 use Rattle.inf_base.specs.Content.{Content, Slot, reserved}
 use Rattle.inf_base.specs.Same.{dir_of, is_same_dir}
+use Rattle.inf_base.proofs.Same.{same_dir, same_dir_self, same_name, same_name_self}
 use Rattle.inf_content.specs.Contents.{seal_of, slots_found}
 use Rattle.inf_content.specs.Slots.{slot_in}
 use Rattle.inf_laws_directory.specs.Changes.{is_at}
@@ -20,9 +21,7 @@ use Rattle.inf_laws_directory.specs.Steps.{Keeps}
 use Rattle.inf_laws_directory.specs.Things.{a_dir, thing_in}
 use Rattle.inf_laws_directory.specs.Told.{IsGone, IsToldAs}
 use Rattle.inf_laws_directory.proofs.CallFacts.{each_call, none_not_some, phase_apart, phase_here}
-use Rattle.inf_laws_directory.proofs.ContentFacts.{same_dir, same_dir_self}
 use Rattle.inf_laws_directory.proofs.Kept.{Slots, each_dir}
-use Rattle.inf_laws_directory.proofs.SlotFacts.{same_name, same_self}
 
 -- the slot under one name of a directory that is there changed, and nothing else
 pub record SlotChanges (service : Service) (old new : Objects) (dir : DirRef) (name : List ℕ) (was now : Option Slot) : Type 0 where
@@ -78,7 +77,7 @@ each_name dir name P here others other_dir other = by (is_same_dir dir other_dir
 pub at_itself : (dir : DirRef) (name : List ℕ) (other_dir : DirRef) (other : List ℕ) → dir ≡ other_dir → name ≡ other → is_at dir name other_dir other ≡ true
 at_itself dir name other_dir other dirs names =
     let here = same_dir_self dir in
-    let named = same_self name in
+    let named = same_name_self name in
     subst₂ (λ (d : DirRef) (n : List ℕ). is_at dir name d n ≡ true) dirs names (rw here named)
 
 sealed_so : {P : Type 0} (found : Option Content) (by : CallRef) → seal_of found ≡ Some by

@@ -9,6 +9,7 @@ use Rattle.inf_base.specs.declared.directory.DirRef.{DirRef}
 use Rattle.inf_base.specs.declared.entry.Entry.{Entry}
 use Rattle.inf_base.specs.Content.{Slot}
 use Rattle.inf_base.specs.Same.{dir_of, is_same_dir}
+use Rattle.inf_base.proofs.Same.{same_dir}
 use Rattle.inf_server.specs.Chains.{before_last, last_of}
 use Rattle.inf_tree.specs.Tree.{IsTree, Node}
 use Rattle.inf_tree.proofs.Sorted.{IsTree-apply}
@@ -27,7 +28,6 @@ use Rattle.inf_laws_directory.specs.Things.{thing_in}
 use Rattle.inf_content.specs.Contents.{seal_of}
 use Rattle.inf_content.specs.Slots.{slot_in}
 use Rattle.inf_laws_directory.proofs.ChainEnds.{last_links}
-use Rattle.inf_laws_directory.proofs.ContentFacts.{same_dir}
 use Rattle.inf_laws_directory.proofs.OwnedFacts.{loose_in}
 use Rattle.inf_laws_directory.proofs.OpenDirectories.{is_open}
 use Rattle.inf_laws_directory.proofs.ToldChains.{chain_is_true}

@@ -9,6 +9,7 @@ use Rattle.inf_base.specs.declared.key.Key.TheVariants as key
 use Rattle.inf_base.specs.declared.triple.Triple.{Triple}
 use Rattle.inf_base.specs.Content.{Content, Slot, reserved}
 use Rattle.inf_base.specs.Same.{dir_of}
+use Rattle.inf_base.proofs.Same.{same_dir_self}
 use Rattle.inf_content.specs.Contents.{seal_of, slots_found}
 use Rattle.inf_content.specs.Slots.{slot_in}
 use Rattle.inf_laws_directory.specs.Changes.{is_at}
@@ -19,7 +20,6 @@ use Rattle.inf_laws_directory.specs.Steps.{Keeps}
 use Rattle.inf_laws_directory.specs.Things.{a_dir, thing_in}
 use Rattle.inf_laws_directory.specs.Told.{IsToldAs}
 use Rattle.inf_laws_directory.proofs.CallFacts.{each_call, none_not_some, phase_here}
-use Rattle.inf_laws_directory.proofs.ContentFacts.{same_dir_self}
 use Rattle.inf_laws_directory.proofs.Kept.{each_dir}
 use Rattle.inf_laws_directory.proofs.OwnedFacts.{full_not_loose, full_not_sealed, one_bearer, sealing_in}
 use Rattle.inf_laws_directory.proofs.SlotSteps.{SlotChanges, at_itself, each_name}

@@ -13,6 +13,7 @@ use Rattle.inf_base.specs.Content.{Content, Slot, reserved, file, directory}
 use Rattle.inf_base.specs.Identity.{server_of}
 use Rattle.inf_base.specs.Marks.{Mark}
 use Rattle.inf_base.specs.Same.{is_same_call, is_same_id}
+use Rattle.inf_base.proofs.Same.{same_call_self}
 use Rattle.inf_content.specs.Contents.{content_at, content_of_id, if_born, slots_found}
 use Rattle.inf_content.specs.Slot.{taker}
 use Rattle.inf_content.specs.Slots.{slot_in}
@@ -36,7 +37,6 @@ use Rattle.inf_laws_directory.specs.Fits.{Fits}
 use Rattle.inf_laws_directory.specs.Objects.{content_in, slots_kept}
 use Rattle.inf_laws_directory.specs.Owned.{IsUnheld}
 use Rattle.inf_laws_directory.specs.Phases.{IsReserving, IsSealing, Phase, has_made, has_reserved, has_sealed, has_unlinked, idle}
-use Rattle.inf_laws_directory.proofs.CallFacts.{same_call_self}
 use Rattle.inf_laws_history.proofs.BlockedRequests.{HasSealed, HasTaken, IsFirst, IsInTheWay, any_at, is_of_self, takes}
 use Rattle.inf_laws_server.specs.Blocked.{IsSealedBy, IsTakenBy}
 use Rattle.inf_laws_history.proofs.PhaseFits.{fits}

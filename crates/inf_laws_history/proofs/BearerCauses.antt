@@ -13,6 +13,7 @@ use Rattle.inf_base.specs.declared.triple.Triple.TheVariants as triple
 use Rattle.inf_base.specs.Content.{Content, Slot, reserved, file, directory}
 use Rattle.inf_base.specs.Identity.{identity, server_of}
 use Rattle.inf_base.specs.Same.{dir_of, is_same_call, is_same_id, is_same_triple}
+use Rattle.inf_base.proofs.Same.{same_call, same_call_self, same_id}
 use Rattle.inf_content.specs.Contents.{bearer, bearer_or, content_at, content_of_id, empty_content, if_born, slots_found}
 use Rattle.inf_content.specs.Slot.{filled, reserves}
 use Rattle.inf_content.specs.Slots.{first, slot_in}
@@ -33,11 +34,9 @@ use Rattle.inf_laws_directory.specs.Objects.{content_in, slots_kept}
 use Rattle.inf_laws_directory.specs.Owned.{Has, HasPlace, IsLinkedSomewhere, Links}
 use Rattle.inf_laws_directory.specs.Phases.{IsLoose, IsReserving, IsSealing, Phase, has_made, has_reserved, has_sealed, has_unlinked, idle}
 use Rattle.inf_laws_directory.specs.Things.{a_dir, thing_in}
-use Rattle.inf_laws_directory.proofs.CallFacts.{same_call, same_call_self}
 use Rattle.inf_laws_server.specs.Passed.{IsAsked}
 use Rattle.inf_laws_directory.proofs.ServedSlots.{slots_in_order}
 use Rattle.inf_laws_directory.proofs.SlotFacts.{first_is_changed, first_passes}
-use Rattle.inf_renames.proofs.RenamesFacts.{same_id}
 use Rattle.inf_laws_history.proofs.AgainCauses.{acts, content_there, flies, found_at, last_of_three, same_client, sealing}
 use Rattle.inf_laws_history.proofs.BlockedRequests.{is_of_self}
 use Rattle.inf_laws_history.proofs.ClashCauses.{found_id, same_triple_self}

@@ -17,6 +17,7 @@ use Rattle.inf_base.specs.Checks.{◌>>=◌, ◌>>◌}
 use Rattle.inf_base.specs.Content.{Content, Hold, Slot, TopAccess, reserved, file, directory}
 use Rattle.inf_base.specs.Identity.{identity}
 use Rattle.inf_base.specs.Same.{dir_of, is_same_call, is_same_triple}
+use Rattle.inf_base.proofs.Same.{same_call_self}
 use Rattle.inf_content.specs.Contents.{bearer, born_of, content_at, content_of_id, filled_at, if_born, made_of, seal_of, slots_at, slots_found}
 use Rattle.inf_content.specs.Order.{AreInOrder, NamesRise}
 use Rattle.inf_content.specs.Slot.{holder, reserves, taker}
@@ -42,7 +43,6 @@ use Rattle.inf_server.specs.Machine.{on_change, on_lookup, on_op, on_request}
 use Rattle.inf_server.specs.Removals.{is_the_directory, name_in, seal, unless_inside, unlink}
 use Rattle.inf_server.specs.Response.{Response, done}
 use Rattle.inf_server.specs.State.{Site, State, is_here, root_id, with_contents}
-use Rattle.inf_laws_directory.proofs.CallFacts.{same_call_self}
 use Rattle.inf_laws_directory.proofs.ContentFacts.{slots_sorted}
 use Rattle.inf_laws_directory.proofs.SlotFacts.{first_is_changed}
 

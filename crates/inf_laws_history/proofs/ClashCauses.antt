@@ -8,6 +8,7 @@ use Rattle.inf_base.specs.Checks.{◌>>◌, check}
 use Rattle.inf_base.specs.Content.{Content}
 use Rattle.inf_base.specs.Identity.{identity}
 use Rattle.inf_base.specs.Same.{is_same_id, is_same_triple}
+use Rattle.inf_base.proofs.Same.{same_id, same_id_self, same_name_self}
 use Rattle.inf_content.specs.Contents.{bearer, content_of_id, made_of}
 use Rattle.inf_content.specs.declared.made.Made.TheVariants as made
 use Rattle.inf_duty.specs.World.{World}
@@ -24,9 +25,6 @@ use Rattle.inf_message.specs.declared.request.Request.TheVariants as request
 use Rattle.inf_message.specs.History.{Posted}
 use Rattle.inf_server.specs.Response.{Response}
 use Rattle.inf_server.specs.State.{Site, State, is_here}
-use Rattle.inf_laws_directory.proofs.ContentFacts.{same_id_self}
-use Rattle.inf_laws_directory.proofs.SlotFacts.{same_self}
-use Rattle.inf_renames.proofs.RenamesFacts.{same_id}
 use Rattle.inf_laws_history.proofs.ContentBirths.{IsBirth, births_after, so_found}
 use Rattle.inf_laws_history.proofs.ResultCauses.{IsClashFor, serve_may}
 
@@ -43,7 +41,7 @@ pub same_triple_self : (t : Triple) → is_same_triple t t ≡ true
 same_triple_self triple.Root = refl
 same_triple_self (triple.Of parent name version) =
     let one = same_id_self parent in
-    let two = same_self name in
+    let two = same_name_self name in
     let three = (Decides-eqb version version).1 refl in
     rw (one, two, three) refl
 

@@ -26,9 +26,10 @@ use Rattle.inf_server.specs.Machine.{Serves, on_change, on_op, on_request}
 use Rattle.inf_server.specs.Response.{Response}
 use Rattle.inf_server.specs.State.{Site, State}
 use Rattle.inf_laws_directory.proofs.Kept.{Slots}
-use Rattle.inf_laws_directory.proofs.SlotFacts.{same_name, same_test}
+use Rattle.inf_laws_directory.proofs.SlotFacts.{same_test}
 use Rattle.inf_duty.proofs.BegunKept.{if_both}
 use Rattle.inf_base.specs.declared.caller.Caller.{Caller}
+use Rattle.inf_base.proofs.Same.{same_name}
 use Rattle.inf_laws_server.specs.CameTo.{IsDone}
 use Rattle.inf_laws_server.specs.Changes as change
 use Rattle.inf_laws_server.specs.Changes.{Change, changed}

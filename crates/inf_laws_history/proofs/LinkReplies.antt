@@ -13,6 +13,7 @@ use Rattle.inf_base.specs.Checks.{◌>>=◌, ◌>>◌, check}
 use Rattle.inf_base.specs.Content.{Slot, reserved}
 use Rattle.inf_base.specs.Identity.{server_of}
 use Rattle.inf_base.specs.Same.{dir_of, is_same_call}
+use Rattle.inf_base.proofs.Same.{same_call_self}
 use Rattle.inf_content.specs.Contents.{content_at, filled_at, seal_of, slots_at}
 use Rattle.inf_content.specs.Slot.{reserves}
 use Rattle.inf_content.specs.Slots.{first, slot_in}
@@ -25,7 +26,6 @@ use Rattle.inf_laws_directory.specs.At.{At}
 use Rattle.inf_laws_directory.specs.Fits.{EndsIn, Fits}
 use Rattle.inf_laws_directory.specs.Owned.{Has}
 use Rattle.inf_laws_directory.specs.Phases.{Phase, Phases, has_made}
-use Rattle.inf_laws_directory.proofs.CallFacts.{same_call_self}
 use Rattle.inf_laws_history.specs.Causes.{before}
 use Rattle.inf_laws_history.specs.Kept.{Kept}
 use Rattle.inf_laws_history.specs.Legal.{Legal, MayServe, server_after}

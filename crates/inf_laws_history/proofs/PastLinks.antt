@@ -9,6 +9,7 @@ use Rattle.inf_base.specs.declared.triple.Triple.TheVariants as triple
 use Rattle.inf_base.specs.Content.{Content}
 use Rattle.inf_base.specs.Identity.{identity, server_of}
 use Rattle.inf_base.specs.Same.{dir_of}
+use Rattle.inf_base.proofs.Same.{same_dir}
 use Rattle.inf_content.specs.Contents.{content_at, empty_content}
 use Rattle.inf_duty.specs.After.{client_after}
 use Rattle.inf_duty.specs.World.{World}
@@ -38,7 +39,6 @@ use Rattle.inf_message.proofs.HistoryLaws.{asked_stays, asked_within}
 use Rattle.inf_server.specs.State.{State}
 use Rattle.inf_laws_directory.specs.Owned.{Has}
 use Rattle.inf_laws_directory.specs.Phases.{IsLoose, Phase, has_made, has_reserved, has_sealed, has_unlinked, idle}
-use Rattle.inf_laws_directory.proofs.ContentFacts.{same_dir}
 use Rattle.inf_laws_history.proofs.AgainCauses.{found_at, under_way, waits}
 use Rattle.inf_duty.proofs.BegunKept.{if_both}
 use Rattle.inf_laws_history.proofs.ClientSteps.{Lasts, begun_lasts, served_lasts}

@@ -5,6 +5,7 @@ use Rattle.inf_base.specs.declared.caller.CallRef.{CallRef}
 use Rattle.inf_base.specs.declared.directory.DirRef.{DirRef}
 use Rattle.inf_base.specs.Content.{Content}
 use Rattle.inf_base.specs.Same.{dir_of, is_same_call}
+use Rattle.inf_base.proofs.Same.{same_call_self}
 use Rattle.inf_content.specs.Contents.{may_drop_found, seal_left, seal_of, slots_found}
 use Rattle.inf_message.specs.declared.ask.Ask.{Ask}
 use Rattle.inf_message.specs.declared.request.Request.TheVariants as request
@@ -16,7 +17,7 @@ use Rattle.inf_laws_directory.specs.Owned.{AreOwned, Has, StandsUnder}
 use Rattle.inf_laws_directory.specs.Phases.{IsLoose, IsReserving, IsSealing, Phase, Phases, has_sealed, has_unlinked, idle, with_phase}
 use Rattle.inf_laws_directory.specs.Steps.{Keeps}
 use Rattle.inf_laws_directory.specs.Told.{IsGone}
-use Rattle.inf_laws_directory.proofs.CallFacts.{none_not_some, same_call_self}
+use Rattle.inf_laws_directory.proofs.CallFacts.{none_not_some}
 use Rattle.inf_laws_directory.proofs.ContentSteps.{MayBecome, content_step_owned, content_step_told}
 use Rattle.inf_laws_directory.proofs.Kept.{Becomes, changed_becomes, dropped_becomes}
 use Rattle.inf_laws_directory.proofs.OwnedFacts.{IsInHands, loose_in, one_bearer, one_loose, sealing_in}

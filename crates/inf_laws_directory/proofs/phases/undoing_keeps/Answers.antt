@@ -7,6 +7,7 @@ use Rattle.inf_base.specs.declared.directory.DirRef.{DirRef}
 use Rattle.inf_base.specs.declared.triple.Triple.{Triple}
 use Rattle.inf_base.specs.Content.{Content, Hold, Slot, reserved, file, directory}
 use Rattle.inf_base.specs.Same.{is_same_call}
+use Rattle.inf_base.proofs.Same.{same_call, same_call_self, same_name_self}
 use Rattle.inf_content.specs.Contents.{dropped_at, may_drop_found, slots_found}
 use Rattle.inf_content.specs.Slot.{let_go}
 use Rattle.inf_content.specs.Slots.{lifted, slot_in}
@@ -21,13 +22,13 @@ use Rattle.inf_laws_directory.specs.Owned.{AreOwned, Has, IsUnheld, KeepsName}
 use Rattle.inf_laws_directory.specs.Phases.{IsLoose, IsReserving, IsSealing, Phase, Phases, has_made, has_reserved, has_unlinked, idle, with_phase}
 use Rattle.inf_laws_directory.specs.Steps.{Keeps}
 use Rattle.inf_laws_directory.specs.Things.{a_dir}
-use Rattle.inf_laws_directory.proofs.CallFacts.{none_not_some, same_call, same_call_self}
+use Rattle.inf_laws_directory.proofs.CallFacts.{none_not_some}
 use Rattle.inf_laws_directory.proofs.ContentSteps.{MayBecome, content_step_owned, content_step_told, same_slot}
 use Rattle.inf_laws_directory.proofs.Kept.{Becomes, dropped_becomes}
 use Rattle.inf_content.proofs.Ordered.{dropped_in_order, lifted_in_order}
 use Rattle.inf_laws_directory.proofs.OwnedFacts.{IsInHands, full_not_loose, full_not_sealed, loose_in, one_bearer, one_loose, sealing_in}
 use Rattle.inf_laws_directory.proofs.ServedSlots.{has_slot, orders_after, slot_changes, slots_in_order}
-use Rattle.inf_laws_directory.proofs.SlotFacts.{lifted_one, lifted_slot, same_self}
+use Rattle.inf_laws_directory.proofs.SlotFacts.{lifted_one, lifted_slot}
 use Rattle.inf_laws_directory.proofs.SlotSteps.{MayChange, at_itself, slot_step_keeps}
 use Rattle.inf_laws_server.proofs.Came.{Did}
 use Rattle.inf_laws_directory.proofs.ServedKinds.{cancelled, dropped, has_lifted}
@@ -94,7 +95,7 @@ module _ (service : Service) (objects : Objects) (number : ℕ) (root : Access) 
       (λ other apart. lifted_slot ask.from other slot.content.slots sorted
       ∙ left_as_is ask.from (slot_in other slot.content.slots) (λ s at. left_alone ask.from s (owned.holds parent other s (in_parent other s at))
       (λ access reserved_so. let here = reserves_here parent other (owned.reservations parent other ask.from access (in_parent other s at ∙ ap (λ (x : Slot). Some x) reserved_so)) in
-      both_ways _ apart (subst (λ (n : List ℕ). bytes_eq name n ≡ true) here.1 (same_self name))))))
+      both_ways _ apart (subst (λ (n : List ℕ). bytes_eq name n ≡ true) here.1 (same_name_self name))))))
       may_cancel
 
 module _ (service : Service) (objects : Objects) (number : ℕ) (root : Access) (phases : Phases) (ask : Ask)
