@@ -1,5 +1,5 @@
 -- A line of the settings, of a client or of a call leaves what was read good.
-use Rattle.std.proofs.Common.{◌≡◌, ℕ, zero, suc, ◌+◌, ◌≤◌, ◌<◌, Bool, true, false, ◌&&◌, ◌||◌, cond, nat_eq, nat_lt, codes, List, [], ◌∷◌, ◌++◌, length, Option, Some, None, is_some, is_none, IfSome, Result, Ok, Err, IfOk, All, refl, sym, ◌∙◌, subst, arith}
+use Rattle.std.proofs.Common.{◌≡◌, ℕ, zero, suc, ◌+◌, ◌≤◌, ◌<◌, Bool, true, false, ◌&&◌, ◌||◌, cond, nat_eq, nat_lt, codes, if◌then◌else◌, List, [], ◌∷◌, ◌++◌, length, Option, Some, None, is_some, is_none, IfSome, Result, Ok, Err, IfOk, All, refl, sym, ◌∙◌, subst, arith}
 use Rattle.std.specs.List.{list_all, list_any, IsDistinct, AllByRecursion, position_or_len}
 use Rattle.std.specs.Str.{bytes_eq}
 use Rattle.std.proofs.lemmas.Bool.{eqb-true, ltb-true, leb-true}

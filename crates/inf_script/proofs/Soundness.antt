@@ -1,5 +1,5 @@
 -- What is read is valid, and of the form that is built.
-use Rattle.std.proofs.Common.{◌≡◌, ℕ, ◌+◌, ◌≤◌, ◌<◌, Bool, true, false, nat_eq, nat_lt, nat_le, codes, List, [], ◌∷◌, length, position, Option, Some, None, IfSome, Result, Ok, Err, IfOk, refl, ◌∙◌, subst, arith}
+use Rattle.std.proofs.Common.{◌≡◌, ℕ, ◌+◌, ◌≤◌, ◌<◌, Bool, true, false, nat_eq, nat_lt, nat_le, codes, if◌then◌else◌, List, [], ◌∷◌, length, position, Option, Some, None, IfSome, Result, Ok, Err, IfOk, refl, ◌∙◌, subst, arith}
 use Rattle.std.specs.List.{list_all, IsDistinct}
 use Rattle.std.specs.Str.{bytes_eq, is_utf8}
 use Rattle.std.proofs.lemmas.Bool.{le-leb}
