@@ -1,5 +1,6 @@
 -- What a client has still to send.
 use Rattle.std.proofs.Common.{◌≡◌, ◌≢◌, ℕ, zero, suc, ◌<◌, ◌≤◌, Bool, true, false, not, ◌&&◌, nat_lt, List, [], ◌∷◌, length, map, slice_get, Option, Some, None, is_some, Decides, refl, sym, ap, ◌∙◌, arith}
+use Rattle.std.proofs.lemmas.Bool.{lt-ltb}
 use Rattle.std.proofs.lemmas.Bool.Decides.{Decides-like}
 use Rattle.inf_base.specs.declared.id.Id.{Id}
 use Rattle.inf_base.specs.declared.call.Call.{Call}
@@ -44,16 +45,16 @@ composed_there digest s (winds ending m ms) built some none = some_first (group 
 
 -- where there is an ask to make between two groups, it is the next step
 pub asks_there : (digest : List ℕ → Id) (s : ClientState) → s.sent ≡ [] → has_ask s ≡ true → is_ask (next_step (composed digest s)) ≡ true
-asks_there digest s between asks =
-    let they = both (is_some (next_course s.left)) (has_message s.who s.stage) asks in
-    ap is_ask (next_in_some (composed digest s) s.left (ask_left s asks)
+asks_there digest s between there =
+    let they = both (is_some (next_course s.left)) (has_message s.who s.stage) there in
+    ap is_ask (next_in_some (composed digest s) s.left (ask_left s there)
     ∙ ap (λ sent. next_of (composed digest s) (slice_get (group s.who (composed_stage digest s s.stage)) (length sent))) between)
     ∙ some_ask (composed digest s) (slice_get (group s.who (composed_stage digest s s.stage)) 0)
     (composed_there digest s s.stage they.0 they.1)
 
 pub keys_ask : (who : Who) (keys : List LookKey) → not (are_none (map (lookup_of who) keys)) ≡ nat_lt 0 (length keys)
 keys_ask who [] = refl
-keys_ask who (key ∷ keys) = refl
+keys_ask who (key ∷ keys) = sym (lt-ltb 0 (length (key ∷ keys)) (omega arith))
 
 pub over_next : (s : ClientState) → s.left ≡ [] → next_step s ≡ is_over
 over_next s over = ap (next_in s) over
