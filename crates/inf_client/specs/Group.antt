@@ -4,7 +4,7 @@ use Rattle.inf_base.specs.declared.id.Id.{Id}
 use Rattle.inf_client.specs.Client.{IsAtRest, IsInStep, group_asks}
 use Rattle.inf_client.specs.Room.{room_needed, room_within}
 use Rattle.inf_duty.specs.Duty.{asks, found_at, given_up, next_step}
-use Rattle.inf_duty.specs.Outcome.{may_pass}
+use Rattle.inf_duty.specs.Outcome.{may_give_up}
 use Rattle.inf_flow_dir.specs.Client.{ClientState, call_ref}
 use Rattle.inf_message.specs.declared.ask.Ask.{Ask}
 use Rattle.inf_message.specs.History.{Posted, posted_ask}
@@ -23,8 +23,7 @@ abbrev pub not_handed : Bool → List Posted → List Posted
 not_handed true ready = drop 1 ready
 not_handed false ready = ready
 
-pub record IsKept (s : ClientState) (gone : Bool) (log : AskLog) (handed : Bool)
-    (outbox : List (ℕ × Ask)) : Type 0 where
+pub record IsKept (s : ClientState) (gone : Bool) (log : AskLog) (handed : Bool) (outbox : List (ℕ × Ask)) : Type 0 where
   pub at_rest : IsAtRest s gone
   pub in_step : IsInStep s log handed
   -- a client that was told to ask has not given up
@@ -35,8 +34,7 @@ pub record IsKept (s : ClientState) (gone : Bool) (log : AskLog) (handed : Bool)
   pub room : room_needed handed s ≤ log.room
 
 -- the client is to make this ask, and then the others of its group; they were kept, behind none
-pub record IsReadied (number : ℕ) (ask : Ask) (others : List (ℕ × Ask)) (s : ClientState)
-    (before log : AskLog) : Type 0 where
+pub record IsReadied (number : ℕ) (ask : Ask) (others : List (ℕ × Ask)) (s : ClientState) (before log : AskLog) : Type 0 where
   pub next : next_step s ≡ asks number ask
   pub between : s.sent ≡ []
   pub asks_same : log.asks ≡ before.asks
@@ -46,7 +44,7 @@ pub record IsReadied (number : ℕ) (ask : Ask) (others : List (ℕ × Ask)) (s 
 
 -- nothing had to be cleaned up behind the call that was given up
 pub record IsPassed (old new : ClientState) : Type 0 where
-  pub free : may_pass old ≡ true
+  pub free : may_give_up old ≡ true
   pub state : new ≡ given_up old
 
 -- the ask is of the call under way, and finds the client there

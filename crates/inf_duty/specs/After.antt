@@ -14,7 +14,6 @@ use Rattle.inf_message.specs.History.{told_reply}
 abbrev pub client_after : World → ℕ → List Event → ClientState
 client_after world client [] = start world client
 client_after world client (event.Ask number ask ∷ h) =
-    if ask.from.client == client then asked world.digest (suc (length h)) ask (client_after world client h)
-    else client_after world client h
+    if ask.from.client == client then asked world.digest (suc (length h)) ask (client_after world client h) else client_after world client h
 client_after world client (event.Serve number ask_place given ∷ h) =
     served world.digest ask_place (told_reply (suc (length h)) (heard given)) (client_after world client h)

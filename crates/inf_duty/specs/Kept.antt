@@ -31,8 +31,7 @@ AloneOrFits rooms (x ∷ y ∷ sent) = length (x ∷ y ∷ sent) ≤ rooms + tol
 -- room for each answer of a group that is kept
 abbrev pub RoomsFit : Standing → ℕ → List Sent → Type 0
 RoomsFit standing.Compose rooms sent = length sent ≤ rooms + told_count sent
-RoomsFit (standing.Round keys draft) rooms sent =
-    (length keys ≤ rooms + told_count sent) × (length sent ≤ rooms + told_count sent)
+RoomsFit (standing.Round keys draft) rooms sent = (length keys ≤ rooms + told_count sent) × (length sent ≤ rooms + told_count sent)
 RoomsFit (standing.Act flow) rooms sent = AloneOrFits rooms sent
 RoomsFit (standing.Winds ending first rest) rooms sent = AloneOrFits rooms sent
 
@@ -41,8 +40,7 @@ abbrev pub AsksFit : Standing → ℕ → Type 0
 AsksFit (standing.Round keys draft) capacity = length keys ≤ capacity
 AsksFit other capacity = Unit {0}
 
-pub record IsKept (number : ℕ) (left : List Call) (stands : Standing) (sent : List Sent) (capacity rooms : ℕ)
-    (results most_results : ℕ) : Type 0 where
+pub record IsKept (number : ℕ) (left : List Call) (stands : Standing) (sent : List Sent) (capacity rooms : ℕ) (results most_results : ℕ) : Type 0 where
   -- the numbers of the calls that are left fit
   pub numbered : number + length left ≤ MOST_CALLS + 1
   pub is_of : IsOf left stands

@@ -38,8 +38,7 @@ told_pair None = None
 told_pair (Some told) = Some (told.serve_place, told.reply)
 
 abbrev pub own_of : Own → OwnAsk
-own_of own =
-    record { number = own.made.number; ask = own.made.ask; ask_place = own.made.ask_place; told = told_pair own.told }
+own_of own = record { number = own.made.number; ask = own.made.ask; ask_place = own.made.ask_place; told = told_pair own.told }
 
 -- the Asks of a client in a history, the oldest first
 abbrev pub own_asks : ℕ → List Event → List OwnAsk

@@ -7,8 +7,7 @@ use Rattle.inf_flow_dir.specs.Client.{ClientState, idle}
 use Rattle.inf_flow_dir.specs.Flow.{Who}
 
 abbrev pub who_in : World → ℕ → Caller → Who
-who_in world client caller =
-    record { client = client; caller = caller; servers = world.setup.servers; root = root_of world }
+who_in world client caller = record { client = client; caller = caller; servers = world.setup.servers; root = root_of world }
 
 -- whom a client calls for that the setup does not have
 abbrev pub nobody : Caller

@@ -32,8 +32,7 @@ fn answer(
 )
     requires { is_told sending.old ≡ false → 0 < vec_len rooms.old }
     ensures told { sending.new ≡ told_at ask_place (told_reply serve_place (heard reply.now)) sending.old }
-    ensures rooms { vec_len rooms.new + one_if (is_told sending.new)
-        ≡ vec_len rooms.old + one_if (is_told sending.old) }
+    ensures rooms { vec_len rooms.new + one_if (is_told sending.new) ≡ vec_len rooms.old + one_if (is_told sending.old) }
 {
     if !sending.is_at(ask_place) {
         return;

@@ -26,8 +26,7 @@ setup_a = setup_of (client_a ∷ [])
 -- the report of a script with no client
 abbrev pub empty_report : List ℕ
 empty_report =
-    line (codes "infinifs report 1") ++ line (codes "servers 1") ++ line (codes "digest-bytes 32")
-    ++ line (codes "cache 256")
+    line (codes "infinifs report 1") ++ line (codes "servers 1") ++ line (codes "digest-bytes 32") ++ line (codes "cache 256")
     ++ line (codes "calls 0") ++ line (codes "events 0") ++ line (codes "end")
 
 -- the client looks up the root at server 0
