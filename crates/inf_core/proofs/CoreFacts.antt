@@ -17,7 +17,7 @@ use Rattle.inf_message.specs.declared.reply.Reply.TheVariants as reply
 use Rattle.inf_message.specs.History.{Posted, Served, asked_at, event_at, is_served, served_ask, serves_of}
 use Rattle.inf_message.proofs.HistoryLaws.{IsPlaceOf, asked_is_event, asked_within, other, serves_apart, serves_own}
 use Rattle.inf_message.proofs.OldestFirst.{event_is_indexed}
-use Rattle.inf_core.proofs.ByIndex.{got_apart, got_before, got_pushed, got_set}
+use Rattle.inf_laws_history.proofs.ByIndex.{got_apart, got_before, got_pushed, got_set}
 use Rattle.inf_laws_server.proofs.Serves.{quiet_leaves}
 use Rattle.inf_core.proofs.Posted.{posted_known}
 use Rattle.inf_server.specs.Machine.{Serves, state_after}

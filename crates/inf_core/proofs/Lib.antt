@@ -1,4 +1,3 @@
-pub mod ByIndex
 pub mod CoreFacts
 pub mod KnownFlows
 pub mod Posted

@@ -1,8 +1,6 @@
 -- Chains that a client makes of what it was told, whatever is true of that.
 use Rattle.std.proofs.Common.{◌≡◌, ℕ, ◌==◌, Bool, true, false, if◌then◌else◌, ◌&&◌, List, [], ◌∷◌, ◌++◌, Option, Some, None, Result, Ok, refl, sym, ap, ◌∙◌, subst, append_assoc}
-use Rattle.std.proofs.lemmas.Bool.Decides.{Decides-eqb}
 use Rattle.std.proofs.lemmas.List.{append-nil}
-use Rattle.std.proofs.lemmas.Slice.Eq.{bytes_eq-Decides}
 use Rattle.inf_base.specs.declared.access.Access.{Access}
 use Rattle.inf_base.specs.declared.answer.Answer.TheVariants as answer
 use Rattle.inf_base.specs.declared.call.Call.{Call}
@@ -16,7 +14,8 @@ use Rattle.inf_base.specs.declared.key.Key.TheVariants as key
 use Rattle.inf_base.specs.declared.triple.Triple.{Triple}
 use Rattle.inf_base.specs.declared.triple.Triple.TheVariants as triple
 use Rattle.inf_base.specs.Path.{path_of}
-use Rattle.inf_base.specs.Same.{dir_of, is_same_dir, is_same_id}
+use Rattle.inf_base.specs.Same.{dir_of}
+use Rattle.inf_base.proofs.Same.{same_dir}
 use Rattle.inf_message.specs.declared.op.Op.TheVariants as op
 use Rattle.inf_message.specs.declared.reply.Reply.{Reply}
 use Rattle.inf_message.specs.declared.reply.Reply.TheVariants as reply
@@ -26,24 +25,6 @@ use Rattle.inf_flow_dir.specs.Flow.{Flow, Who, birth_of, clean_up, finishes, for
 use Rattle.inf_flow_dir.specs.Group.{Course, course_at, course_in, next_course, split, text_of}
 use Rattle.inf_laws_client.specs.Told.{AllTell, ArePlain, BeginsAtTop, CarriesOnly, FirstIsTop, IfTold, IsChainOf, IsIn, IsOfTop, LinksFrom, StandsOn, TellsOnly, chain_of}
 use Rattle.inf_flow_dir.specs.Turn.{Next, Turn, act_turn, after_act, after_make, after_round, by_next, fails, follow, from_root, goes_on, is_busy, links_to, next_entry, steps, stops, told_entry, turn_at, winds_up}
-
--- ---- directories by what they are known by
-
-same_id : (a b : Id) → is_same_id a b ≡ true → a ≡ b
-same_id a b same = ap (λ (bytes : List ℕ). record { bytes = bytes }) ((bytes_eq-Decides a.bytes b.bytes).0 same)
-
-abbrev dir_from : Id → ℕ → DirRef
-dir_from id born = record { id = id; born = born }
-
-same_parts : (a b : DirRef) (same_ids same_births : Bool) → is_same_id a.id b.id ≡ same_ids → (a.born == b.born) ≡ same_births
-    → (same_ids && same_births) ≡ true → a ≡ b
-same_parts a b true true ids births same =
-    ap (λ (id : Id). dir_from id a.born) (same_id a.id b.id ids) ∙ ap (λ (born : ℕ). dir_from b.id born) ((Decides-eqb a.born b.born).0 births)
-same_parts a b true false ids births same = absurd cc
-same_parts a b false births_same ids births same = absurd cc
-
-same_dir : (a b : DirRef) → is_same_dir a b ≡ true → a ≡ b
-same_dir a b same = same_parts a b (is_same_id a.id b.id) (a.born == b.born) refl refl same
 
 is_in : (dir : DirRef) (k : Key) → links_to dir k ≡ true → IsIn dir k
 is_in dir key.Top is = absurd cc

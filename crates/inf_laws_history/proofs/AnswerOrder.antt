@@ -13,7 +13,8 @@ use Rattle.inf_flow_dir.specs.Group.{group}
 use Rattle.inf_flow_dir.specs.Heard.{heard}
 use Rattle.inf_flow_dir.specs.Turn.{after_record, is_complete, later_place, recorded, served}
 use Rattle.inf_laws_history.proofs.ClientSteps.{served_within}
-use Rattle.inf_laws_history.proofs.PendingFacts.{begun_stays, last_sent, not_complete, sent_recorded, sent_stays, waiting_at}
+use Rattle.inf_laws_history.proofs.PendingFacts.{begun_stays, not_complete, sent_recorded, waiting_at}
+use Rattle.inf_laws_history.proofs.ByIndex.{got_pushed, got_stays}
 use Rattle.inf_message.specs.declared.ask.Ask.{Ask}
 use Rattle.inf_message.specs.History.{Told, told_reply}
 use Rattle.inf_message.proofs.HistoryLaws.{itself}
@@ -129,10 +130,10 @@ module _ (digest : List ℕ → Id) (at place : ℕ) (told : Told) (ask : Ask) (
       ∙ ap (placed place) (begun_stays digest ask (recorded at told s).sent (recorded at told s) is.index (told_at at told (waiting_at at)) told_there)
 
   still_held : has_place at (placed place s).sent ≡ true
-  still_held = held at (placed place s).sent is.index (sent_stays s.sent (waiting_at place) is.index (waiting_at at) is.waits)
+  still_held = held at (placed place s).sent is.index (got_stays s.sent (waiting_at place) is.index (waiting_at at) is.waits)
 
   newest_waits : (t : ClientState) → slice_get (placed place t).sent (length t.sent) ≡ Some (waiting_at place)
-  newest_waits t = last_sent t.sent (waiting_at place)
+  newest_waits t = got_pushed t.sent (waiting_at place)
 
   over_asked : served digest at told (asked digest place ask s) ≡ asked digest place ask (served digest at told s)
   over_asked =
@@ -145,7 +146,7 @@ module _ (digest : List ℕ → Id) (at place : ℕ) (told : Told) (ask : Ask) (
   over_served : (answer : Told) → served digest at told (served digest place answer (asked digest place ask s)) ≡ served digest place answer (asked digest place ask (served digest at told s))
   over_served answer =
       let waits : slice_get (recorded place answer (placed place s)).sent is.index ≡ Some (waiting_at at) =
-      sent_recorded place at answer (placed place s).sent is.index behind (sent_stays s.sent (waiting_at place) is.index (waiting_at at) is.waits) in
+      sent_recorded place at answer (placed place s).sent is.index behind (got_stays s.sent (waiting_at place) is.index (waiting_at at) is.waits) in
       ap (λ t. served digest at told (served digest place answer t)) asked_so
       ∙ ap (served digest at told)
       (served_within digest place answer (placed place s) (held place (placed place s).sent (length s.sent) (newest_waits s))

@@ -1,3 +1,4 @@
+pub mod ByIndex
 pub mod AgainCauses
 pub mod AimFacts
 pub mod AnswerOrder

@@ -12,6 +12,7 @@ use Rattle.inf_flow_dir.specs.Client.{ClientState, Sent, call_ref, is_told, plac
 use Rattle.inf_flow_dir.specs.Group.{group}
 use Rattle.inf_flow_dir.specs.Heard.{heard}
 use Rattle.inf_flow_dir.specs.Turn.{is_complete, recorded, served}
+use Rattle.inf_laws_history.proofs.ByIndex.{got_pushed, got_stays}
 use Rattle.inf_laws_history.specs.Legal.{Legal, MayAsk}
 use Rattle.inf_laws_history.specs.Pending.{ArePending, Waits}
 use Rattle.inf_message.specs.declared.ask.Ask.{Ask}
@@ -67,15 +68,6 @@ goes s number ask next =
 
 -- ---- an Ask more
 
-pub last_sent : (sent : List Sent) (x : Sent) → slice_get (sent ++ x ∷ []) (length sent) ≡ Some x
-last_sent [] x = refl
-last_sent (y ∷ sent) x = last_sent sent x
-
-pub sent_stays : (sent : List Sent) (y : Sent) (index : ℕ) (x : Sent) → slice_get sent index ≡ Some x → slice_get (sent ++ y ∷ []) index ≡ Some x
-sent_stays [] y index x found = absurd cc
-sent_stays (z ∷ sent) y zero x found = found
-sent_stays (z ∷ sent) y (suc index) x found = sent_stays sent y index x found
-
 -- a client that waits asks within its group
 pub begun_stays : (digest : List ℕ → Id) (ask : Ask) (sent : List Sent) (s : ClientState) (index : ℕ) (x : Sent) → slice_get sent index ≡ Some x → begun digest ask sent s ≡ s
 begun_stays digest ask [] s index x found = absurd cc
@@ -86,7 +78,7 @@ waits_newly place number ask s next =
     let is = goes s number ask next in
     record {
       index = length s.sent;
-      sent = last_sent s.sent (waiting_at place);
+      sent = got_pushed s.sent (waiting_at place);
       message = is.message;
       from = is.from;
       caller = is.caller;
@@ -98,7 +90,7 @@ waits_on digest at place number another ask s waits =
     subst (λ (t : ClientState). Waits (placed at t) place number ask) (sym (begun_stays digest another s.sent s waits.index (waiting_at place) waits.sent))
     (record {
       index = waits.index;
-      sent = sent_stays s.sent (waiting_at at) waits.index (waiting_at place) waits.sent;
+      sent = got_stays s.sent (waiting_at at) waits.index (waiting_at place) waits.sent;
       message = waits.message;
       from = waits.from;
       caller = waits.caller;

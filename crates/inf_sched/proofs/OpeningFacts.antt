@@ -10,7 +10,7 @@ use Rattle.inf_duty.specs.Start.{start}
 use Rattle.inf_duty.specs.After.{client_after}
 use Rattle.inf_duty.specs.Outcome.{results_of}
 use Rattle.inf_duty.specs.World.{World}
-use Rattle.inf_core.proofs.ByIndex.{got_before, got_pushed}
+use Rattle.inf_laws_history.proofs.ByIndex.{got_before, got_pushed}
 use Rattle.inf_message.specs.declared.event.Event.{Event}
 use Rattle.inf_client.specs.Client.{Client, client_with}
 use Rattle.inf_trips.specs.AskLog.{no_asks}

@@ -9,7 +9,7 @@ use Rattle.inf_duty.specs.After.{client_after}
 use Rattle.inf_duty.specs.Outcome.{Agrees, Outcome, OutcomeFrom, may_give_up}
 use Rattle.inf_flow_dir.specs.Heard.{heard}
 use Rattle.inf_duty.specs.World.{World}
-use Rattle.inf_core.proofs.ByIndex.{got_apart}
+use Rattle.inf_laws_history.proofs.ByIndex.{got_apart}
 use Rattle.inf_message.specs.declared.call_result.CallResult.{CallResult}
 use Rattle.inf_message.specs.declared.event.Event.{Event}
 use Rattle.inf_message.specs.History.{told_reply}

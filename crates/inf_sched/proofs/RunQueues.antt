@@ -11,7 +11,7 @@ use Rattle.inf_core.proofs.Posted.{posted_known}
 use Rattle.inf_duty.specs.Duty.{asked}
 use Rattle.inf_laws_history.specs.Legal.{Legal}
 use Rattle.inf_duty.specs.World.{World}
-use Rattle.inf_core.proofs.ByIndex.{got_apart, got_set}
+use Rattle.inf_laws_history.proofs.ByIndex.{got_apart, got_set}
 use Rattle.inf_message.specs.declared.ask.Ask.{Ask}
 use Rattle.inf_message.specs.declared.event.Event.{Event}
 use Rattle.inf_message.specs.declared.event.Event.TheVariants as event

@@ -28,7 +28,7 @@ use Rattle.inf_sched.specs.Straight.{reply_to, with_ask, with_event, with_next_a
 use Rattle.inf_sched.specs.Waiting.{Posting}
 use Rattle.inf_sched.proofs.BuiltFacts.{false_before, false_behind}
 use Rattle.inf_sched.proofs.CalmFacts.{ShowsNoWant, before_asked, before_served, is_planned}
-use Rattle.inf_core.proofs.ByIndex.{got_set}
+use Rattle.inf_laws_history.proofs.ByIndex.{got_set}
 use Rattle.inf_server.specs.Machine.{Serves, machine}
 use Rattle.inf_server.specs.Response.{Response}
 use Rattle.inf_server.specs.State.{Site, State}

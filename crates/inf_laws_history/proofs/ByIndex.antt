@@ -10,6 +10,11 @@ got_before [] y i within = absurd (omega arith)
 got_before (x ∷ xs) y zero within = refl
 got_before (x ∷ xs) y (suc i) within = got_before xs y i (omega arith)
 
+pub got_stays : {X : Type 0} (xs : List X) (y : X) (i : ℕ) (x : X) → slice_get xs i ≡ Some x → slice_get (xs ++ y ∷ []) i ≡ Some x
+got_stays [] y i x found = absurd cc
+got_stays (z ∷ xs) y zero x found = found
+got_stays (z ∷ xs) y (suc i) x found = got_stays xs y i x found
+
 pub got_set : {X : Type 0} (xs : List X) (i : ℕ) (y : X) → i < length xs → slice_get (slice_set xs i y) i ≡ Some y
 got_set [] i y within = absurd (omega arith)
 got_set (x ∷ xs) zero y within = refl
