@@ -16,11 +16,10 @@ use Rattle.inf_laws_server.specs.CameTo.{IsDone}
 use Rattle.inf_laws_directory.specs.Objects.{Objects, Service, content_in, site_in}
 use Rattle.inf_laws_directory.specs.Owned.{Links}
 use Rattle.inf_laws_directory.specs.Phases.{Phases}
-use Rattle.inf_laws_directory.specs.Root.{RootStands}
+use Rattle.inf_laws_directory.specs.Root.{NoOtherRoot}
 use Rattle.inf_laws_directory.specs.Things.{a_dir, thing_in}
 use Rattle.inf_laws_directory.specs.Told.{IsToldAs}
 use Rattle.inf_laws_directory.proofs.ServiceFacts.{slots_here}
-use Rattle.inf_laws_directory.proofs.TopStays.{top_is_root}
 use Rattle.inf_message.specs.declared.ask.Ask.{Ask}
 use Rattle.inf_message.specs.declared.request.Request.TheVariants as request
 use Rattle.inf_base.specs.declared.key.LookKey.TheVariants as look
@@ -62,10 +61,10 @@ module _ (service : Service) (objects : Objects) (number place : ℕ) (root : Ac
       let linked = ap (λ (slots : List (List ℕ × Slot)). thing_in (slot_in name slots)) (slots_here service objects number state tells.dir here) ∙ is_found.stands in
       subst (λ (k : Key). IsThere service objects root k access) (sym is_found.as_key) linked
 
-  pub there_at_top : RootStands service objects root → IsDone site (objects number) place ask (request.Lookup look.Top) given new
+  pub there_at_top : NoOtherRoot service objects root → IsDone site (objects number) place ask (request.Lookup look.Top) given new
       → IsThere service objects root told access
   there_at_top stands is =
-      let at_top : is.passed.top.access ≡ root = top_is_root service objects root stands number is.passed.top is.passed.is_top in
+      let at_top : is.passed.top.access ≡ root = stands number is.passed.top is.passed.is_top in
       let same : reply.Found key.Top is.passed.top.access ≡ reply.Found told access = sym is.said ∙ found in
       let as_key : key.Top ≡ told = cc same in
       let as_access : is.passed.top.access ≡ access = cc same in

@@ -25,7 +25,7 @@ use Rattle.inf_laws_server.proofs.Serves.{always_done, may_reply, was_done}
 use Rattle.inf_laws_directory.specs.Looked.{IsLookup}
 use Rattle.inf_laws_directory.specs.Objects.{Objects, Service, site_in}
 use Rattle.inf_laws_directory.specs.Owes.{MayWriteAt}
-use Rattle.inf_laws_directory.specs.Root.{RootStands}
+use Rattle.inf_laws_directory.specs.Root.{NoOtherRoot}
 use Rattle.inf_laws_directory.proofs.Lookups.{IsThere, there_at_top, there_by_name}
 
 -- ---- clean-ups, where they belong
@@ -88,7 +88,7 @@ module _ (site : Site) (old : State) (place : ℕ) (ask : Ask) (given : Reply) (
 
 -- what a lookup finds is true when it is told
 module _ (service : Service) (objects : Objects) (number place : ℕ) (root : Access) (ask : Ask) (told : Key) (access : Access) (new : State)
-    (stands : RootStands service objects root) where
+    (stands : NoOtherRoot service objects root) where
   by_key : (sought : LookKey) → IsDone (site_in service number) (objects number) place ask (request.Lookup sought) (reply.Found told access) new
       → IsThere service objects root told access
   by_key look.Top is = there_at_top service objects number place root ask told access (reply.Found told access) new refl stands is

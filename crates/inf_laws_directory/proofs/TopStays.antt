@@ -10,12 +10,12 @@ use Rattle.inf_server.specs.Machine.{Serves, machine}
 use Rattle.inf_server.specs.State.{Site, State, is_here, opening, root_access, root_id}
 use Rattle.inf_laws_server.proofs.Serves.{machine_serves, top_kept}
 use Rattle.inf_laws_directory.specs.Objects.{Objects, Service, site_in, with_state}
-use Rattle.inf_laws_directory.specs.Root.{RootStands, root_server}
+use Rattle.inf_laws_directory.specs.Root.{NoOtherRoot, RootStands, root_server}
 
--- a server that has a root's access object has this one
-pub top_is_root : (service : Service) (objects : Objects) (root : Access) → RootStands service objects root
-    → (number : ℕ) (top : TopAccess) → (objects number).top ≡ Some top → top.access ≡ root
-top_is_root service objects root stands number top is = by (number == root_server service) refl
+-- where this one stands, no server has another
+pub no_other : (service : Service) (objects : Objects) (root : Access) → RootStands service objects root
+    → NoOtherRoot service objects root
+no_other service objects root stands number top is = by (number == root_server service) refl
   where
     by : (b : Bool) → (number == root_server service) ≡ b → top.access ≡ root
     by true same =
@@ -55,14 +55,26 @@ pub top_stays : (site : Site) (state : State) (ask : Ask) (place : ℕ) → (mac
 top_stays site state ask place = top_kept site state place ask _ _ (machine_serves site state place ask)
 
 -- and no Serve changes it
+tops_kept : (service : Service) (objects : Objects) (number place : ℕ) (ask : Ask) (given : Reply) (new : State)
+    → Serves (site_in service number) (objects number) place ask given new
+    → (other : ℕ) → (with_state number new objects other).top ≡ (objects other).top
+tops_kept service objects number place ask given new serves other = same (other == number) refl
+  where
+    same : (b : Bool) → (other == number) ≡ b → (cond b new (objects other)).top ≡ (objects other).top
+    same true is =
+        subst (λ (n : ℕ). new.top ≡ (objects n).top) (sym ((Decides-eqb _ _).0 is))
+        (top_kept (site_in service number) (objects number) place ask given new serves)
+    same false apart = refl
+
 pub root_kept : (service : Service) (objects : Objects) (root : Access) (number place : ℕ) (ask : Ask) (given : Reply) (new : State)
     → RootStands service objects root → Serves (site_in service number) (objects number) place ask given new
     → RootStands service (with_state number new objects) root
 root_kept service objects root number place ask given new stands serves =
-    root_stays service objects (with_state number new objects) root (λ other. same other (other == number) refl) stands
-  where
-    same : (other : ℕ) (b : Bool) → (other == number) ≡ b → (cond b new (objects other)).top ≡ (objects other).top
-    same other true is =
-        subst (λ (n : ℕ). new.top ≡ (objects n).top) (sym ((Decides-eqb _ _).0 is))
-        (top_kept (site_in service number) (objects number) place ask given new serves)
-    same other false apart = refl
+    root_stays service objects (with_state number new objects) root
+    (tops_kept service objects number place ask given new serves) stands
+
+pub no_other_kept : (service : Service) (objects : Objects) (root : Access) (number place : ℕ) (ask : Ask) (given : Reply)
+    (new : State) → NoOtherRoot service objects root → Serves (site_in service number) (objects number) place ask given new
+    → NoOtherRoot service (with_state number new objects) root
+no_other_kept service objects root number place ask given new stands serves =
+    λ other top is. stands other top (sym (tops_kept service objects number place ask given new serves other) ∙ is)

@@ -22,3 +22,7 @@ pub record RootStands (service : Service) (objects : Objects) (root : Access) : 
   pub alone : (number : ℕ) → number ≢ root_server service → (objects number).top ≡ None
   -- whatever its mode and its owners are, it is of the root's directory
   pub of_root : dir_of root ≡ root_dir (site_in service 0)
+
+-- no server has another than this as the root's access object, whether any has it or none
+abbrev pub NoOtherRoot : Service → Objects → Access → Type 0
+NoOtherRoot service objects root = (number : ℕ) (top : TopAccess) → (objects number).top ≡ Some top → top.access ≡ root

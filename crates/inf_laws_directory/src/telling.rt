@@ -14,7 +14,7 @@ ghost use Rattle.inf_laws_directory.specs.Objects.{Objects, Service, site_in, wi
 ghost use Rattle.inf_laws_directory.specs.Owes.{MayWriteAt};
 ghost use Rattle.inf_laws_directory.specs.Phases.{Phases};
 ghost use Rattle.inf_laws_directory.specs.Replays.{MayWrite};
-ghost use Rattle.inf_laws_directory.specs.Root.{RootStands};
+ghost use Rattle.inf_laws_directory.specs.Root.{NoOtherRoot, RootStands};
 ghost use Rattle.inf_laws_directory.specs.Told.{IsToldAs};
 ghost use Rattle.inf_message.specs.declared.ask.Ask.{Ask};
 ghost use Rattle.inf_message.specs.declared.reply.Reply.{Reply};
@@ -36,7 +36,7 @@ pub fn lookups_tell_the_truth()
         → IsToldAs service objects root phases key access }
     ensures top { (service : Service) (objects : Objects) (number : ℕ) (root : Access) (phases : Phases) (key : Key)
         (access : Access) (done : Response)
-        → RootStands service objects root
+        → NoOtherRoot service objects root
         → lookup_top (site_in service number) (objects number) ≡ Ok done → done.reply ≡ reply.Found key access
         → IsToldAs service objects root phases key access }
 {}
@@ -60,6 +60,8 @@ pub fn the_root_stays()
         → RootStands service (λ number. opening (site_in service number)) (root_access (site_in service 0)) }
     ensures next { (site : Site) (state : State) (place : ℕ) (ask : Ask)
         → (machine site state place ask).state.top ≡ state.top }
+    ensures alone { (service : Service) (objects : Objects) (root : Access)
+        → RootStands service objects root → NoOtherRoot service objects root }
 {}
 
 /// Only lookups are told of an access object, under the key that they asked for; listings are told to nobody yet.
@@ -84,18 +86,23 @@ pub fn lookups_answer_what_was_asked()
 pub fn what_is_told_is_true()
     ensures { (service : Service) (objects : Objects) (at : At) (root : Access) (phases : Phases) (ask : Ask)
         (k : Key) (access : Access) (new : State)
-        → RootStands service objects root
+        → NoOtherRoot service objects root
         → Serves (site_in service at.number) (objects at.number) at.ask_place ask (reply.Found k access) new
         → IsToldAs service objects root phases k access }
 {}
 
-/// The root's access object stands after a Serve as it stood.
+/// The root's access object stands after a Serve as it stood; where no server had another, none has.
 pub fn the_root_is_kept()
-    ensures { (service : Service) (objects : Objects) (at : At) (root : Access) (ask : Ask) (given : Reply)
+    ensures root { (service : Service) (objects : Objects) (at : At) (root : Access) (ask : Ask) (given : Reply)
         (new : State)
         → RootStands service objects root
         → Serves (site_in service at.number) (objects at.number) at.ask_place ask given new
         → RootStands service (with_state at.number new objects) root }
+    ensures alone { (service : Service) (objects : Objects) (at : At) (root : Access) (ask : Ask) (given : Reply)
+        (new : State)
+        → NoOtherRoot service objects root
+        → Serves (site_in service at.number) (objects at.number) at.ask_place ask given new
+        → NoOtherRoot service (with_state at.number new objects) root }
 {}
 
 /// A name is kept, and a directory sealed, for a caller that may write to the directory that this changes.

@@ -28,7 +28,7 @@ use Rattle.inf_laws_directory.specs.Phases.{Phases, with_phase}
 use Rattle.inf_laws_directory.specs.Told.{IsToldAs}
 use Rattle.inf_laws_directory.proofs.Lookups.{IsThere, there_is_told}
 use Rattle.inf_laws_directory.proofs.ServedReplies.{found_there, found_under}
-use Rattle.inf_laws_directory.proofs.TopStays.{root_kept}
+use Rattle.inf_laws_directory.proofs.TopStays.{no_other, root_kept}
 use Rattle.inf_laws_history.specs.Decisions.{decided_at, decided_for, decided_in}
 use Rattle.inf_laws_history.specs.Kept.{IsTrue, Kept}
 use Rattle.inf_laws_history.specs.Legal.{MayServe}
@@ -159,7 +159,8 @@ module _ (stands : ServedStands) (world : World) (h : List Event) (number place 
 
   found_true : (k : Key) (access : Access) → given ≡ reply.Found k access → TrueNow k access
   found_true k access found =
-      let there = found_there service kept.objects number place kept.root ask k access may.after kept.root_stands
+      let there = found_there service kept.objects number place kept.root ask k access may.after
+      (no_other service kept.objects kept.root kept.root_stands)
       (subst (λ (r : Reply). Serves (site_in service number) (kept.objects number) place ask r may.after) found replies) in
       stays_true k access (record {
         told = there_is_told service kept.objects kept.root kept.phases k access there;
