@@ -2,7 +2,7 @@
 use Rattle.std.proofs.Common.{◌≡◌, ◌≢◌, ◌⊎◌, inl, inr, ℕ, ◌<◌, ◌≤◌, ◌==◌, ◌&&◌, ◌||◌, Bool, true, false, not, cond, eqb, List, [], ◌∷◌, Option, Some, None, take, refl, sym, ap, ap₂, ◌∙◌, subst, arith}
 use Rattle.std.specs.Int.{from_be_bytes, w64}
 use Rattle.std.specs.List.{list_any}
-use Rattle.std.proofs.lemmas.Bool.{both_ways}
+use Rattle.std.proofs.lemmas.Bool.{both_ways, or_left, or_right}
 use Rattle.std.proofs.lemmas.Bool.Decides.{Decides-eqb}
 use Rattle.std.proofs.lemmas.Nat.{mod_below}
 use Rattle.inf_base.specs.declared.caller.CallRef.{CallRef}
@@ -61,18 +61,10 @@ pub any_content : (P : Content → Bool) (id : Id) (contents : List Content) (co
 any_content P id [] content is so = cc
 any_content P id (c ∷ cs) content is so = by (is_same_id id c.dir.id) is (any_content P id cs content)
   where
-    true_or : (a b : Bool) → a ≡ true → (a || b) ≡ true
-    true_or true b it = refl
-    true_or false b it = absurd cc
-
-    or_true : (a b : Bool) → b ≡ true → (a || b) ≡ true
-    or_true true b it = refl
-    or_true false b it = it
-
     by : (b : Bool) → cond b (Some c) (content_of_id id cs) ≡ Some content
         → (content_of_id id cs ≡ Some content → P content ≡ true → list_any P cs ≡ true) → (P c || list_any P cs) ≡ true
-    by true here later = let same : c ≡ content = cc in true_or (P c) (list_any P cs) (ap P same ∙ so)
-    by false here later = or_true (P c) (list_any P cs) (later here so)
+    by true here later = let same : c ≡ content = cc in or_left (P c) (list_any P cs) (ap P same ∙ so)
+    by false here later = or_right (P c) (list_any P cs) (later here so)
 
 second_of : (a b c d : Bool) → b ≡ true → (a || b || c || d) ≡ true
 second_of true b c d is = refl

@@ -2,6 +2,7 @@
 -- made, and before that one is answered.
 use Rattle.std.proofs.Common.{◌≡◌, ℕ, ◌+◌, ◌<◌, ◌&&◌, ◌||◌, zero, suc, Bool, true, false, cond, eqb, List, [], ◌∷◌, ◌++◌, length, map, slice_get, Option, Some, None, option_map, refl, sym, ap, ap₂, ◌∙◌, subst, arith}
 use Rattle.inf_base.specs.declared.id.Id.{Id}
+use Rattle.std.proofs.lemmas.Bool.{or_right}
 use Rattle.std.proofs.lemmas.Bool.Decides.{Decides-eqb, nat_tests}
 use Rattle.std.proofs.lemmas.List.{length-map, map-append}
 use Rattle.std.proofs.lemmas.Option.{slice_get-map}
@@ -84,16 +85,12 @@ pub record IsOpenIn (at : ℕ) (s : ClientState) : Type 0 where
   pub waits : slice_get s.sent index ≡ Some (waiting_at at)
   pub room : length s.sent < length (group s.who s.stage)
 
-or_true : (b : Bool) → b || true ≡ true
-or_true true = refl
-or_true false = refl
-
 held : (at : ℕ) (sent : List Sent) (index : ℕ) → slice_get sent index ≡ Some (waiting_at at) → has_place at sent ≡ true
 held at [] index found = absurd cc
 held at (x ∷ sent) zero found =
     let same : x ≡ waiting_at at = cc in
     ap (λ (y : Sent). eqb y.place at || has_place at sent) same ∙ ap (λ b. b || has_place at sent) (itself at)
-held at (x ∷ sent) (suc index) found = ap (λ b. eqb x.place at || b) (held at sent index found) ∙ or_true (eqb x.place at)
+held at (x ∷ sent) (suc index) found = or_right (eqb x.place at) _ (held at sent index found)
 
 not_full : (s : ClientState) → length s.sent < length (group s.who s.stage) → is_complete s ≡ false
 not_full s room =

@@ -1,6 +1,6 @@
 -- Where directories come from: the Ask of each was served, so that nothing is of the place of an Ask that waits.
-use Rattle.std.proofs.Common.{◌≡◌, ◌⊎◌, inl, inr, ℕ, Bool, true, false, ◌||◌, List, ◌∷◌, Option, Some, None, is_some, refl, sym, ap, ◌∙◌, subst}
-use Rattle.std.proofs.lemmas.Bool.{both_ways}
+use Rattle.std.proofs.Common.{◌≡◌, ◌⊎◌, inl, inr, ℕ, true, false, List, ◌∷◌, Option, Some, None, is_some, refl, sym, ap, ◌∙◌, subst}
+use Rattle.std.proofs.lemmas.Bool.{both_ways, or_right}
 use Rattle.inf_base.specs.declared.access.Access.{Access}
 use Rattle.inf_base.specs.declared.directory.DirRef.{DirRef}
 use Rattle.inf_base.specs.Content.{Content}
@@ -23,14 +23,10 @@ use Rattle.inf_laws_directory.specs.Told.{IsUnborn}
 use Rattle.inf_laws_directory.proofs.BornContents.{born_at_the_ask}
 use Rattle.inf_laws_history.specs.Objects.{AreBorn, IsBorn, service_of}
 
-or_true : (a b : Bool) → b ≡ true → (a || b) ≡ true
-or_true true b is = refl
-or_true false b is = is
-
 -- what was born stays born
 pub born_more : (e : Event) (h : List Event) (born : ℕ) → IsBorn h born → IsBorn (e ∷ h) born
 born_more e h born (inl none) = inl none
-born_more e h born (inr served) = inr (or_true (serves born e) (is_served born h) served)
+born_more e h born (inr served) = inr (or_right (serves born e) (is_served born h) served)
 
 -- the place of an Ask is one once that is served
 pub born_now : (number place : ℕ) (given : Reply) (h : List Event) → IsBorn (event.Serve number place given ∷ h) place

@@ -3,6 +3,7 @@ use Rattle.std.proofs.Common.{◌≡◌, ◌⊎◌, inl, inr, ℕ, Bool, true, f
 use Rattle.std.specs.BTreeMap.{is_at}
 use Rattle.std.specs.Cmp.Lexicographic.{slice_cmp}
 use Rattle.std.specs.List.{list_any, list_all}
+use Rattle.std.proofs.lemmas.Bool.{or_left, or_right}
 use Rattle.std.proofs.lemmas.Bool.Decides.{Decides-eqb}
 use Rattle.inf_base.specs.declared.caller.CallRef.{CallRef}
 use Rattle.inf_base.specs.declared.directory.DirRef.{DirRef}
@@ -129,14 +130,6 @@ module _ (site : Site) (state : State) (from : CallRef) (wanted : Request) where
   from_either last name seals takes by at (inl stops) = from_seal last seals by at stops
   from_either last name seals takes by at (inr stops) = from_name last name takes by at stops
 
-true_or : (b c : Bool) → b ≡ true → (b || c) ≡ true
-true_or true c is = refl
-true_or false c is = absurd cc
-
-or_true : (b c : Bool) → c ≡ true → (b || c) ≡ true
-or_true true c is = refl
-or_true false c is = is
-
 -- ---- what stands inside
 
 record HasInside (content : Content) (by : CallRef) : Type 0 where
@@ -179,8 +172,8 @@ any_at P name (e ∷ es) slot is holds_there = by_name (is_at (slice_cmp nat_cmp
     by_name : (b : Bool) → cond b (Some e.1) (slot_in name es) ≡ Some slot
         → (slot_in name es ≡ Some slot → P slot ≡ true → list_any (λ (x : List ℕ × Slot). P x.1) es ≡ true)
         → (P e.1 || list_any (λ (x : List ℕ × Slot). P x.1) es) ≡ true
-    by_name true here later = let same : e.1 ≡ slot = cc in true_or (P e.1) _ (ap P same ∙ holds_there)
-    by_name false here later = or_true (P e.1) _ (later here holds_there)
+    by_name true here later = let same : e.1 ≡ slot = cc in or_left (P e.1) _ (ap P same ∙ holds_there)
+    by_name false here later = or_right (P e.1) _ (later here holds_there)
 
 some_touches : (by : CallRef) (found : Option Content) (content : Content) → found ≡ Some content → HasInside content by → some_taken by found ≡ true
 some_touches by found content there inside_it =

@@ -1,7 +1,8 @@
 -- The place of the answer that a group comes to, if it comes to one.
-use Rattle.std.proofs.Common.{◌≡◌, ℕ, ◌==◌, ◌||◌, Bool, true, false, if◌then◌else◌, eqb, List, [], ◌∷◌, ◌++◌, Option, None, Some, refl, sym, subst}
+use Rattle.std.proofs.Common.{◌≡◌, ℕ, ◌==◌, Bool, true, false, if◌then◌else◌, eqb, List, [], ◌∷◌, ◌++◌, Option, None, Some, refl, sym, subst}
 use Rattle.inf_base.specs.declared.id.Id.{Id}
 use Rattle.std.specs.List.{list_any}
+use Rattle.std.proofs.lemmas.Bool.{or_left, or_right}
 use Rattle.inf_base.specs.declared.answer.Answer.{Answer}
 use Rattle.inf_base.specs.declared.answer.Answer.TheVariants as answer
 use Rattle.inf_base.specs.declared.entry.Entry.{Entry}
@@ -92,17 +93,9 @@ told_there place sent = list_any (λ (x : Sent). serve_is place x.told) sent
 abbrev pub IsThere : List Sent → Answer → ℕ → Type 0
 IsThere sent given place = told_there place sent ≡ true
 
-or_true : (b c : Bool) → c ≡ true → (b || c) ≡ true
-or_true true c is = refl
-or_true false c is = is
-
-true_or : (b c : Bool) → b ≡ true → (b || c) ≡ true
-true_or true c is = refl
-true_or false c is = absurd cc
-
 at_first : (place at : ℕ) (told : Told) (xs : List Sent) → at ≡ told.serve_place → told_there at (record { place = place; told = Some told } ∷ xs) ≡ true
 at_first place at told xs same =
-    true_or (eqb at told.serve_place) (told_there at xs) (subst (λ p. eqb p told.serve_place ≡ true) (sym same) (itself told.serve_place))
+    or_left (eqb at told.serve_place) (told_there at xs) (subst (λ p. eqb p told.serve_place ≡ true) (sym same) (itself told.serve_place))
 
 told_turn_there : (digest : List ℕ → Id) (who : Who) (flow : Flow) (place : ℕ) (told : Option Told) (xs : List Sent)
     → TurnOf (IsThere (record { place = place; told = told } ∷ xs)) (act_turn digest who flow (record { place = place; told = told } ∷ xs))
@@ -124,7 +117,7 @@ pub record IsOfRound (sent : List Sent) (given : Answer) (place : ℕ) : Type 0 
   pub there : told_there place sent ≡ true
 
 behind_first : (x : Sent) (xs : List Sent) (given : Answer) (place : ℕ) → IsOfRound xs given place → IsOfRound (x ∷ xs) given place
-behind_first x xs given place is = record { other = is.other; there = or_true (serve_is place x.told) (told_there place xs) is.there }
+behind_first x xs given place is = record { other = is.other; there = or_right (serve_is place x.told) (told_there place xs) is.there }
 
 abbrev NextIs : List Sent → Next → Type 0
 NextIs sent (is_busy given place) = IsOfRound sent given place
