@@ -61,8 +61,8 @@ module _ (service : Service) (objects : Objects) (number place : ℕ) (root : Ac
       let linked = ap (λ (slots : List (List ℕ × Slot)). thing_in (slot_in name slots)) (slots_here service objects number state tells.dir here) ∙ is_found.stands in
       subst (λ (k : Key). IsThere service objects root k access) (sym is_found.as_key) linked
 
-  pub there_at_top : NoOtherRoot service objects root → IsDone site (objects number) place ask (request.Lookup look.Top) given new
-      → IsThere service objects root told access
+  pub there_at_top : NoOtherRoot service objects root
+      → IsDone site (objects number) place ask (request.Lookup look.Top) given new → IsThere service objects root told access
   there_at_top stands is =
       let at_top : is.passed.top.access ≡ root = stands number is.passed.top is.passed.is_top in
       let same : reply.Found key.Top is.passed.top.access ≡ reply.Found told access = sym is.said ∙ found in

@@ -73,8 +73,9 @@ root_kept service objects root number place ask given new stands serves =
     root_stays service objects (with_state number new objects) root
     (tops_kept service objects number place ask given new serves) stands
 
-pub no_other_kept : (service : Service) (objects : Objects) (root : Access) (number place : ℕ) (ask : Ask) (given : Reply)
-    (new : State) → NoOtherRoot service objects root → Serves (site_in service number) (objects number) place ask given new
+pub no_other_kept : (service : Service) (objects : Objects) (root : Access) (number place : ℕ) (ask : Ask)
+    (given : Reply) (new : State)
+    → NoOtherRoot service objects root → Serves (site_in service number) (objects number) place ask given new
     → NoOtherRoot service (with_state number new objects) root
 no_other_kept service objects root number place ask given new stands serves =
     λ other top is. stands other top (sym (tops_kept service objects number place ask given new serves other) ∙ is)

@@ -65,8 +65,8 @@ abbrev pub EndsIn : Option Entry → DirRef → Type 0
 EndsIn None dir = ⊥
 EndsIn (Some last) dir = dir_of last.access ≡ dir
 
--- a call with nothing in hand looks, finishes, reserves, seals or forgets; one that has something in hand goes on with it,
--- or lets it go. No such request is bound to a server or to a place
+-- a call with nothing in hand looks, finishes, reserves, seals or forgets; one that has something in hand goes on with
+-- it, or lets it go. No such request is bound to a server or to a place
 abbrev pub Fits : At → Phase → Request → Type 0
 Fits at idle (request.Lookup asked) = Unit {0}
 Fits at idle (request.Finish chain asked) = Unit {0}

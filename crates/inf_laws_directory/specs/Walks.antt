@@ -22,6 +22,7 @@ pub record ComesTo (dirs : Directories) (tree : Node) (caller : Caller) (path : 
   pub entries : Entries
   pub stands : node_at path (Some tree) ≡ Some (dir (meta_of access) entries)
   pub walked : (name : List ℕ) → parent_of tree caller (record { directory = path; name = name })
-      ≡ (check (list_all (lets caller want.Search) chain) errno.EACCES >> Ok (record { meta = meta_of access; entries = entries }))
+      ≡ (check (list_all (lets caller want.Search) chain) errno.EACCES
+      >> Ok (record { meta = meta_of access; entries = entries }))
   pub shows : (name : List ℕ) → option_map shown_node (found name entries)
       ≡ option_map shown_thing (thing_under name (dir_of access) dirs)

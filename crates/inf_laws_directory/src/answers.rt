@@ -40,7 +40,8 @@ pub fn creations_follow_chains()
         (if_free (thing_under name (dir_of last.access) dirs) (changed (hung name (new_dir caller mode)) path tree))) }
 {}
 
-/// A directory is removed where nothing stands in it. Where the caller may not write, nothing is, whatever stands there.
+/// A directory is removed where nothing stands in it. Where the caller may not write, nothing is,
+/// whatever stands there.
 pub fn removals_follow_chains()
     ensures unwritten { (dirs : Directories) (root : Access) (tree : Node) (caller : Caller) (text : List ℕ)
         (path : List (List ℕ)) (name : List ℕ) (chain : List Entry) (last : Entry)

@@ -1,5 +1,5 @@
-//! The steps of calls that make and remove directories: what stands in the servers belongs to calls as their phases say,
-//! before and after each, and the entries that clients were told stay true, or their directories are gone.
+//! The steps of calls that make and remove directories: what stands in the servers belongs to calls as their phases
+//! say, before and after each, and the entries that clients were told stay true, or their directories are gone.
 
 ghost use Rattle.std.specs.Prelude.{◌≡◌, ℕ, ◌≤◌, List, [], ◌∷◌, ◌++◌, Some, Ok};
 ghost use Rattle.inf_base.specs.declared.access.Access.{Access};

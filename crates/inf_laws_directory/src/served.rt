@@ -166,7 +166,8 @@ pub fn served_unlinks_stand()
     unlinking_keeps();
 }
 
-/// What only looks decides its call as the tree does: what is told of a file or a directory, and why a path cannot go on.
+/// What only looks decides its call as the tree does: what is told of a file or a directory,
+/// and why a path cannot go on.
 pub fn served_looks_stand()
     ensures told { (service : Service) (objects : Objects) (number : ℕ) (root : Access) (tree : Node) (phases : Phases)
         (ask : Ask) (text : List ℕ) (path : List (List ℕ)) (name : List ℕ) (chain : List Entry) (done : Response)
@@ -233,18 +234,21 @@ pub fn served_clean_ups_stand()
         (phases : Phases) (ask : Ask) (parent : DirRef) (name : List ℕ) (birth : Triple) (done : Response)
         → IsStanding service objects root tree phases → phases ask.from ≡ has_reserved parent name birth
         → cancel (site_in service number) (objects number) ask parent ≡ Ok done
-        → GoesOn service objects (with_state number done.state objects) root tree phases (with_phase ask.from idle phases) }
+        → GoesOn service objects (with_state number done.state objects) root tree phases
+        (with_phase ask.from idle phases) }
     ensures dropped { (service : Service) (objects : Objects) (number : ℕ) (root : Access) (tree : Node)
         (phases : Phases)
         (ask : Ask) (target : DirRef) (done : Response)
         → IsStanding service objects root tree phases → phases ask.from ≡ has_unlinked target
         → drop_dir (site_in service number) (objects number) ask target ≡ Ok done
-        → GoesOn service objects (with_state number done.state objects) root tree phases (with_phase ask.from idle phases) }
+        → GoesOn service objects (with_state number done.state objects) root tree phases
+        (with_phase ask.from idle phases) }
     ensures unsealed { (service : Service) (objects : Objects) (number : ℕ) (root : Access) (tree : Node)
         (phases : Phases) (ask : Ask) (parent target : DirRef) (name : List ℕ) (done : Response)
         → IsStanding service objects root tree phases → phases ask.from ≡ has_sealed parent name target
         → unseal (site_in service number) (objects number) ask target ≡ Ok done
-        → GoesOn service objects (with_state number done.state objects) root tree phases (with_phase ask.from idle phases) }
+        → GoesOn service objects (with_state number done.state objects) root tree phases
+        (with_phase ask.from idle phases) }
     ensures forgotten { (service : Service) (objects : Objects) (number : ℕ) (root : Access) (tree : Node)
         (phases : Phases) (ask : Ask) (parent : Id) (target : DirRef) (done : Response)
         → IsStanding service objects root tree phases

@@ -34,8 +34,8 @@ pub record HasServe (h : List Event) (at : At) (posted : Posted) (given : Reply)
   pub told : event_at at.serve_place h ≡ Some (event.Serve at.number at.ask_place given)
   pub asked : asked_at at.ask_place (before at.serve_place h) ≡ Some posted
 
--- the client's Ask before this one was the same call's, and a server told it of a directory of this birth: the entry that
--- stands before in the call's chain
+-- the client's Ask before this one was the same call's, and a server told it of a directory of this birth: the entry
+-- that stands before in the call's chain
 pub record IsBehindEntry (h : List Event) (call : CallRef) (ask_place born : ℕ) : Type 0 where
   pub at : At
   pub posted : Posted

@@ -1,5 +1,5 @@
--- Results and the calls of the script: whose call a result is of, whether an answer was decided, and that each answer that
--- was is among those that are replayed.
+-- Results and the calls of the script: whose call a result is of, whether an answer was decided, and that each answer
+-- that was is among those that are replayed.
 use Rattle.std.specs.Prelude.{◌≡◌, ◌≤◌, ◌-◌, Bool, true, false, List, slice_get, Some, is_some}
 use Rattle.std.specs.List.{Contains}
 use Rattle.inf_base.specs.declared.answer.Answer.{Answer}

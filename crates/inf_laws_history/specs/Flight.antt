@@ -78,8 +78,8 @@ stands by h state =
     || list_any (λ (m : Mark). not m.is_finished && is_same_call m.by by) state.marks
     || list_any (λ (a : AdmittedChange). is_same_call a.by by) state.changes
 
--- a change of the call is in flight at a server, or at the coordinator, whose number is that of the servers, where there
--- are any
+-- a change of the call is in flight at a server, or at the coordinator, whose number is that of the servers, where
+-- there are any
 pub record InFlight (world : World) (h : List Event) (by : CallRef) : Type 0 where
   pub server : ℕ
   pub known : 0 < world.setup.servers → server ≤ world.setup.servers
@@ -130,8 +130,8 @@ bears by birth content =
     is_same_triple birth content.triple
     && (is_of by content.seal || (is_none content.seal && is_same_call content.maker by))
 
--- a hold or reservation on the name asked, the hold on the root's access object, one on a name in the directory that is to
--- be sealed, the seal of the directory asked, or the content object of the very directory that is to be made
+-- a hold or reservation on the name asked, the hold on the root's access object, one on a name in the directory that is
+-- to be sealed, the seal of the directory asked, or the content object of the very directory that is to be made
 abbrev pub touches : CallRef → Spot → Request → State → Bool
 touches by spot.Slot (request.Lookup look.Top) state = is_taken_at_top by state.top
 touches by spot.Slot (request.Lookup (look.At id name)) state = name_taken by name (content_of_id id state.contents)

@@ -30,7 +30,8 @@ pub record IsTrue (world : World) (h : List Event) (objects : Objects) (root : A
   pub told : IsToldAs (service_of world) objects root phases key access
   pub born : IsBorn h access.born
 
--- a client knows only what is true, keeps to its call's path, asks its group, and its call has in hand what its stage says
+-- a client knows only what is true, keeps to its call's path, asks its group,
+-- and its call has in hand what its stage says
 pub record IsKept (world : World) (h : List Event) (objects : Objects) (root : Access) (phases : Phases) (client : ℕ)
     (s : ClientState) : Type 0 where
   pub who : s.who ≡ who_in world client s.who.caller

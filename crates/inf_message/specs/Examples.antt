@@ -12,7 +12,8 @@ use Rattle.inf_message.specs.History.{Served, served_ask}
 
 -- the first call of a client
 abbrev pub ask_by : ℕ → Request → Ask
-ask_by client r = record { from = record { client = client; number = 1 }; caller = record { uid = 7; gid = 7 }; request = r }
+ask_by client r =
+    record { from = record { client = client; number = 1 }; caller = record { uid = 7; gid = 7 }; request = r }
 
 abbrev pub look : ℕ → Ask
 look client = ask_by client (request.Lookup look_key.Top)

@@ -58,7 +58,8 @@ abbrev pub serves_of : ℕ → List Event → List Served
 serves_of server [] = []
 serves_of server (event.Ask number ask ∷ h) = serves_of server h
 serves_of server (event.Serve number ask_place reply ∷ h) =
-    if number == server then with_served (asked_at ask_place h) ask_place reply (serves_of server h) else serves_of server h
+    if number == server then with_served (asked_at ask_place h) ask_place reply (serves_of server h)
+    else serves_of server h
 
 -- ---- events by client
 
@@ -94,14 +95,17 @@ or_told None later = later
 
 -- the same Ask once the Serve of the Ask at a place was made
 abbrev pub served_at : ℕ → Told → Own → Own
-served_at ask_place told own = if own.made.ask_place == ask_place then own_ask own.made (Some (or_told own.told told)) else own
+served_at ask_place told own =
+    if own.made.ask_place == ask_place then own_ask own.made (Some (or_told own.told told)) else own
 
 -- the Asks of one client in the order of asking, the newest first
 abbrev pub asks_of : ℕ → List Event → List Own
 asks_of client [] = []
 asks_of client (event.Ask number ask ∷ h) =
-    if ask.from.client == client then own_ask (made_ask number ask (suc (length h))) None ∷ asks_of client h else asks_of client h
-asks_of client (event.Serve number ask_place reply ∷ h) = map (served_at ask_place (told_reply (suc (length h)) reply)) (asks_of client h)
+    if ask.from.client == client then own_ask (made_ask number ask (suc (length h))) None ∷ asks_of client h
+    else asks_of client h
+asks_of client (event.Serve number ask_place reply ∷ h) =
+    map (served_at ask_place (told_reply (suc (length h)) reply)) (asks_of client h)
 
 abbrev pub trip_with : Made → Option Told → Option Trip
 trip_with made None = None

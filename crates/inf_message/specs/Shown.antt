@@ -13,7 +13,8 @@ pub record IsMade (client : ℕ) (h : List Event) (made : Made) : Type 0 where
 -- a Serve of the Ask at a place stands where the answer says
 abbrev pub IsToldAt : List Event → ℕ → Option Told → Type 0
 IsToldAt h ask_place None = Unit {0}
-IsToldAt h ask_place (Some told) = (number : ℕ) × (event_at told.serve_place h ≡ Some (event.Serve number ask_place told.reply))
+IsToldAt h ask_place (Some told) =
+    (number : ℕ) × (event_at told.serve_place h ≡ Some (event.Serve number ask_place told.reply))
 
 pub record IsOwn (client : ℕ) (h : List Event) (own : Own) : Type 0 where
   pub made : IsMade client h own.made

@@ -26,12 +26,17 @@ setup_a = setup_of (client_a ∷ [])
 -- the report of a script with no client
 abbrev pub empty_report : List ℕ
 empty_report =
-    line (codes "infinifs report 1") ++ line (codes "servers 1") ++ line (codes "digest-bytes 32") ++ line (codes "cache 256")
+    line (codes "infinifs report 1")
+    ++ line (codes "servers 1") ++ line (codes "digest-bytes 32") ++ line (codes "cache 256")
     ++ line (codes "calls 0") ++ line (codes "events 0") ++ line (codes "end")
 
 -- the client looks up the root at server 0
 abbrev pub ask_root : Event
-ask_root = event.Ask 0 (record { from = record { client = 0; number = 1 }; caller = record { uid = 7; gid = 8 }; request = request.Lookup look_key.Top })
+ask_root = event.Ask 0 (record {
+  from = record { client = 0; number = 1 };
+  caller = record { uid = 7; gid = 8 };
+  request = request.Lookup look_key.Top;
+})
 
 -- the coordinator answers the Ask at place 1
 abbrev pub serve_fine : Event
@@ -40,14 +45,41 @@ serve_fine = event.Serve 1 1 reply.Fine
 -- the client's call was decided at place 2, and is open
 abbrev pub open_result : CallResult
 open_result =
-    record { call = record { client = 0; number = 1 }; answer = answer.Done; place = Some 2; first = Some 1; last = None; attempts = 1; rounds = 2; messages = 3 }
+    record {
+      call = record { client = 0; number = 1 };
+      answer = answer.Done;
+      place = Some 2;
+      first = Some 1;
+      last = None;
+      attempts = 1;
+      rounds = 2;
+      messages = 3;
+    }
 
 -- the client's call ended at place 4
 abbrev pub ended_result : CallResult
 ended_result =
-    record { call = record { client = 0; number = 1 }; answer = answer.Done; place = Some 2; first = Some 1; last = Some 4; attempts = 1; rounds = 2; messages = 3 }
+    record {
+      call = record { client = 0; number = 1 };
+      answer = answer.Done;
+      place = Some 2;
+      first = Some 1;
+      last = Some 4;
+      attempts = 1;
+      rounds = 2;
+      messages = 3;
+    }
 
 -- the client's call was not decided
 abbrev pub other_result : CallResult
 other_result =
-    record { call = record { client = 0; number = 1 }; answer = answer.Unanswered; place = None; first = None; last = None; attempts = 0; rounds = 0; messages = 0 }
+    record {
+      call = record { client = 0; number = 1 };
+      answer = answer.Unanswered;
+      place = None;
+      first = None;
+      last = None;
+      attempts = 0;
+      rounds = 0;
+      messages = 0;
+    }

@@ -49,7 +49,9 @@ home_text (home.In dir) = dir_text dir
 
 -- `ID#BORN MODE OWNER GROUP TRIPLE`
 abbrev pub access_text : Access → List ℕ
-access_text access = born_text access.id access.born ++ codes " " ++ mode_text access.mode ++ codes " " ++ decimal access.owner ++ codes " " ++ decimal access.group ++ codes " " ++ triple_text access.birth
+access_text access =
+    born_text access.id access.born ++ codes " " ++ mode_text access.mode ++ codes " " ++ decimal access.owner
+    ++ codes " " ++ decimal access.group ++ codes " " ++ triple_text access.birth
 
 abbrev pub stamp_of : Entry → ℕ
 stamp_of entry = entry.stamp

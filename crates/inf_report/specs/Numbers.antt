@@ -10,7 +10,9 @@ mode_text mode = (48 + mode / 64 % 8) ∷ (48 + mode / 8 % 8) ∷ (48 + mode % 8
 
 -- `MODE OWNER GROUP LENGTH`
 abbrev pub meta_text : FileMeta → List ℕ
-meta_text meta = mode_text meta.mode ++ codes " " ++ decimal meta.owner ++ codes " " ++ decimal meta.group ++ codes " " ++ decimal meta.length
+meta_text meta =
+    mode_text meta.mode ++ codes " " ++ decimal meta.owner ++ codes " " ++ decimal meta.group
+    ++ codes " " ++ decimal meta.length
 
 -- a number that others stand before
 abbrev pub later_number : ℕ → List ℕ
@@ -24,7 +26,8 @@ numbers_text (number ∷ numbers) = decimal number ++ flat_map later_number numb
 -- the positions of the set bits among so many, ascending, where the lowest bit has this position
 abbrev pub positions_from : ℕ → ℕ → ℕ → List ℕ
 positions_from zero position bits = []
-positions_from (suc count) position bits = (if bits % 2 == 1 then position ∷ [] else []) ++ positions_from count (position + 1) (bits / 2)
+positions_from (suc count) position bits =
+    (if bits % 2 == 1 then position ∷ [] else []) ++ positions_from count (position + 1) (bits / 2)
 
 -- the positions of the set bits of a number of 128 bits, ascending from 0
 unfoldable pub set_positions : ℕ → List ℕ

@@ -26,7 +26,8 @@ reply_text clients (reply.IsFile born) = codes "file " ++ decimal born
 reply_text clients reply.NoDir = codes "nodir"
 reply_text clients reply.Gone = codes "gone"
 reply_text clients (reply.Stale hits) = codes "stale " ++ numbers_text (set_positions hits)
-reply_text clients (reply.Busy by spot born) = codes "busy " ++ ref_text clients by ++ codes " " ++ spot_text spot ++ codes " " ++ decimal born
+reply_text clients (reply.Busy by spot born) =
+    codes "busy " ++ ref_text clients by ++ codes " " ++ spot_text spot ++ codes " " ++ decimal born
 reply_text clients reply.Other = codes "other"
 reply_text clients reply.NoMem = codes "nomem"
 reply_text clients (reply.Reserved version) = codes "reserved " ++ decimal version

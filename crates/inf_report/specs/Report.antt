@@ -23,12 +23,15 @@ count_line word count = line (word ++ codes " " ++ decimal count)
 
 -- `client NAME UID GID`
 abbrev pub client_line : ClientLine → List ℕ
-client_line client = line (codes "client " ++ client.name ++ codes " " ++ decimal client.caller.uid ++ codes " " ++ decimal client.caller.gid)
+client_line client =
+    line (codes "client " ++ client.name ++ codes " " ++ decimal client.caller.uid
+    ++ codes " " ++ decimal client.caller.gid)
 
 -- the version of the report, and the numbers that the run was set up with
 abbrev pub setup_lines : Setup → List ℕ
 setup_lines setup =
-    line (codes "infinifs report 1") ++ count_line (codes "servers") setup.servers ++ count_line (codes "digest-bytes") setup.digest_bytes
+    line (codes "infinifs report 1")
+    ++ count_line (codes "servers") setup.servers ++ count_line (codes "digest-bytes") setup.digest_bytes
     ++ count_line (codes "cache") setup.cache
 
 -- what the run was set up with
@@ -52,16 +55,21 @@ span_text result = codes " first " ++ place_text result.first ++ codes " last " 
 
 -- ` attempts N rounds N messages N`
 abbrev pub counts_text : CallResult → List ℕ
-counts_text result = codes " attempts " ++ decimal result.attempts ++ codes " rounds " ++ decimal result.rounds ++ codes " messages " ++ decimal result.messages
+counts_text result =
+    codes " attempts " ++ decimal result.attempts ++ codes " rounds " ++ decimal result.rounds
+    ++ codes " messages " ++ decimal result.messages
 
 -- `PLACE REF CALL`
 abbrev pub called_text : List ClientLine → CallResult → List ℕ
-called_text clients result = place_text result.place ++ codes " " ++ ref_text clients result.call ++ codes " " ++ words_of (call_at clients result.call)
+called_text clients result =
+    place_text result.place ++ codes " " ++ ref_text clients result.call
+    ++ codes " " ++ words_of (call_at clients result.call)
 
 -- `PLACE REF CALL = ANSWER first P last P attempts N rounds N messages N`, and ` open` for an open call
 abbrev pub call_line : List ClientLine → CallResult → List ℕ
 call_line clients result =
-    line (called_text clients result ++ codes " = " ++ answer_text clients result.answer ++ span_text result ++ counts_text result ++ open_mark result.place result.last)
+    line (called_text clients result ++ codes " = " ++ answer_text clients result.answer ++ span_text result
+    ++ counts_text result ++ open_mark result.place result.last)
 
 abbrev pub has_no_place : CallResult → Bool
 has_no_place result = is_none result.place
@@ -72,7 +80,8 @@ by_place events results = in_order events results ++ filter has_no_place results
 
 -- the number of calls, and a line for each
 abbrev pub call_lines : List ClientLine → ℕ → List CallResult → List ℕ
-call_lines clients events results = count_line (codes "calls") (length results) ++ flat_map (call_line clients) (by_place events results)
+call_lines clients events results =
+    count_line (codes "calls") (length results) ++ flat_map (call_line clients) (by_place events results)
 
 -- `sN`; the coordinator, whose number is that of the servers, is `c`
 abbrev pub server_text : ℕ → ℕ → List ℕ
@@ -80,11 +89,15 @@ server_text servers number = if number == servers then codes "c" else codes "s" 
 
 -- ` ask REF SERVER REQUEST`
 abbrev pub ask_text : Setup → ℕ → Ask → List ℕ
-ask_text setup number ask = codes " ask " ++ ref_text setup.clients ask.from ++ codes " " ++ server_text setup.servers number ++ codes " " ++ request_text ask.request
+ask_text setup number ask =
+    codes " ask " ++ ref_text setup.clients ask.from ++ codes " " ++ server_text setup.servers number
+    ++ codes " " ++ request_text ask.request
 
 -- ` serve SERVER ASKPLACE REPLY`
 abbrev pub serve_text : Setup → ℕ → ℕ → Reply → List ℕ
-serve_text setup number ask_place reply = codes " serve " ++ server_text setup.servers number ++ codes " " ++ decimal ask_place ++ codes " " ++ reply_text setup.clients reply
+serve_text setup number ask_place reply =
+    codes " serve " ++ server_text setup.servers number ++ codes " " ++ decimal ask_place
+    ++ codes " " ++ reply_text setup.clients reply
 
 abbrev pub event_text : Setup → Event → List ℕ
 event_text setup (event.Ask number ask) = ask_text setup number ask
@@ -106,4 +119,5 @@ event_lines setup events = count_line (codes "events") (length events) ++ lines_
 -- the report of a run, whose events stand by place, the oldest first
 abbrev pub report : Setup → List Event → List CallResult → List ℕ
 report setup events results =
-    head_lines setup ++ call_lines setup.clients (length events) results ++ event_lines setup events ++ line (codes "end")
+    head_lines setup ++ call_lines setup.clients (length events) results ++ event_lines setup events
+    ++ line (codes "end")

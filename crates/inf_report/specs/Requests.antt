@@ -43,7 +43,8 @@ request_text (request.Lookup key) = codes "lookup " ++ look_key_text key
 request_text (request.Finish chain op) = codes "finish " ++ chain_text chain ++ codes " " ++ op_text op
 request_text (request.Reserve chain name) = codes "reserve " ++ chain_text chain ++ codes " " ++ name
 request_text (request.Make triple) = codes "make " ++ triple_text triple
-request_text (request.Link chain name dir mode) = codes "link " ++ chain_text chain ++ codes " " ++ name ++ codes " " ++ dir_text dir ++ codes " " ++ mode_text mode
+request_text (request.Link chain name dir mode) =
+    codes "link " ++ chain_text chain ++ codes " " ++ name ++ codes " " ++ dir_text dir ++ codes " " ++ mode_text mode
 request_text (request.Cancel dir) = codes "cancel " ++ dir_text dir
 request_text (request.Drop dir) = codes "drop " ++ dir_text dir
 request_text (request.Seal chain) = codes "seal " ++ chain_text chain
@@ -52,12 +53,16 @@ request_text (request.Unlink chain) = codes "unlink " ++ chain_text chain
 request_text (request.Forget parent dir) = codes "forget " ++ id_text parent ++ codes " " ++ dir_text dir
 request_text (request.Hold chain what) = codes "hold " ++ chain_text chain ++ codes " " ++ what_text what
 request_text (request.Unhold home) = codes "unhold " ++ home_text home
-request_text (request.Prepare old new aim) = codes "prepare " ++ chain_text old ++ codes " " ++ chain_text new ++ codes " " ++ aim_text aim
-request_text (request.Put old new aim meta) = codes "put " ++ chain_text old ++ codes " " ++ chain_text new ++ codes " " ++ aim_text aim ++ codes " " ++ meta_text meta
+request_text (request.Prepare old new aim) =
+    codes "prepare " ++ chain_text old ++ codes " " ++ chain_text new ++ codes " " ++ aim_text aim
+request_text (request.Put old new aim meta) =
+    codes "put " ++ chain_text old ++ codes " " ++ chain_text new ++ codes " " ++ aim_text aim
+    ++ codes " " ++ meta_text meta
 request_text (request.Commit home) = codes "commit " ++ home_text home
 request_text (request.Erase dir) = codes "erase " ++ dir_text dir
 request_text (request.Mark key hold) = codes "mark " ++ key_text key ++ codes " " ++ decimal hold
 request_text request.Release = codes "release"
 request_text request.Unmark = codes "unmark"
-request_text (request.Admit dir old new) = codes "admit " ++ dir_text dir ++ codes " " ++ chain_text old ++ codes " " ++ chain_text new
+request_text (request.Admit dir old new) =
+    codes "admit " ++ dir_text dir ++ codes " " ++ chain_text old ++ codes " " ++ chain_text new
 request_text request.Quit = codes "quit"

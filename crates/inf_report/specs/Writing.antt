@@ -57,4 +57,5 @@ noted slots (Some place) i = slice_set slots (place - 1) (Some i)
 -- each slot has the result that stands at its place, of as many places as there are events
 pub record ShowPlaces (events : ℕ) (results : List CallResult) (slots : List (Option ℕ)) : Type 0 where
   pub whole : length slots ≡ events
-  pub each : (before : ℕ) → before < events → picked results (slice_get slots before) ≡ filter (stands_at (before + 1)) results
+  pub each : (before : ℕ) → before < events
+      → picked results (slice_get slots before) ≡ filter (stands_at (before + 1)) results

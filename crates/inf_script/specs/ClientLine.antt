@@ -40,7 +40,8 @@ client_user draft name (word ∷ words) = if bytes_eq word (codes "0") then clie
 abbrev pub client_name : Draft → List (List ℕ) → Result Draft Why
 client_name draft [] = bad_word
 client_name draft (name ∷ words) =
-    if is_client_name name then (if is_some (place_of name draft.clients) then Err why.DoubleClient else client_user draft name words)
+    if is_client_name name then
+    (if is_some (place_of name draft.clients) then Err why.DoubleClient else client_user draft name words)
     else bad_word
 
 -- `client NAME 0 0`

@@ -34,7 +34,10 @@ abbrev pub client_with : List ℕ → List Call → ClientLine
 client_with name calls = record { name = name; caller = record { uid = 0; gid = 0 }; calls = calls }
 
 abbrev pub script_with : ℕ → ℕ → List ClientLine → List Move → Script
-script_with servers digest_bytes clients moves = record { setup = record { servers = servers; digest_bytes = digest_bytes; cache = 256; clients = clients }; order = moves }
+script_with servers digest_bytes clients moves = record {
+  setup = record { servers = servers; digest_bytes = digest_bytes; cache = 256; clients = clients };
+  order = moves;
+}
 
 abbrev pub Says : List ℕ → ℕ → List ClientLine → List Move → Type 0
 Says text servers clients moves = reading text false ≡ Ok (script_with servers 32 clients moves)
@@ -128,8 +131,10 @@ pub record LinesAreRefused : Type 0 where
   pub two_returns : IsRefused 1 why.BadWord (text_of ((codes "infinifs 1" ++ 13 ∷ 13 ∷ []) ∷ codes "end" ∷ []))
   pub not_utf8 : IsRefused 2 why.NotUtf8 (with_lines ((codes "# " ++ 255 ∷ []) ∷ codes "x" ∷ []))
   pub goes_on : reading (codes "infinifs 1" ++ 10 ∷ codes "end") true ≡ Err (record { line = 2; why = why.TooLong })
-  pub goes_on_behind_a_newline : reading (with_lines (codes "end" ∷ [])) true ≡ Err (record { line = 3; why = why.TooLong })
-  pub fault_before_it_goes_on : reading (with_lines (codes "x" ∷ [])) true ≡ Err (record { line = 2; why = why.BadWord })
+  pub goes_on_behind_a_newline :
+      reading (with_lines (codes "end" ∷ [])) true ≡ Err (record { line = 3; why = why.TooLong })
+  pub fault_before_it_goes_on :
+      reading (with_lines (codes "x" ∷ [])) true ≡ Err (record { line = 2; why = why.BadWord })
 
 pub record WordsAreRefused : Type 0 where
   pub no_servers : IsRefused 2 why.BadNumber (with_lines (codes "servers 0" ∷ []))

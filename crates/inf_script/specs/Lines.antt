@@ -12,7 +12,7 @@ whole_parts more (part ∷ next ∷ parts) = part ∷ whole_parts more (next ∷
 whole_parts more (part ∷ []) = if more || not (is_piece part) then [] else part ∷ []
 whole_parts more [] = []
 
--- the lines that can be read whole: what stands between newlines, and what stands behind the last one unless it is empty
--- or the text goes on there
+-- the lines that can be read whole: what stands between newlines, and what stands behind the last one unless it is
+-- empty or the text goes on there
 abbrev pub lines_of : Bool → List ℕ → List (List ℕ)
 lines_of more text = whole_parts more (slice_split is_newline text)

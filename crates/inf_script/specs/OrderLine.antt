@@ -40,7 +40,8 @@ server_move clients (Ok number) name = serve_move clients number name
 -- what stands behind the letter of a server: its number up to a colon, and a name behind that
 abbrev pub server_text : ℕ → List ClientLine → List ℕ → Result Move Why
 server_text servers clients text =
-    server_move clients (number_below servers (before (position is_colon text) text)) (behind (position is_colon text) text)
+    server_move clients (number_below servers (before (position is_colon text) text))
+    (behind (position is_colon text) text)
 
 -- what stands behind the letter of the coordinator
 abbrev pub coordinator_move : ℕ → List ClientLine → List ℕ → Result Move Why

@@ -18,7 +18,15 @@ at_line number (Err reason) = Err (record { line = number; why = reason })
 
 -- caches of 256 entries
 abbrev pub script_of : Draft → Script
-script_of draft = record { setup = record { servers = servers_of draft; digest_bytes = digest_bytes_of draft; cache = 256; clients = draft.clients }; order = order_of draft.moves }
+script_of draft = record {
+  setup = record {
+    servers = servers_of draft;
+    digest_bytes = digest_bytes_of draft;
+    cache = 256;
+    clients = draft.clients;
+  };
+  order = order_of draft.moves;
+}
 
 -- a text ends behind its line `end`
 abbrev pub ended : Draft → Result Script Why

@@ -13,8 +13,8 @@ use std::alloc::Global;
 use std::marker::Model;
 use std::mem;
 
-/// The clients that were read so far, with their calls, in the order of their lines. A client is found by its name without
-/// a look at each.
+/// The clients that were read so far, with their calls, in the order of their lines. A client is found by its name
+/// without a look at each.
 #[derive(Drop)]
 pub struct ClientTable {
     /// The names of the lines, in their order.

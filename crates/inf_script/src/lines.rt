@@ -5,8 +5,8 @@ ghost use Rattle.inf_script.specs.Lines.{lines_of};
 
 use crate::bytes::{cut_at, position_of};
 
-/// The first line of a text, and the text behind it. Where the text goes on behind these bytes, a line that they do not end
-/// is none.
+/// The first line of a text, and the text behind it. Where the text goes on behind these bytes, a line that they do not
+/// end is none.
 pub fn take_line(text: &[u8], more: bool) -> Option<(&[u8], &[u8])>
     ensures lines { MatchOption result (lines_of more text.now ≡ [])
         (λ p. lines_of more text.now ≡ p.0.now ∷ lines_of more p.1.now) }

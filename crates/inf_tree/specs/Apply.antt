@@ -88,7 +88,8 @@ without_file tree caller path = do
 -- what is told of a node; a directory has length 0
 abbrev pub told : Node → Answer
 told (file meta) = answer.Stat kind.File meta
-told (dir meta entries) = answer.Stat kind.Dir (record { mode = meta.mode; owner = meta.owner; group = meta.group; length = 0 })
+told (dir meta entries) =
+    answer.Stat kind.Dir (record { mode = meta.mode; owner = meta.owner; group = meta.group; length = 0 })
 
 abbrev pub stat : Node → Caller → List ℕ → Result Answer Errno
 stat tree caller path = do

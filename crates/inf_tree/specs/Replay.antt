@@ -46,7 +46,8 @@ answers_to tree (r ∷ later) = (apply tree r.caller r.call).answer ∷ answers_
 abbrev pub decided : List Request → List Answer → List Decided
 decided [] answers = []
 decided (r ∷ requests) [] = []
-decided (r ∷ requests) (a ∷ answers) = record { caller = r.caller; call = r.call; answer = a } ∷ decided requests answers
+decided (r ∷ requests) (a ∷ answers) =
+    record { caller = r.caller; call = r.call; answer = a } ∷ decided requests answers
 
 -- the calls of one caller
 abbrev pub requests_of : Caller → List Call → List Request

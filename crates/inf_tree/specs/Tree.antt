@@ -71,7 +71,8 @@ changed_under name change (entry other node rest) =
 abbrev pub changed : (Node → Node) → List (List ℕ) → Node → Node
 changed change [] node = change node
 changed change (name ∷ names) (file meta) = file meta
-changed change (name ∷ names) (dir meta entries) = dir meta (changed_under name (λ node. changed change names node) entries)
+changed change (name ∷ names) (dir meta entries) =
+    dir meta (changed_under name (λ node. changed change names node) entries)
 
 -- a directory with a node hung under a name
 abbrev pub hung : List ℕ → Node → Node → Node

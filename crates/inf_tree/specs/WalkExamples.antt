@@ -18,7 +18,8 @@ a_file = file (record { mode = 0o640; owner = 7; group = 70; length = 3 })
 -- `/a` of user 7, who alone may search it, with the directory `b` and the file `f`
 abbrev pub small_tree : Node
 small_tree =
-    dir root_meta (entry (codes "a") (dir private_meta (entry (codes "b") (dir root_meta none) (entry (codes "f") a_file none))) none)
+    dir root_meta (entry (codes "a")
+    (dir private_meta (entry (codes "b") (dir root_meta none) (entry (codes "f") a_file none))) none)
 
 abbrev pub reached : Caller → List (List ℕ) → Result Directory Errno
 reached caller names = walk caller names small_tree
@@ -38,7 +39,10 @@ walks =
 abbrev pub ends : List (Result Directory Errno)
 ends =
     Ok (record { meta = root_meta; entries = none })
-    ∷ Ok (record { meta = private_meta; entries = entry (codes "b") (dir root_meta none) (entry (codes "f") a_file none) })
+    ∷ Ok (record {
+      meta = private_meta;
+      entries = entry (codes "b") (dir root_meta none) (entry (codes "f") a_file none);
+    })
     ∷ Err errno.EACCES
     ∷ Err errno.EACCES
     ∷ Err errno.ENOENT
@@ -50,5 +54,6 @@ ends =
 abbrev pub moved_file : Applied
 moved_file = record {
   answer = answer.Done;
-  tree = dir root_meta (entry (codes "_") a_file (entry (codes "a") (dir private_meta (entry (codes "b") (dir root_meta none) none)) none));
+  tree = dir root_meta (entry (codes "_") a_file
+      (entry (codes "a") (dir private_meta (entry (codes "b") (dir root_meta none) none)) none));
 }
