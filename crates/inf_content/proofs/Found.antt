@@ -9,22 +9,19 @@ use Rattle.std.specs.declared.cmp.Ordering.TheVariants.{Less, Equal, Greater}
 use Rattle.std.proofs.lemmas.Map.Lookups.{exact_bytes}
 use Rattle.std.proofs.lemmas.Map.Steps.{set_value_same}
 use Rattle.std.proofs.lemmas.Map.Text.{is_eq-slice_cmp}
-use Rattle.std.proofs.lemmas.Slice.Eq.{bytes_eq-Decides}
 use Rattle.inf_base.specs.declared.caller.CallRef.{CallRef}
 use Rattle.inf_base.specs.declared.directory.DirRef.{DirRef}
 use Rattle.inf_base.specs.declared.id.Id.{Id}
 use Rattle.inf_base.specs.declared.triple.Triple.{Triple}
 use Rattle.inf_base.specs.Content.{Content, Slot}
 use Rattle.inf_base.specs.Same.{is_same_id}
+use Rattle.inf_base.proofs.Same.{same_id}
 use Rattle.inf_content.specs.declared.object.Object.{Object}
 use Rattle.inf_content.specs.Contents.{changed_at, content_at, content_of_id, dropped_at, empty_content, id_cmp, if_born, made_at, may_drop, may_drop_found, placed, slots_at, slots_found, with_new, with_slots_at}
 use Rattle.inf_content.specs.Objects.{contents_of, whole, with_object_at}
 
 abbrev id_from : List ℕ → Id
 id_from bytes = record { bytes = bytes }
-
-same_id : (a b : Id) → is_same_id a b ≡ true → a ≡ b
-same_id a b h = ap id_from ((bytes_eq-Decides a.bytes b.bytes).0 h)
 
 -- the map finds by the order, and the definitions by the bytes
 pub same_test : (a b : Id) → is_at (id_cmp a) b ≡ is_same_id a b

@@ -10,8 +10,9 @@ use Rattle.inf_base.specs.Renames.{RenameRow}
 use Rattle.inf_renames.specs.Kept.{Kept}
 use Rattle.inf_renames.specs.Renames.{HasRows, OthersStay, rows_of}
 use Rattle.inf_base.specs.Same.{is_same_dir, is_same_id}
+use Rattle.inf_base.proofs.Same.{same_id, same_id_self}
 use Rattle.inf_renames.specs.Rows.{IsLeastFree, is_taken, of_parent, without_row}
-use Rattle.inf_renames.proofs.RenamesFacts.{apart_back, same_id, same_self}
+use Rattle.inf_renames.proofs.RenamesFacts.{apart_back}
 
 pub least_unique : (parent : Id) (name : List ℕ) (rows : List RenameRow) (m n : ℕ) → IsLeastFree parent name rows m → IsLeastFree parent name rows n → m ≡ n
 least_unique parent name rows m n a b =
@@ -57,7 +58,7 @@ without_of_other p q dir (r ∷ rows) other = by (is_same_id p r.parent) (is_sam
     by false d apart later = kept later
 
 added_here : (row : RenameRow) (rows : List RenameRow) → of_parent row.parent (rows ++ row ∷ []) ≡ of_parent row.parent rows ++ row ∷ []
-added_here row rows = filter-append _ rows (row ∷ []) ∙ ap (λ b. of_parent row.parent rows ++ cond b (row ∷ []) []) (same_self row.parent)
+added_here row rows = filter-append _ rows (row ∷ []) ∙ ap (λ b. of_parent row.parent rows ++ cond b (row ∷ []) []) (same_id_self row.parent)
 
 added_elsewhere : (q : Id) (row : RenameRow) (rows : List RenameRow) → is_same_id row.parent q ≡ false → of_parent q (rows ++ row ∷ []) ≡ of_parent q rows
 added_elsewhere q row rows apart =

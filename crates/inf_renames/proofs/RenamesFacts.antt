@@ -9,36 +9,30 @@ use Rattle.std.specs.declared.cmp.Ordering.TheVariants.{Less, Equal, Greater}
 use Rattle.std.proofs.lemmas.Bool.{both_ways, false_from_ne_true}
 use Rattle.std.proofs.lemmas.List.{map-append}
 use Rattle.std.proofs.lemmas.Map.Text.{is_eq-slice_cmp}
-use Rattle.std.proofs.lemmas.Slice.Eq.{bytes_eq-Decides}
 use Rattle.inf_base.specs.declared.directory.DirRef.{DirRef}
 use Rattle.inf_base.specs.declared.id.Id.{Id}
 use Rattle.inf_renames.specs.declared.row.Row.{Row}
 use Rattle.inf_renames.specs.Kept.{Kept, has_version, kept_with_room, kept_with_row, kept_without, nothing_kept, without_dir}
 use Rattle.inf_renames.specs.Renames.{OthersStay, forgotten, id_cmp, kept_of, least_version, row_in, rows_of, spare_of, with_kept, with_room, with_row}
 use Rattle.inf_base.specs.Same.{is_same_dir, is_same_id}
+use Rattle.inf_base.proofs.Same.{same_id, same_id_self}
 use Rattle.inf_renames.specs.Rows.{IsLeastFree, is_taken, without_row}
 use Rattle.inf_renames.proofs.KeptFacts.{below_least, least_is_free}
 
 pub same_test : (p q : Id) → is_at (id_cmp p) q ≡ is_same_id p q
 same_test p q = is_eq-slice_cmp p.bytes q.bytes
 
-pub same_self : (p : Id) → is_same_id p p ≡ true
-same_self p = (bytes_eq-Decides p.bytes p.bytes).1 refl
-
-pub same_id : (p q : Id) → is_same_id p q ≡ true → p ≡ q
-same_id p q same = let bytes = (bytes_eq-Decides p.bytes q.bytes).0 same in ap (λ b. record { bytes = b }) bytes
-
 pub apart_back : (p q : Id) → is_same_id p q ≡ false → is_same_id q p ≡ false
-apart_back p q apart = false_from_ne_true _ (λ same. both_ways _ apart (subst (λ x. is_same_id x q ≡ true) (same_id q p same) (same_self q)))
+apart_back p q apart = false_from_ne_true _ (λ same. both_ways _ apart (subst (λ x. is_same_id x q ≡ true) (same_id q p same) (same_id_self q)))
 
 -- a version is taken where the parent's list has it
 taken_in : (p : Id) (name : List ℕ) (version : ℕ) (rows : List Row) → is_taken p name version (map (row_in p) rows) ≡ has_version name version rows
 taken_in p name version [] = refl
-taken_in p name version (r ∷ rows) = rw (same_self p, taken_in p name version rows) refl
+taken_in p name version (r ∷ rows) = rw (same_id_self p, taken_in p name version rows) refl
 
 without_in : (p : Id) (dir : DirRef) (rows : List Row) → without_row p dir (map (row_in p) rows) ≡ map (row_in p) (without_dir dir rows)
 without_in p dir [] = refl
-without_in p dir (r ∷ rows) = rw (same_self p) (by (is_same_dir r.dir dir) (without_in p dir rows))
+without_in p dir (r ∷ rows) = rw (same_id_self p) (by (is_same_dir r.dir dir) (without_in p dir rows))
   where
     by : (b : Bool) → without_row p dir (map (row_in p) rows) ≡ map (row_in p) (without_dir dir rows)
         → cond b (map (row_in p) rows) (row_in p r ∷ without_row p dir (map (row_in p) rows)) ≡ map (row_in p) (cond b rows (r ∷ without_dir dir rows))
@@ -56,12 +50,12 @@ least_version_found p name lists n is = subst (λ v. IsLeastFree p name (rows_of
 
 module _ (p : Id) (w : Kept) where
   with_kept_found : (lists : List (Id × Kept)) → lookup (is_same_id p) (with_kept p w lists) ≡ Some w
-  with_kept_found [] = rw (same_self p) refl
+  with_kept_found [] = rw (same_id_self p) refl
   with_kept_found (e ∷ lists) = by (id_cmp p e.0) (sym (same_test p e.0)) (with_kept_found lists)
     where
       by : (o : Ordering) → is_same_id p e.0 ≡ is_eq o → lookup (is_same_id p) (with_kept p w lists) ≡ Some w
           → lookup (is_same_id p) (match_ordering o ((p, w) ∷ e ∷ lists) ((e.0, w) ∷ lists) (e ∷ with_kept p w lists)) ≡ Some w
-      by Less test later = rw (same_self p) refl
+      by Less test later = rw (same_id_self p) refl
       by Equal test later = rw test refl
       by Greater test later = rw test later
 
