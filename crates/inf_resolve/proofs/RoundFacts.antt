@@ -1,6 +1,7 @@
 -- A further round leads further.
 use Rattle.std.proofs.Common.{◌≡◌, ℕ, suc, ◌<◌, ◌≤◌, ◌||◌, Bool, true, false, if◌then◌else◌, List, [], ◌∷◌, ◌++◌, length, Option, Some, None, is_some, refl, sym, ap, subst, ◌∙◌, arith}
 use Rattle.std.specs.List.{fold}
+use Rattle.std.proofs.lemmas.Bool.{or_left, or_right}
 use Rattle.std.proofs.lemmas.List.Folds.{list_any-append}
 use Rattle.inf_base.specs.declared.directory.DirRef.{DirRef}
 use Rattle.inf_base.specs.declared.entry.Entry.{Entry}
@@ -16,14 +17,6 @@ use Rattle.inf_resolve.specs.Walk.{Halt, halt_of, halts, next_entry, on_entry}
 use Rattle.inf_resolve.proofs.KeyFacts.{same_key_self}
 
 -- ---- an unknown key is among those that are to be asked
-
-or_right : (a b : Bool) → b ≡ true → (a || b) ≡ true
-or_right true b is = refl
-or_right false b is = is
-
-or_left : (a b : Bool) → a ≡ true → (a || b) ≡ true
-or_left true b is = refl
-or_left false b is = cc
 
 among_last : (k : LookKey) (keys : List LookKey) → is_among k (keys ++ k ∷ []) ≡ true
 among_last k keys =
