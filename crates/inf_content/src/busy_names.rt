@@ -102,7 +102,9 @@ impl BusyNames {
     ) -> Option<Name>
         ensures name { result ≡ find (is_wanted_name wanted by (slots_of slots.now.entries)) self.old.names }
         ensures left { self.new
-            ≡ record self.old { names = remove_key (is_wanted_name wanted by (slots_of slots.now.entries)) self.old.names } }
+            ≡ record self.old {
+              names = remove_key (is_wanted_name wanted by (slots_of slots.now.entries)) self.old.names;
+            } }
     {
         let Some(at) = wanted_in(self.names.as_slice(), slots, wanted, by) else {
             return None;

@@ -53,7 +53,8 @@ impl Contents {
         }
     }
 
-    /// Content objects are in the order of their identifiers' bytes, and the slots of each in that of their names' bytes.
+    /// Content objects are in the order of their identifiers' bytes,
+    /// and the slots of each in that of their names' bytes.
     pub fn in_order(&self)
         ensures identifiers { IdentifiersRise self.now }
         ensures names { All (λ c. NamesRise c.slots) self.now }

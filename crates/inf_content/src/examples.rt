@@ -39,7 +39,8 @@ pub fn example_of_filling()
     ensures reserved { look dir a (reserved_at dir a call access empty) ≡ seen.Reserved call }
     ensures filled { filled_at dir call None (reserved_at dir a call access empty)
         ≡ holding ((a, directory access None) ∷ []) }
-    ensures at_home { told_of_filled low_id None (first (reserves call) (slots_at dir (reserved_at dir a call access empty)))
+    ensures at_home { told_of_filled low_id None
+        (first (reserves call) (slots_at dir (reserved_at dir a call access empty)))
         ≡ Some (record { id = high_id; born = 5 }, true) }
     ensures linked { look dir b (filled_at dir call (Some (moved, 0o700, owner)) (reserved_at dir b call access empty))
         ≡ seen.Dir moved 0o700 1 2 None }

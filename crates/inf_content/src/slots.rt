@@ -228,7 +228,8 @@ impl Slots {
         while self.lift_first(by) {}
     }
 
-    /// Removes the first slot that the call took, if it reserved it, or else lifts its hold. Tells whether there was one.
+    /// Removes the first slot that the call took, if it reserved it, or else lifts its hold.
+    /// Tells whether there was one.
     fn lift_first(&mut self, by: CallRef) -> bool
         ensures lifted { lifted by self.new ≡ lifted by self.old }
         ensures fewer { IsTrue result → length (busy_names self.new) < length (busy_names self.old) }

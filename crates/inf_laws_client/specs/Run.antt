@@ -75,7 +75,9 @@ serve_in servers w rest r (Some state) =
     let done = machine (site servers w.number) state w.place w.ask in
     record r {
       count = suc r.count;
-      clients = change_at w.ask.from.client (λ (s : ClientState). served digest w.place (told_reply (suc r.count) done.reply) s) r.clients;
+      clients =
+          change_at w.ask.from.client
+          (λ (s : ClientState). served digest w.place (told_reply (suc r.count) done.reply) s) r.clients;
       servers = change_at w.number (λ (old : State). done.state) r.servers;
       waiting = rest;
     }
@@ -120,7 +122,15 @@ pub record Shown : Type 0 where
   pub messages : ℕ
 
 abbrev pub shown : CallResult → Shown
-shown r = record { answer = r.answer; place = r.place; first = r.first; last = r.last; attempts = r.attempts; rounds = r.rounds; messages = r.messages }
+shown r = record {
+  answer = r.answer;
+  place = r.place;
+  first = r.first;
+  last = r.last;
+  attempts = r.attempts;
+  rounds = r.rounds;
+  messages = r.messages;
+}
 
 abbrev pub results_in : Option ClientState → List Shown
 results_in None = []
@@ -132,7 +142,8 @@ results client r = results_in (slice_get r.clients client)
 -- a: mkdir /a, rmdir /a; b: create /a/f; order `=a +a +a s0 s0 +a s0 =b =a`
 abbrev pub crossing_run : Run
 crossing_run =
-    let r0 = opening_run 1 ((call.Mkdir (codes "/a") 0o755 ∷ call.Rmdir (codes "/a") ∷ []) ∷ (call.Create (codes "/a/f") 0o644 ∷ []) ∷ []) in
+    let r0 = opening_run 1 ((call.Mkdir (codes "/a") 0o755 ∷ call.Rmdir (codes "/a") ∷ [])
+    ∷ (call.Create (codes "/a/f") 0o644 ∷ []) ∷ []) in
     let r1 = turns 4 1 0 r0 in
     let r2 = serve_oldest 1 (serve_oldest 1 (step 0 (step 0 r1))) in
     let r3 = serve_oldest 1 (step 0 r2) in
@@ -149,4 +160,12 @@ shows more calls = results 0 (alone more calls)
 
 abbrev pub ended_at : Answer → ℕ → ℕ → ℕ → ℕ → Shown
 ended_at given place first last messages =
-    record { answer = given; place = Some place; first = Some first; last = Some last; attempts = 1; rounds = 1; messages = messages }
+    record {
+      answer = given;
+      place = Some place;
+      first = Some first;
+      last = Some last;
+      attempts = 1;
+      rounds = 1;
+      messages = messages;
+    }

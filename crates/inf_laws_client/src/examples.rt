@@ -18,7 +18,8 @@ ghost use Rattle.inf_laws_client.specs.Run.{alone, digest, ended_at, opening_run
 pub fn example_of_whole_lives()
     ensures full { shows 40 (call.Mkdir (codes "/a") 0o755 ∷ call.Create (codes "/a/f") 0o644
         ∷ call.Rmdir (codes "/a") ∷ [])
-        ≡ ended_at answer.Done 8 1 8 4 ∷ ended_at answer.Done 14 9 14 3 ∷ ended_at (answer.Refused errno.ENOTEMPTY) 20 15 20 3 ∷ [] }
+        ≡ ended_at answer.Done 8 1 8 4 ∷ ended_at answer.Done 14 9 14 3
+        ∷ ended_at (answer.Refused errno.ENOTEMPTY) 20 15 20 3 ∷ [] }
     ensures empty { shows 40 (call.Mkdir (codes "/a") 0o755 ∷ call.Rmdir (codes "/a") ∷ [])
         ≡ ended_at answer.Done 8 1 8 4 ∷ ended_at answer.Done 16 9 18 5 ∷ [] }
     ensures nothing_left { (alone 40 (call.Mkdir (codes "/a") 0o755 ∷ call.Rmdir (codes "/a") ∷ [])).servers

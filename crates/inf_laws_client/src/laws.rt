@@ -107,8 +107,8 @@ pub fn clients_ask_their_groups()
         → KeepsToPath digest s → AnswersLookup s.stage s.sent place reply → AnswersTop s.stage s.sent place reply }
 {}
 
-/// A chain that carries only entries which are true now or whose directories are gone, and that links up, is one that was
-/// told along its names: it is what the laws of directories ask of a request.
+/// A chain that carries only entries which are true now or whose directories are gone, and that links up, is one that
+/// was told along its names: it is what the laws of directories ask of a request.
 pub fn chains_are_told_along()
     ensures { (service : Service) (objects : Objects) (root : Access) (phases : Phases) (chain : List Entry)
         → CarriesOnly (IsToldAs service objects root phases) chain → LinksUp chain
