@@ -22,13 +22,16 @@ pub fn next_asks()
         (client_after example.world 0 (example.first_events 0))) ≡ asks 0 (example.ask 0 example.look_up_top) }
 
     // The lookup is not answered yet, so nothing else may be sent, whatever the client would like to.
-    ensures waits { next_step (begun example.world.digest (example.ask 0 example.create_f) (client_after example.world 0 (example.first_events 2)).sent
+    ensures waits { next_step (begun example.world.digest (example.ask 0 example.create_f)
+        (client_after example.world 0 (example.first_events 2)).sent
         (client_after example.world 0 (example.first_events 2))) ≡ waits }
 
     // What decides goes out with the entry that was told to this very client.
-    ensures create { next_step (begun example.world.digest (example.ask 0 example.create_f) (client_after example.world 0 (example.first_events 4)).sent
+    ensures create { next_step (begun example.world.digest (example.ask 0 example.create_f)
+        (client_after example.world 0 (example.first_events 4)).sent
         (client_after example.world 0 (example.first_events 4))) ≡ asks 0 (example.ask 0 example.create_f) }
-    ensures stat { next_step (begun example.world.digest (example.ask 1 example.stat_f) (client_after example.world 1 (example.first_events 5)).sent
+    ensures stat { next_step (begun example.world.digest (example.ask 1 example.stat_f)
+        (client_after example.world 1 (example.first_events 5)).sent
         (client_after example.world 1 (example.first_events 5))) ≡ asks 0 (example.ask 1 example.stat_f) }
     ensures over { next_step (client_after example.world 0 example.history) ≡ is_over }
 {}

@@ -86,8 +86,8 @@ fn place_of(rows: &[Row], dir: &DirRef) -> Option<usize>
     rows.iter().position(|row| row.dir == *dir)
 }
 
-/// Counts up from a version as rows take it, in one walk. Rows are mostly added in the order of their versions: one walk
-/// then passes them all, and the next one finds the version free.
+/// Counts up from a version as rows take it, in one walk. Rows are mostly added in the order of their versions: one
+/// walk then passes them all, and the next one finds the version free.
 fn next_version(rows: &[Row], name: &Name, version: u64) -> u64
     requires { (v : ℕ) → v < version → has_version name.now v rows.now ≡ true }
     ensures taken { (v : ℕ) → v < result → has_version name.now v rows.now ≡ true }

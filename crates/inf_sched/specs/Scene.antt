@@ -41,8 +41,8 @@ abbrev pub can_ask : World → Scene → ℕ → Bool
 can_ask world scene client =
     not (is_gone scene client) && is_ask (next_step (planned world.digest (client_in world scene client)))
 
--- the client makes an ask: its next one; where it wanted memory for some calls, its next one behind these; where it wanted
--- memory in the midst of a flow, the first of what lifts that flow's changes
+-- the client makes an ask: its next one; where it wanted memory for some calls, its next one behind these; where it
+-- wanted memory in the midst of a flow, the first of what lifts that flow's changes
 pub record MakesAsk (world : World) (client : ℕ) (old new : Scene) : Type 0 where
   pub number : ℕ
   pub ask : Ask

@@ -49,7 +49,9 @@ reply_to world number place h None = reply.Other
 -- the Ask is served
 abbrev pub with_serve : World → Posting → Scene → Scene
 with_serve world p scene =
-    with_event (event.Serve p.number p.place (reply_to world p.number p.place scene.history (asked_at p.place scene.history))) scene
+    with_event
+    (event.Serve p.number p.place (reply_to world p.number p.place scene.history (asked_at p.place scene.history)))
+    scene
 
 -- ---- the moves
 

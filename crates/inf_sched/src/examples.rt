@@ -47,8 +47,8 @@ pub fn ended_calls()
     ensures early { results_of (a_alone ∷ []) ≡ decided 0 done 4 1 2 ∷ not_asked ∷ [] }
 {}
 
-/// What an order may make where memory is wanted: no event shows that `a` gave its call up, and the server's reply shows
-/// that it wanted memory.
+/// What an order may make where memory is wanted: no event shows that `a` gave its call up, and the server's reply
+/// shows that it wanted memory.
 pub fn wanting()
     ensures by_client { ByOrder world (a_steps ∷ []) [] (no_memory None None 0 ∷ not_asked ∷ []) }
     ensures by_server { ByOrder world (a_steps ∷ serves_0 ∷ []) wanted_by_server (no_memory (Some 1) (Some 2) 1
@@ -58,8 +58,8 @@ pub fn wanting()
     ensures silent { ¬ MakesCalmly world (a_steps ∷ []) [] (results_of []) }
 {}
 
-/// What an order may make where `a` wants memory in the midst of its flow: it lifts what it reserved, and the call has come
-/// to that as soon as this is asked.
+/// What an order may make where `a` wants memory in the midst of its flow: it lifts what it reserved, and the call has
+/// come to that as soon as this is asked.
 pub fn wanting_in_a_flow()
     ensures asked { ByOrder mkdir_world (take 5 in_turn) (drop 1 lifted) (gave_up_late None ∷ []) }
     ensures served { ByOrder mkdir_world in_turn lifted (gave_up_late (Some 6) ∷ []) }

@@ -76,8 +76,8 @@ pub record HasCause (world : World) (h : List Event) (results : List CallResult)
   pub unanswered : result.answer ≡ answer.Unanswered → IsLeftOpen world scene result
   pub left_open : IsLeftOpen world scene result → result.answer ≡ answer.Unanswered
 
--- the text is a script, and the bytes are the report of an outcome that its order makes: a legal history, with the newest
--- event first, and results that agree with it and whose calls, by place, are answered as on the plain tree
+-- the text is a script, and the bytes are the report of an outcome that its order makes: a legal history, with the
+-- newest event first, and results that agree with it and whose calls, by place, are answered as on the plain tree
 pub record IsReportOf (text bytes : List ℕ) : Type 0 where
   pub setup : Setup
   pub order : List Move

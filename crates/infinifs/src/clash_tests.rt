@@ -53,8 +53,8 @@ fn answer(alloc: Global, i: u32, bearer: u32) -> Result<String, Fail> {
     Ok(format!(in alloc; "clash {root}/d{i}/0 {root}/d{bearer}/0")?)
 }
 
-/// Each call makes four asks. The third makes the directory or clashes; the fourth links the one that was made, or lifts
-/// the name that was reserved.
+/// Each call makes four asks. The third makes the directory or clashes; the fourth links the one that was made, or
+/// lifts the name that was reserved.
 fn line(alloc: Global, i: u32, bearer: u32) -> Result<String, Fail>
     requires { i < DIRECTORIES }
 {

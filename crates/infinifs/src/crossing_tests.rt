@@ -3,8 +3,8 @@ use std::alloc::Global;
 use std::process::Abort;
 use std::test::Fail;
 
-/// Client b makes its one call after each of the moves of client a, which then goes on alone. The call lines, whose front
-/// is always the same, for each of these moves in their order.
+/// Client b makes its one call after each of the moves of client a, which then goes on alone. The call lines, whose
+/// front is always the same, for each of these moves in their order.
 fn expect_crossings(
     rt: &impl Abort,
     alloc: Global,
