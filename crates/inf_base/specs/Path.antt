@@ -29,7 +29,8 @@ is_reserved name = bytes_eq name (codes ".") || bytes_eq name (codes "..") || li
 abbrev pub name_fault : ℕ → List ℕ → Option Errno
 name_fault before name =
     if nat_le MOST_PATH_NAMES before then Some errno.ENAMETOOLONG
-    else (if nat_lt MOST_NAME_BYTES (length name) then Some errno.ENAMETOOLONG else (if is_reserved name then Some errno.EINVAL else None))
+    else (if nat_lt MOST_NAME_BYTES (length name) then Some errno.ENAMETOOLONG
+    else (if is_reserved name then Some errno.EINVAL else None))
 
 abbrev pub or_later : Option Errno → Option Errno → Option Errno
 or_later (Some error) later = Some error
@@ -46,4 +47,5 @@ unless_at_fault names (Some error) = Err error
 
 -- the names of a path in path order, none for `/`
 abbrev pub path_of : List ℕ → Result (List (List ℕ)) Errno
-path_of text = if is_absolute text then unless_at_fault (pieces_of text) (first_fault 0 (pieces_of text)) else Err errno.EINVAL
+path_of text =
+    if is_absolute text then unless_at_fault (pieces_of text) (first_fault 0 (pieces_of text)) else Err errno.EINVAL

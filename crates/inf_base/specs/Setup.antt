@@ -17,7 +17,8 @@ is_digit byte = nat_le 48 byte && nat_le byte 57
 -- 1 to 16 of `a` to `z` and `0` to `9`, the first of them a letter
 abbrev pub is_client_name : List ℕ → Bool
 is_client_name [] = false
-is_client_name (first ∷ others) = is_letter first && list_all (λ byte. is_letter byte || is_digit byte) others && nat_lt (length others) 16
+is_client_name (first ∷ others) =
+    is_letter first && list_all (λ byte. is_letter byte || is_digit byte) others && nat_lt (length others) 16
 
 -- what parts the words of a line, and ends it: space, tab and newline
 abbrev pub ends_word : ℕ → Bool
