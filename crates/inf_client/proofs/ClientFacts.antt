@@ -4,6 +4,7 @@ use Rattle.std.proofs.lemmas.List.{drop-drop, length-drop, length-map}
 use Rattle.std.proofs.lemmas.Option.{slice_get_within}
 use Rattle.inf_base.specs.declared.id.Id.{Id}
 use Rattle.inf_base.specs.declared.call.Call.{Call}
+use Rattle.inf_client.specs.AskLog.{AskLog, asked_first, asked_log}
 use Rattle.inf_client.specs.Client.{Client, AsksNext, IsAtRest, Rests, Steps, client_with, asks_left, group_asks, ready_in}
 use Rattle.inf_client.specs.Group.{IsKept, IsReadied, posted_of}
 use Rattle.inf_client.specs.Planned.{planned, planned_from}
@@ -18,7 +19,6 @@ use Rattle.inf_flow_dir.specs.Group.{composed, group, next_course}
 use Rattle.inf_message.specs.declared.ask.Ask.{Ask}
 use Rattle.inf_message.specs.declared.step.Message.{Message}
 use Rattle.inf_message.specs.History.{Posted, posted_ask}
-use Rattle.inf_trips.specs.AskLog.{AskLog, asked_first, asked_log}
 
 planned_between : (digest : List ℕ → Id) (sent : List Sent) (s : ClientState) → sent ≡ [] → planned_from digest sent s ≡ composed digest s
 planned_between digest [] s between = refl

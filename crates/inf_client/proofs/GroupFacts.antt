@@ -5,6 +5,7 @@ use Rattle.inf_base.specs.declared.id.Id.{Id}
 use Rattle.inf_base.specs.declared.answer.Answer.TheVariants as answer
 use Rattle.inf_base.specs.declared.call.Call.{Call}
 use Rattle.inf_base.specs.declared.key.LookKey.{LookKey}
+use Rattle.inf_client.specs.AskLog.{AskLog, with_ready, with_room}
 use Rattle.inf_client.specs.Client.{group_asks}
 use Rattle.inf_client.specs.Group.{IsFound, IsPassed, IsReadied, posted_of, with_asks}
 use Rattle.inf_client.specs.Room.{room_between, room_within}
@@ -19,7 +20,6 @@ use Rattle.inf_message.specs.declared.ask.Ask.{Ask}
 use Rattle.inf_message.specs.declared.request.Request.{Request}
 use Rattle.inf_message.specs.declared.step.Message.{Message}
 use Rattle.inf_message.specs.History.{posted_ask}
-use Rattle.inf_trips.specs.AskLog.{AskLog, with_ready, with_room}
 
 -- ---- what is kept
 

@@ -1,5 +1,10 @@
+pub mod Places
+pub mod Merging
+pub mod Telling
+pub mod LogFacts
 pub mod ClientFacts
 pub mod GroupFacts
+pub mod LogTestFacts
 pub mod TestFacts
 pub mod ToldFacts
 pub mod TurnRoom

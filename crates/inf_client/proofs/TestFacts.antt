@@ -4,7 +4,9 @@ use Rattle.inf_base.specs.declared.id.Id.{Id}
 use Rattle.inf_base.specs.declared.answer.Answer.TheVariants as answer
 use Rattle.inf_base.specs.declared.call.Call.{Call}
 use Rattle.inf_base.specs.declared.setup.ClientLine.{ClientLine}
+use Rattle.inf_client.specs.AskLog.{AskLog, IsLater, asked_log, no_asks}
 use Rattle.inf_client.specs.Client.{Client, AsksNext, client_with}
+use Rattle.inf_client.proofs.LogTestFacts.{made_later, none_later}
 use Rattle.inf_duty.specs.Duty.{at_call, begun, found_at, given_up, given_up_in, is_acting, lifts}
 use Rattle.inf_duty.specs.Start.{start, starting}
 use Rattle.inf_duty.specs.World.{World}
@@ -14,8 +16,6 @@ use Rattle.inf_flow_dir.specs.Group.{composed, course_of}
 use Rattle.inf_message.specs.declared.ask.Ask.{Ask}
 use Rattle.inf_message.specs.declared.request.Request.{Request}
 use Rattle.inf_message.specs.declared.step.Message.{Message}
-use Rattle.inf_trips.specs.AskLog.{AskLog, IsLater, asked_log, no_asks}
-use Rattle.inf_trips.proofs.TestFacts.{made_later, none_later}
 
 few_in : (world : World) (client : ℕ) (line : Option ClientLine) → (starting world client line).counts.messages ≡ 0
 few_in world client None = refl

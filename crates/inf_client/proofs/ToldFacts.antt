@@ -4,6 +4,7 @@ use Rattle.std.proofs.lemmas.Bool.{eqb-true}
 use Rattle.std.proofs.lemmas.List.{drop_all, length-map}
 use Rattle.std.specs.List.{cons_option, list_all, list_any}
 use Rattle.inf_base.specs.declared.id.Id.{Id}
+use Rattle.inf_client.specs.AskLog.{AskLog, told_log, waiting_asks, waits_at}
 use Rattle.inf_client.specs.Client.{IsAtRest, asks_left, group_asks, ready_in}
 use Rattle.inf_client.specs.Group.{IsKept, not_handed}
 use Rattle.inf_client.specs.Room.{room_in, room_needed, room_within}
@@ -14,7 +15,6 @@ use Rattle.inf_flow_dir.specs.Group.{group}
 use Rattle.inf_flow_dir.specs.Turn.{after_record, is_complete, recorded, served, settled, turn_at, turned}
 use Rattle.inf_message.specs.declared.ask.Ask.{Ask}
 use Rattle.inf_message.specs.History.{Made, Own, Posted, Told, own_ask, served_at, unless_told}
-use Rattle.inf_trips.specs.AskLog.{AskLog, told_log, waiting_asks, waits_at}
 
 -- ---- the log
 

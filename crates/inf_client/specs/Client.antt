@@ -13,8 +13,8 @@ use Rattle.inf_message.specs.declared.request.Request.{Request}
 use Rattle.inf_message.specs.declared.step.Message.{Message}
 use Rattle.inf_message.specs.declared.trip.Trip.{Trip}
 use Rattle.inf_message.specs.History.{Posted, posted_ask}
+use Rattle.inf_client.specs.AskLog.{AskLog, trips_in}
 use Rattle.inf_client.specs.Planned.{planned}
-use Rattle.inf_trips.specs.AskLog.{AskLog, trips_in}
 
 -- a client by its state, whether it gave up all that it had left, its own Asks, and whether it was told to make an ask that
 -- has no place yet

@@ -1,6 +1,7 @@
 -- The asks of a group as code has them, and what is kept true of a client.
 use Rattle.std.specs.Prelude.{◌≡◌, ℕ, ◌≤◌, ◌<◌, Bool, true, false, List, [], ◌∷◌, length, map, drop}
 use Rattle.inf_base.specs.declared.id.Id.{Id}
+use Rattle.inf_client.specs.AskLog.{AskLog, with_ready}
 use Rattle.inf_client.specs.Client.{IsAtRest, IsInStep, group_asks}
 use Rattle.inf_client.specs.Room.{room_needed, room_within}
 use Rattle.inf_duty.specs.Duty.{asks, found_at, given_up, next_step}
@@ -8,7 +9,6 @@ use Rattle.inf_duty.specs.Outcome.{may_give_up}
 use Rattle.inf_flow_dir.specs.Client.{ClientState, call_ref}
 use Rattle.inf_message.specs.declared.ask.Ask.{Ask}
 use Rattle.inf_message.specs.History.{Posted, posted_ask}
-use Rattle.inf_trips.specs.AskLog.{AskLog, with_ready}
 
 abbrev pub posted_of : ℕ × Ask → Posted
 posted_of post = posted_ask post.0 post.1

@@ -1,3 +1,4 @@
+pub mod AskLog
 pub mod Client
 pub mod Group
 pub mod Planned

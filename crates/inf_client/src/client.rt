@@ -3,6 +3,7 @@
 ghost use Rattle.std.specs.Prelude.{◌≡◌, ◌+◌, ◌<◌, ◌≤◌, ◌^◌, true, false, length, IfOk};
 ghost use Rattle.inf_base.specs.declared.limits.TheConstants.{MOST_CALLS};
 ghost use Rattle.inf_base.specs.Setup.{call_count};
+ghost use Rattle.inf_client.specs.AskLog.{IsLater, asked_log, no_asks, told_log};
 ghost use Rattle.inf_client.specs.Client.{Steps, client_with, trips_of_client};
 ghost use Rattle.inf_duty.specs.Outcome.{results_of};
 ghost use Rattle.inf_duty.specs.Start.{start};
@@ -11,14 +12,13 @@ ghost use Rattle.inf_flow_dir.specs.Client.{placed};
 ghost use Rattle.inf_flow_dir.specs.Heard.{heard};
 ghost use Rattle.inf_flow_dir.specs.Turn.{served};
 ghost use Rattle.inf_message.specs.History.{told_reply};
-ghost use Rattle.inf_trips.specs.AskLog.{IsLater, asked_log, no_asks, told_log};
 
+use crate::ask_log::AskLog;
 use crate::group::{Group, next_group};
 use inf_base::{NoMemory, Place, Setup};
 use inf_birth::IdRule;
 use inf_duty::{ClientState, ClientStep};
 use inf_message::{Ask, CallResult, Reply, Trip};
-use inf_trips::AskLog;
 use std::alloc::Global;
 use std::collections::VecDeque;
 use std::marker::Model;

@@ -9,11 +9,11 @@ ghost use Rattle.inf_duty.specs.Messages.{is_winding};
 ghost use Rattle.inf_duty.specs.Outcome.{all_given_up};
 ghost use Rattle.inf_flow_dir.specs.Group.{composed, next_course};
 
+use crate::ask_log::AskLog;
 use inf_base::NoMemory;
 use inf_birth::IdRule;
 use inf_duty::ClientState;
 use inf_message::Ask;
-use inf_trips::AskLog;
 use std::alloc::Global;
 use std::collections::VecDeque;
 

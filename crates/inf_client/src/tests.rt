@@ -3,7 +3,7 @@
 ghost use Rattle.std.specs.Prelude.{◌≡◌, ◌+◌, ◌<◌, ◌≤◌, false, IfOk};
 ghost use Rattle.inf_base.specs.declared.limits.TheConstants.{MOST_CALLS};
 ghost use Rattle.inf_base.specs.Setup.{call_count};
-ghost use Rattle.inf_trips.specs.AskLog.{IsLater};
+ghost use Rattle.inf_client.specs.AskLog.{IsLater};
 
 use super::*;
 use inf_base::{Call, Caller, Calls, ClientLine, Clients, Name, NoMemory, Place, Setup, Text};

@@ -12,8 +12,8 @@ use Rattle.inf_duty.specs.Outcome.{results_of}
 use Rattle.inf_duty.specs.World.{World}
 use Rattle.inf_laws_history.proofs.ByIndex.{got_before, got_pushed}
 use Rattle.inf_message.specs.declared.event.Event.{Event}
+use Rattle.inf_client.specs.AskLog.{no_asks}
 use Rattle.inf_client.specs.Client.{Client, client_with}
-use Rattle.inf_trips.specs.AskLog.{no_asks}
 use Rattle.inf_sched.specs.Order.{came_to, results_from}
 use Rattle.inf_sched.specs.Run.{AreClients, AreEmpty, AreOpening, AreQueues, IsClient, IsKept, IsStateOf, gone_of, results_of_client, unset}
 use Rattle.inf_sched.specs.Scene.{has_ended, is_gone, number_in, calls_left, opening}

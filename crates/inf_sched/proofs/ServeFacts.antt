@@ -17,8 +17,8 @@ use Rattle.inf_message.specs.declared.event.Event.{Event}
 use Rattle.inf_message.specs.declared.event.Event.TheVariants as event
 use Rattle.inf_message.specs.declared.reply.Reply.{Reply}
 use Rattle.inf_message.specs.History.{Posted, asked_at, posted_ask, told_reply}
+use Rattle.inf_client.specs.AskLog.{told_log}
 use Rattle.inf_client.specs.Client.{Client, client_with}
-use Rattle.inf_trips.specs.AskLog.{told_log}
 use Rattle.inf_sched.specs.Run.{HasServed, IsClient, IsGivenUp, IsStateOf}
 use Rattle.inf_sched.specs.Waiting.{IsWaiting, Posting}
 

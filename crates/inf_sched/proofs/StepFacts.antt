@@ -22,8 +22,8 @@ use Rattle.inf_message.specs.History.{Own, Posted, asks_of, made_ask, own_ask, p
 use Rattle.inf_message.specs.Shown.{IsOwn}
 use Rattle.inf_message.proofs.ClientLaws.{asks_are_own}
 use Rattle.inf_message.proofs.HistoryLaws.{asked_within}
+use Rattle.inf_client.specs.AskLog.{AskLog, IsLater, asked_first, asked_log}
 use Rattle.inf_client.specs.Client.{Client, AsksNext, Rests, Steps, client_with, wants_to_ask}
-use Rattle.inf_trips.specs.AskLog.{AskLog, IsLater, asked_first, asked_log}
 use Rattle.inf_sched.specs.Run.{Asked, Did, IsClient, IsGivenUp, IsStateOf, asks_shown, rested}
 use Rattle.inf_sched.specs.Waiting.{posting}
 

@@ -12,8 +12,8 @@ use Rattle.inf_message.specs.declared.call_result.CallResult.{CallResult}
 use Rattle.inf_message.specs.declared.event.Event.{Event}
 use Rattle.inf_message.specs.declared.event.Event.TheVariants as event
 use Rattle.inf_message.specs.History.{Own, asks_of, made_ask, own_ask, served_at, told_reply}
+use Rattle.inf_client.specs.AskLog.{no_asks}
 use Rattle.inf_client.specs.Client.{Client, client_with, wants_to_ask}
-use Rattle.inf_trips.specs.AskLog.{no_asks}
 use Rattle.inf_sched.specs.declared.stepping.Stepped.{Stepped}
 use Rattle.inf_sched.specs.declared.stepping.Stepped.TheVariants as stepped
 use Rattle.inf_message.specs.declared.reply.Reply.{Reply}

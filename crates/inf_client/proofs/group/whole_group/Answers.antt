@@ -1,4 +1,5 @@
 use Rattle.std.proofs.Common.{◌≡◌, ◌+◌, length, sym, ap, subst, ◌∙◌, rules}
+use Rattle.inf_client.specs.AskLog.{with_room}
 use Rattle.inf_client.specs.Group.{IsFound, with_asks}
 use Rattle.inf_client.proofs.GroupFacts.{composed_found, composed_goes, whole_readied}
 use Rattle.inf_duty.specs.ClientStep.{is_ask}
@@ -6,7 +7,6 @@ use Rattle.inf_duty.specs.Duty.{next_step}
 use Rattle.inf_duty.specs.Messages.{is_winding}
 use Rattle.inf_flow_dir.specs.Client.{ClientState}
 use Rattle.inf_flow_dir.specs.Group.{composed}
-use Rattle.inf_trips.specs.AskLog.{with_room}
 use Rattle.inf_client.proofs.group.whole_group.Goals as goal
 
 pub returns-clause-readied : goal.returns-clause-readied

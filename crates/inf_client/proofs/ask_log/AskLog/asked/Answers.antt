@@ -1,6 +1,6 @@
 use Rattle.std.proofs.Common.{arith, rules}
-use Rattle.inf_trips.proofs.LogFacts.{asked_rise, asked_shown}
-use Rattle.inf_trips.proofs.ask_log.AskLog.asked.Goals as goal
+use Rattle.inf_client.proofs.LogFacts.{asked_rise, asked_shown}
+use Rattle.inf_client.proofs.ask_log.AskLog.asked.Goals as goal
 
 pub invariant_of-self : goal.invariant_of-self
 invariant_of-self c = record {

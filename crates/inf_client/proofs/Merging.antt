@@ -4,8 +4,8 @@ use Rattle.std.specs.List.{cons_option, filter_map, list_any}
 use Rattle.std.proofs.lemmas.Bool.{cases_lt, cond-false, cond-true, le-ltb, lt-ltb}
 use Rattle.inf_message.specs.declared.trip.Trip.{Trip}
 use Rattle.inf_message.specs.History.{Made, Own, Told, own_ask, trip_of, unless_told}
-use Rattle.inf_trips.specs.AskLog.{is_at, merged, own_of_trip, waiting_asks, waits_at, with_own}
-use Rattle.inf_trips.proofs.Places.{EachPlace, each_with}
+use Rattle.inf_client.specs.AskLog.{is_at, merged, own_of_trip, waiting_asks, waits_at, with_own}
+use Rattle.inf_client.proofs.Places.{EachPlace, each_with}
 
 -- ---- where an Ask is put
 

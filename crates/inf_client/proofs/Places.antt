@@ -8,7 +8,7 @@ use Rattle.std.proofs.lemmas.List.Quantifiers.{all_pairs_push}
 use Rattle.std.specs.List.{AllByRecursion, AllWithin}
 use Rattle.inf_message.specs.declared.trip.Trip.{Trip}
 use Rattle.inf_message.specs.History.{Made, Own, own_ask}
-use Rattle.inf_trips.specs.AskLog.{IsLater, Rise, merged, own_of_trip, places_of, trip_places, with_own}
+use Rattle.inf_client.specs.AskLog.{IsLater, Rise, merged, own_of_trip, places_of, trip_places, with_own}
 
 -- a fact of the place of each Ask
 abbrev pub EachPlace : (ℕ → Type 0) → List Own → Type 0

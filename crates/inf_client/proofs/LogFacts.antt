@@ -5,10 +5,10 @@ use Rattle.std.proofs.lemmas.Bool.{cond-true, eqb-true, lt-ltb}
 use Rattle.std.proofs.lemmas.List.Quantifiers.{position-Some}
 use Rattle.inf_message.specs.declared.trip.Trip.{Trip}
 use Rattle.inf_message.specs.History.{Made, Posted, Told, own_ask, served_at}
-use Rattle.inf_trips.specs.AskLog.{AskLog, IsLater, Rise, asked_first, asked_log, is_at, made_at, merged, places_of, told_log, trip_places, trip_told, trips_in, waits_at}
-use Rattle.inf_trips.proofs.Places.{each_before, rise_asked, trips_rise}
-use Rattle.inf_trips.proofs.Merging.{asked_merged, trips_merged, waits_merged}
-use Rattle.inf_trips.proofs.Telling.{inserted, places_told, told_merged}
+use Rattle.inf_client.specs.AskLog.{AskLog, IsLater, Rise, asked_first, asked_log, is_at, made_at, merged, places_of, told_log, trip_places, trip_told, trips_in, waits_at}
+use Rattle.inf_client.proofs.Places.{each_before, rise_asked, trips_rise}
+use Rattle.inf_client.proofs.Merging.{asked_merged, trips_merged, waits_merged}
+use Rattle.inf_client.proofs.Telling.{inserted, places_told, told_merged}
 
 -- what passes somewhere has a first place
 first_within : (test : Made → Bool) (made : List Made) → list_any test made ≡ true → position_or_len test made < length made

@@ -1,10 +1,10 @@
 use Rattle.std.proofs.Common.{List, ap, sym, position, subst, ◌∙◌, arith, rules}
 use Rattle.inf_message.specs.declared.trip.Trip.{Trip}
 use Rattle.inf_message.specs.History.{told_reply}
-use Rattle.inf_trips.specs.AskLog.{Rise, is_at, trip_places}
-use Rattle.inf_trips.proofs.LogFacts.{told_rise, told_shown, waits_somewhere}
-use Rattle.inf_trips.proofs.Places.{trips_rise}
-use Rattle.inf_trips.proofs.ask_log.AskLog.told.Goals as goal
+use Rattle.inf_client.specs.AskLog.{Rise, is_at, trip_places}
+use Rattle.inf_client.proofs.LogFacts.{told_rise, told_shown, waits_somewhere}
+use Rattle.inf_client.proofs.Places.{trips_rise}
+use Rattle.inf_client.proofs.ask_log.AskLog.told.Goals as goal
 
 pub unreachable-requires : goal.unreachable-requires
 unreachable-requires c =

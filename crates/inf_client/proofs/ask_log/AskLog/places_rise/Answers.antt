@@ -1,5 +1,5 @@
-use Rattle.inf_trips.proofs.LogFacts.{trips_shown_rise}
-use Rattle.inf_trips.proofs.ask_log.AskLog.places_rise.Goals as goal
+use Rattle.inf_client.proofs.LogFacts.{trips_shown_rise}
+use Rattle.inf_client.proofs.ask_log.AskLog.places_rise.Goals as goal
 
 pub returns-clause-trips : goal.returns-clause-trips
 returns-clause-trips c =

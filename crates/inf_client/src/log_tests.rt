@@ -1,9 +1,9 @@
 //! Groups of Asks, which are answered in another order than they were made.
 
 ghost use Rattle.std.specs.Prelude.{◌≡◌, ◌+◌, ◌<◌, length};
-ghost use Rattle.inf_trips.specs.AskLog.{IsLater};
+ghost use Rattle.inf_client.specs.AskLog.{IsLater};
 
-use super::*;
+use crate::ask_log::AskLog;
 use inf_base::{CallRef, Caller, DirRef, Id, NoMemory, Place};
 use inf_message::{Ask, Reply, Request, Trip};
 use std::alloc::Global;
@@ -35,7 +35,7 @@ fn keep(log: &mut AskLog, number: u32)
     log.keep(number, ask(number));
 }
 
-#[tactic(auto, using(crate::proofs::TestFacts::made_later, crate::proofs::TestFacts::made_one))]
+#[tactic(auto, using(crate::proofs::LogTestFacts::made_later, crate::proofs::LogTestFacts::made_one))]
 fn make(log: &mut AskLog, place: Place)
     requires ready { 0 < length log.old.ready }
     requires later { IsLater place log.old.asks }
@@ -72,7 +72,7 @@ fn are_trips(trips: &[Trip], wanted: &[(u32, Place, Place)]) -> bool {
 }
 
 /// The log of asks to the servers 5, 6 and 7, which stand at 1, 2 and 3.
-#[tactic(auto, using(crate::proofs::TestFacts::none_later))]
+#[tactic(auto, using(crate::proofs::LogTestFacts::none_later))]
 fn three_asked(alloc: Global) -> Result<AskLog, NoMemory> {
     let mut log = AskLog::with_capacity(alloc, 2)?;
     log.reserve(3)?;

@@ -1,7 +1,7 @@
 use Rattle.std.proofs.Common.{◌<◌, ◌≤◌, length}
 use Rattle.std.specs.List.{AllWithin}
 use Rattle.inf_message.specs.declared.trip.Trip.{Trip}
-use Rattle.inf_trips.proofs.ask_log.index_for.Given as goal
+use Rattle.inf_client.proofs.ask_log.index_for.Given as goal
 
 abbrev pub invariant-loop-index : goal.invariant-loop-index
 invariant-loop-index l =

@@ -3,7 +3,7 @@
 ghost use Rattle.std.specs.Prelude.{◌≡◌, ◌==◌, position};
 ghost use Rattle.std.specs.List.{list_any};
 ghost use Rattle.inf_message.specs.History.{told_reply};
-ghost use Rattle.inf_trips.specs.AskLog.{is_at, made_at, trip_told};
+ghost use Rattle.inf_client.specs.AskLog.{is_at, made_at, trip_told};
 
 use crate::ready::Ready;
 use inf_base::Place;

@@ -2,7 +2,7 @@
 use Rattle.std.proofs.Common.{◌≡◌, ℕ, ◌+◌, ◌<◌, List, [], ◌∷◌, length, subst, sym, arith}
 use Rattle.std.proofs.lemmas.List.Elements.{All-nil, All-push, All-weaker}
 use Rattle.inf_message.specs.History.{Own, Posted}
-use Rattle.inf_trips.specs.AskLog.{AskLog, IsLater, asked_first, asked_log}
+use Rattle.inf_client.specs.AskLog.{AskLog, IsLater, asked_first, asked_log}
 
 pub none_later : (place : ℕ) (asks : List Own) → asks ≡ [] → IsLater place asks
 none_later place asks none = subst (IsLater place) (sym none) (All-nil (λ (own : Own). own.made.ask_place < place))

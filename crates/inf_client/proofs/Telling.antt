@@ -4,9 +4,9 @@ use Rattle.std.specs.List.{AllWithin}
 use Rattle.std.proofs.lemmas.Bool.{cond-false, cond-true, ne_eqb}
 use Rattle.inf_message.specs.declared.trip.Trip.{Trip}
 use Rattle.inf_message.specs.History.{Made, Own, Told, or_told, own_ask, served_at}
-use Rattle.inf_trips.specs.AskLog.{Rise, is_at, merged, own_of_trip, places_of, trip_told, with_own}
-use Rattle.inf_trips.proofs.Places.{EachPlace, apart, each_with, rise_without}
-use Rattle.inf_trips.proofs.Merging.{here, past, swap}
+use Rattle.inf_client.specs.AskLog.{Rise, is_at, merged, own_of_trip, places_of, trip_told, with_own}
+use Rattle.inf_client.proofs.Places.{EachPlace, apart, each_with, rise_without}
+use Rattle.inf_client.proofs.Merging.{here, past, swap}
 
 -- ---- a trip put where its place says
 

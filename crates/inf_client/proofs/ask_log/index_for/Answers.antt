@@ -1,6 +1,6 @@
 use Rattle.std.proofs.Common.{arith, rules}
-use Rattle.inf_trips.proofs.Places.{earlier_too}
-use Rattle.inf_trips.proofs.ask_log.index_for.Goals as goal
+use Rattle.inf_client.proofs.Places.{earlier_too}
+use Rattle.inf_client.proofs.ask_log.index_for.Goals as goal
 
 pub returns-else-place-trips-clause-earlier : goal.returns-else-place-trips-clause-earlier
 returns-else-place-trips-clause-earlier c =

@@ -3,7 +3,7 @@
 ghost use Rattle.std.specs.Prelude.{◌≡◌, ◌<◌, ◌≤◌, true, length, IfOk, OnOk, OnErr};
 ghost use Rattle.std.specs.List.{AllWithin};
 ghost use Rattle.inf_message.specs.History.{told_reply};
-ghost use Rattle.inf_trips.specs.AskLog.{IsLater, Rise, asked_log, no_asks, places_of, told_log, trip_places, trips_in, waits_at, with_ready, with_room, without_ready};
+ghost use Rattle.inf_client.specs.AskLog.{IsLater, Rise, asked_log, no_asks, places_of, told_log, trip_places, trips_in, waits_at, with_ready, with_room, without_ready};
 
 use crate::ready::Ready;
 use crate::waiting::{Waiting, has_place, index_of};
@@ -15,7 +15,7 @@ use std::marker::Model;
 
 /// The Asks of a client in the order of asking, and those of the group under way that are still to be made.
 #[derive(Drop)]
-pub struct AskLog {
+pub(crate) struct AskLog {
     trips: Vec<Trip>,
     waiting: Vec<Waiting>,
     ready: VecDeque<Ready>,
@@ -25,7 +25,7 @@ pub struct AskLog {
 impl Model for AskLog {
     ghost use Rattle.std.specs.Prelude.{vec_len, vec_capacity};
     ghost use Rattle.std.specs.VecDeque.{deque_len, deque_capacity};
-    ghost use Rattle.inf_trips.specs.AskLog.{AskLog, IsKept, merged};
+    ghost use Rattle.inf_client.specs.AskLog.{AskLog, IsKept, merged};
 
     ghost Value = { AskLog };
 
@@ -38,7 +38,7 @@ impl Model for AskLog {
 
 impl AskLog {
     /// A log in which so many trips find room before it has to grow.
-    pub fn with_capacity(alloc: Global, trips: usize) -> Result<Self, NoMemory>
+    pub(crate) fn with_capacity(alloc: Global, trips: usize) -> Result<Self, NoMemory>
         ensures { IfOk result (λ log. log ≡ no_asks) }
     {
         Ok(AskLog {
@@ -50,14 +50,14 @@ impl AskLog {
     }
 
     /// The Asks that were answered, each with its answer.
-    pub fn trips(&self) -> &[Trip]
+    pub(crate) fn trips(&self) -> &[Trip]
         ensures { result.now ≡ trips_in self.now }
     {
         self.trips.as_slice()
     }
 
     /// What a client knows of the places, without a look: they rise in the order of asking.
-    pub fn places_rise(&self)
+    pub(crate) fn places_rise(&self)
         ensures asks { Rise (places_of self.now.asks) }
         ensures trips { Rise (trip_places (trips_in self.now)) }
     {
@@ -65,7 +65,7 @@ impl AskLog {
     }
 
     /// Takes room for this many asks behind those that are ready, and for their answers. Room for more is let go.
-    pub fn reserve(&mut self, count: usize) -> Result<(), NoMemory>
+    pub(crate) fn reserve(&mut self, count: usize) -> Result<(), NoMemory>
         ensures ok { OnOk result (self.new ≡ with_room count self.old) }
         ensures err { OnErr result (self.new ≡ self.old) }
     {
@@ -78,7 +78,7 @@ impl AskLog {
     }
 
     /// Makes an ask ready, in room that was taken.
-    pub fn keep(&mut self, number: u32, ask: Ask)
+    pub(crate) fn keep(&mut self, number: u32, ask: Ask)
         requires room { 0 < self.old.room }
         ensures { self.new ≡ with_ready number ask self.old }
     {
@@ -87,14 +87,14 @@ impl AskLog {
     }
 
     /// Nothing is to be asked next.
-    pub fn forget(&mut self)
+    pub(crate) fn forget(&mut self)
         ensures { self.new ≡ without_ready self.old }
     {
         self.ready.clear();
     }
 
     /// The first ask that was to be made was made, and stands at this place.
-    pub fn asked(&mut self, place: Place)
+    pub(crate) fn asked(&mut self, place: Place)
         requires ready { 0 < length self.old.ready }
         requires later { IsLater place self.old.asks }
         ensures { self.new ≡ asked_log place self.old }
@@ -106,14 +106,14 @@ impl AskLog {
     }
 
     /// Whether the Ask at this place waits.
-    pub fn waits_at(&self, place: Place) -> bool
+    pub(crate) fn waits_at(&self, place: Place) -> bool
         ensures { result ≡ waits_at place self.now.asks }
     {
         has_place(self.waiting.as_slice(), place)
     }
 
     /// The Ask at this place, which waits, was answered.
-    pub fn told(&mut self, ask_place: Place, serve_place: Place, reply: Reply)
+    pub(crate) fn told(&mut self, ask_place: Place, serve_place: Place, reply: Reply)
         requires waits { waits_at ask_place self.old.asks ≡ true }
         ensures { self.new ≡ told_log ask_place (told_reply serve_place reply) self.old }
     {

@@ -1,8 +1,8 @@
 use Rattle.std.proofs.Common.{ap, ◌∙◌}
 use Rattle.std.specs.List.{list_any}
-use Rattle.inf_trips.specs.AskLog.{is_at}
-use Rattle.inf_trips.proofs.LogFacts.{waits_shown}
-use Rattle.inf_trips.proofs.ask_log.AskLog.waits_at.Goals as goal
+use Rattle.inf_client.specs.AskLog.{is_at}
+use Rattle.inf_client.proofs.LogFacts.{waits_shown}
+use Rattle.inf_client.proofs.ask_log.AskLog.waits_at.Goals as goal
 
 pub returns : goal.returns
 returns c =

@@ -1,5 +1,0 @@
-pub mod Places
-pub mod Merging
-pub mod Telling
-pub mod LogFacts
-pub mod TestFacts
