@@ -31,7 +31,8 @@ made_at place posted = made_ask posted.number posted.ask place
 
 abbrev pub asked_first : ℕ → AskLog → List Posted → AskLog
 asked_first place log [] = log
-asked_first place log (posted ∷ ready) = record log { asks = log.asks ++ own_ask (made_at place posted) None ∷ []; ready = ready }
+asked_first place log (posted ∷ ready) =
+    record log { asks = log.asks ++ own_ask (made_at place posted) None ∷ []; ready = ready }
 
 -- the first of the asks that were to be made was made, and stands at this place
 abbrev pub asked_log : ℕ → AskLog → AskLog
@@ -74,7 +75,8 @@ IsLater place asks = All (λ (own : Own). own.made.ask_place < place) asks
 -- ---- what is kept of it in code
 
 abbrev pub own_of_trip : Trip → Own
-own_of_trip trip = own_ask (made_ask trip.number trip.ask trip.ask_place) (Some (told_reply trip.serve_place trip.reply))
+own_of_trip trip =
+    own_ask (made_ask trip.number trip.ask trip.ask_place) (Some (told_reply trip.serve_place trip.reply))
 
 -- an Ask put before the first that stands at a later place
 abbrev pub with_own : Own → List Own → List Own
@@ -96,9 +98,10 @@ trip_told made told = record {
   reply = told.reply;
 }
 
--- places rise in the order of asking, and each ask that is ready or that room was taken for finds room: among those that
--- are ready, then among those that wait, and then, as each that waits, for its answer
-pub record IsKept (trips : List Trip) (waiting : List Made) (answered asked ready room most_answered most_asked most_ready : ℕ) : Type 0 where
+-- places rise in the order of asking, and each ask that is ready or that room was taken for finds room: among those
+-- that are ready, then among those that wait, and then, as each that waits, for its answer
+pub record IsKept (trips : List Trip) (waiting : List Made) (answered asked ready room : ℕ)
+    (most_answered most_asked most_ready : ℕ) : Type 0 where
   pub places : Rise (places_of (merged trips waiting))
   pub answers : answered + (asked + (ready + room)) ≤ most_answered
   pub asks : asked + (ready + room) ≤ most_asked

@@ -16,8 +16,8 @@ use Rattle.inf_message.specs.History.{Posted, posted_ask}
 use Rattle.inf_client.specs.AskLog.{AskLog, trips_in}
 use Rattle.inf_client.specs.Planned.{planned}
 
--- a client by its state, whether it gave up all that it had left, its own Asks, and whether it was told to make an ask that
--- has no place yet
+-- a client by its state, whether it gave up all that it had left, its own Asks, and whether it was told to make an
+-- ask that has no place yet
 pub record Client : Type 0 where
   pub state : ClientState
   pub gone : Bool
@@ -37,7 +37,10 @@ wants_to_ask digest a = not a.gone && is_ask (next_step (planned digest a.state)
 
 -- the asks of the group, each with its server
 abbrev pub group_asks : ClientState → List Posted
-group_asks s = map (λ (m : Message). posted_ask m.number (record { from = call_ref s; caller = s.who.caller; request = m.request })) (group s.who s.stage)
+group_asks s =
+    map
+    (λ (m : Message). posted_ask m.number (record { from = call_ref s; caller = s.who.caller; request = m.request }))
+    (group s.who s.stage)
 
 -- those of them that are still to be made
 abbrev pub asks_left : ClientState → List Posted

@@ -23,7 +23,8 @@ abbrev pub not_handed : Bool → List Posted → List Posted
 not_handed true ready = drop 1 ready
 not_handed false ready = ready
 
-pub record IsKept (s : ClientState) (gone : Bool) (log : AskLog) (handed : Bool) (outbox : List (ℕ × Ask)) : Type 0 where
+pub record IsKept (s : ClientState) (gone : Bool) (log : AskLog) (handed : Bool)
+    (outbox : List (ℕ × Ask)) : Type 0 where
   pub at_rest : IsAtRest s gone
   pub in_step : IsInStep s log handed
   -- a client that was told to ask has not given up
@@ -34,7 +35,8 @@ pub record IsKept (s : ClientState) (gone : Bool) (log : AskLog) (handed : Bool)
   pub room : room_needed handed s ≤ log.room
 
 -- the client is to make this ask, and then the others of its group; they were kept, behind none
-pub record IsReadied (number : ℕ) (ask : Ask) (others : List (ℕ × Ask)) (s : ClientState) (before log : AskLog) : Type 0 where
+pub record IsReadied (number : ℕ) (ask : Ask) (others : List (ℕ × Ask)) (s : ClientState)
+    (before log : AskLog) : Type 0 where
   pub next : next_step s ≡ asks number ask
   pub between : s.sent ≡ []
   pub asks_same : log.asks ≡ before.asks

@@ -1,4 +1,5 @@
--- For how many asks a client has to have room that it may come to make where memory is wanting: those that wind its call up.
+-- For how many asks a client has to have room that it may come to make where memory is wanting:
+-- those that wind its call up.
 use Rattle.std.specs.Prelude.{ℕ, ◌+◌, Bool, false, List, [], length}
 use Rattle.inf_flow_dir.specs.Client.{ClientState, Sent, Stage, act, compose, round, winds}
 use Rattle.inf_flow_dir.specs.Flow.{Who, clean_up}

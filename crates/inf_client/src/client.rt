@@ -129,7 +129,8 @@ impl Client {
     #[tactic(auto, using(crate::proofs::ToldFacts::kept_told))]
     pub fn told<R: IdRule>(&mut self, rule: &R, ask_place: Place, serve_place: Place, reply: Reply)
         ensures { self.new
-            ≡ client_with (served (R.digest_of rule.now) ask_place (told_reply serve_place (heard reply)) self.old.state)
+            ≡ client_with
+            (served (R.digest_of rule.now) ask_place (told_reply serve_place (heard reply)) self.old.state)
             self.old.gone (told_log ask_place (told_reply serve_place reply) self.old.log) self.old.handed }
     {
         self.state.told(rule, ask_place, serve_place, &reply);

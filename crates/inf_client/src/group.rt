@@ -90,8 +90,8 @@ fn whole_group<R: IdRule>(
     })
 }
 
-/// The next group of the call under way; where memory is wanting for it, the clean-up behind the call. None where the call
-/// was given up, and nothing was to be cleaned up.
+/// The next group of the call under way; where memory is wanting for it, the clean-up behind the call. None where the
+/// call was given up, and nothing was to be cleaned up.
 #[tactic(auto, using(crate::proofs::GroupFacts::winding_found, crate::proofs::GroupFacts::given_up_found, crate::proofs::GroupFacts::given_room, crate::proofs::GroupFacts::given_between, crate::proofs::GroupFacts::passed))]
 fn attempt<R: IdRule>(
     alloc: Global,

@@ -15,9 +15,9 @@ use std::test::Fail;
 
 const WHOLE: ShaRule = ShaRule { bytes: 32 };
 
-/// Two servers, and a client that asks about `/a/b/c`: it looks up the root, `a` in it, and `b` in `a`. SHA-256 of the empty
-/// message begins with the bytes e3 b0 c4 42 98 fc 1c 14, an even number, so server 0 keeps the root, and its 8 first bytes
-/// for `a` of version 0 in the root are 41 0e c5 e8 46 67 f2 69, so server 1 is asked about `a`.
+/// Two servers, and a client that asks about `/a/b/c`: it looks up the root, `a` in it, and `b` in `a`. SHA-256 of the
+/// empty message begins with the bytes e3 b0 c4 42 98 fc 1c 14, an even number, so server 0 keeps the root, and its 8
+/// first bytes for `a` of version 0 in the root are 41 0e c5 e8 46 67 f2 69, so server 1 is asked about `a`.
 fn setup(alloc: Global) -> Result<Setup, NoMemory>
     ensures servers { IfOk result (λ setup. setup.servers ≡ 2) }
     ensures calls { IfOk result (λ setup. call_count setup.clients ≤ MOST_CALLS) }
