@@ -1,5 +1,5 @@
 -- What a step of a client does, case by case, and what is kept true of it.
-use Rattle.std.proofs.Common.{◌≡◌, ◌≢◌, ℕ, zero, suc, ◌+◌, ◌-◌, ◌<◌, ◌≤◌, Bool, true, false, List, [], ◌∷◌, ◌++◌, length, map, drop, slice_get, Some, is_some, refl, sym, ap, subst, ◌∙◌, inl, inr, arith, length-append}
+use Rattle.std.proofs.Common.{◌≡◌, ◌≢◌, ℕ, zero, suc, ◌+◌, ◌-◌, ◌<◌, ◌≤◌, Bool, true, false, List, [], ◌∷◌, ◌++◌, length, map, drop, slice_get, Some, refl, sym, ap, subst, ◌∙◌, inl, inr, arith, length-append}
 use Rattle.std.proofs.lemmas.List.{drop-drop, length-drop, length-map}
 use Rattle.std.proofs.lemmas.Option.{slice_get_within}
 use Rattle.inf_base.specs.declared.id.Id.{Id}
@@ -10,12 +10,12 @@ use Rattle.inf_client.specs.Group.{IsKept, IsReadied, posted_of}
 use Rattle.inf_client.specs.Planned.{planned, planned_from}
 use Rattle.inf_client.specs.Room.{room_between, room_in, room_within}
 use Rattle.inf_duty.specs.ClientStep.{IsQuiet, is_ask, next_as}
-use Rattle.inf_duty.specs.Duty.{asks, begun, next_in, next_of, next_step}
-use Rattle.inf_duty.specs.Outcome.{all_given_up, may_give_up}
+use Rattle.inf_duty.specs.Duty.{asks, begun, has_ask, next_in, next_of, next_step}
+use Rattle.inf_duty.specs.Outcome.{all_given_up, may_pass}
 use Rattle.inf_duty.specs.declared.client_step.ClientStep.{ClientStep}
 use Rattle.inf_duty.specs.declared.client_step.ClientStep.TheVariants as step
 use Rattle.inf_flow_dir.specs.Client.{ClientState, Sent, call_ref, placed}
-use Rattle.inf_flow_dir.specs.Group.{composed, group, next_course}
+use Rattle.inf_flow_dir.specs.Group.{composed, group}
 use Rattle.inf_message.specs.declared.ask.Ask.{Ask}
 use Rattle.inf_message.specs.declared.step.Message.{Message}
 use Rattle.inf_message.specs.History.{Posted, posted_ask}
@@ -55,13 +55,13 @@ pub rests_inside : (digest : List ℕ → Id) (state : ClientState) (log : AskLo
 rests_inside digest state log told inside quiet next =
     idle digest state log told quiet (ap next_step (planned_inside digest state.sent state inside) ∙ next)
 
-pub rests_unbuilt : (digest : List ℕ → Id) (state : ClientState) (log : AskLog) (told : ClientStep) → state.sent ≡ [] → IsQuiet told → next_step (composed digest state) ≡ next_as told
+pub rests_askless : (digest : List ℕ → Id) (state : ClientState) (log : AskLog) (told : ClientStep) → state.sent ≡ [] → IsQuiet told → next_step (composed digest state) ≡ next_as told
     → Steps digest (client_with state false log false) told (client_with state false log false)
-rests_unbuilt digest state log told between quiet next =
+rests_askless digest state log told between quiet next =
     idle digest state log told quiet (ap next_step (planned_between digest state.sent state between) ∙ next)
 
 pub rests_given_up : (digest : List ℕ → Id) (state now : ClientState) (log new : AskLog) (told : ClientStep) → state.sent ≡ [] → is_ask (next_step (composed digest state)) ≡ true
-    → may_give_up state ≡ true → now ≡ all_given_up state.left state → now.sent ≡ [] → new ≡ log → IsQuiet told → next_step (composed digest now) ≡ next_as told
+    → may_pass state ≡ true → now ≡ all_given_up state.left state → now.sent ≡ [] → new ≡ log → IsQuiet told → next_step (composed digest now) ≡ next_as told
     → Steps digest (client_with state false log false) told (client_with now true new false)
 rests_given_up digest state now log new told between asking free all stays same quiet next =
     rests digest (client_with state false log false) (client_with now true new false) told
@@ -220,7 +220,7 @@ module _ (s now : ClientState) (number : ℕ) (ask : Ask) (others : List (ℕ ×
   }
 
 pub kept_gone : (s now : ClientState) (log new : AskLog) (outbox : List (ℕ × Ask)) → IsKept s false log false outbox → outbox ≡ [] → s.sent ≡ []
-    → now.sent ≡ [] → is_some (next_course now.left) ≡ false → new ≡ log → room_between now.who now.stage ≤ new.room → IsKept now true new false outbox
+    → now.sent ≡ [] → has_ask now ≡ false → new ≡ log → room_between now.who now.stage ≤ new.room → IsKept now true new false outbox
 kept_gone s now log new outbox kept none before between unbuilt same room =
     let empty : new.ready ≡ [] = ap (λ (l : AskLog). l.ready) same ∙ none_ready s false log outbox kept before in
     record {

@@ -1,5 +1,5 @@
 -- The asks of a group as they are kept and handed out, and how they find the client.
-use Rattle.std.proofs.Common.{◌≡◌, ℕ, ◌+◌, ◌-◌, ◌<◌, ◌≤◌, Bool, true, false, List, [], ◌∷◌, ◌++◌, length, map, slice_get, Option, Some, None, cond, is_some, refl, sym, ap, subst, ◌∙◌, arith}
+use Rattle.std.proofs.Common.{◌≡◌, ℕ, ◌+◌, ◌-◌, ◌<◌, ◌≤◌, Bool, true, false, not, ◌&&◌, List, [], ◌∷◌, ◌++◌, length, map, slice_get, Option, Some, None, cond, refl, sym, ap, subst, ◌∙◌, arith}
 use Rattle.std.proofs.lemmas.List.{append-nil, append_assoc}
 use Rattle.inf_base.specs.declared.id.Id.{Id}
 use Rattle.inf_base.specs.declared.answer.Answer.TheVariants as answer
@@ -10,9 +10,9 @@ use Rattle.inf_client.specs.Client.{group_asks}
 use Rattle.inf_client.specs.Group.{IsFound, IsPassed, IsReadied, posted_of, with_asks}
 use Rattle.inf_client.specs.Room.{room_between, room_within}
 use Rattle.inf_duty.specs.ClientStep.{is_ask}
-use Rattle.inf_duty.specs.Duty.{Next, asks, found_at, given_up, given_up_in, is_acting, is_over, lifts, next_in, next_of, next_step, waits}
-use Rattle.inf_duty.specs.Messages.{is_winding, post_of}
-use Rattle.inf_duty.specs.Outcome.{are_none, is_free}
+use Rattle.inf_duty.specs.Duty.{Next, asks, found_at, given_up, given_up_in, has_ask, is_over, lifts, may_give_up, next_in, next_of, next_step, waits}
+use Rattle.inf_duty.specs.Messages.{are_none, is_winding, post_of}
+use Rattle.inf_duty.specs.Outcome.{is_free}
 use Rattle.inf_flow_dir.specs.Client.{ClientState, Stage, act, answers, call_ref, compose, round, winds, wound}
 use Rattle.inf_flow_dir.specs.Flow.{Flow, Who, clean_up, finishes, links, makes, message_of, reserves, seals, unlinks}
 use Rattle.inf_flow_dir.specs.Group.{Course, composed, composed_stage, group, keys_of, lookup_of, next_course}
@@ -175,11 +175,12 @@ same_winding : (digest : List ℕ → Id) (s : ClientState) (stage : Stage) (ask
 same_winding digest s compose asked at winding = absurd (cc)
 same_winding digest s (round keys) asked at winding = absurd (cc)
 same_winding digest s (act flow) asked at winding = absurd (cc)
-same_winding digest s (winds ending m ms) asked at winding = by (lifts asked)
+same_winding digest s (winds ending m ms) asked at winding = by (lifts asked) (may_give_up s)
   where
-    by : (b : Bool) → s ≡ cond b (cond (is_acting s.stage) (given_up s) s) (composed digest s)
-    by true = rw at refl
-    by false = ap (λ stage. record s { stage = stage }) (rw at refl)
+    by : (b c : Bool) → s ≡ cond b (cond c (given_up s) s) (composed digest s)
+    by true true = rw at refl
+    by true false = refl
+    by false c = ap (λ stage. record s { stage = stage }) (rw at refl)
 
 pub winding_found : (digest : List ℕ → Id) (s : ClientState) (number : ℕ) (ask : Ask) → is_winding s.stage ≡ true → next_step s ≡ asks number ask → IsFound digest ask s s
 winding_found digest s number ask winding next = record {
@@ -235,7 +236,7 @@ composed_found digest s number ask going between next =
     ap lifts (request_is (composed digest s) number ask sent) ∙ going_lifts s.who (composed digest s).stage sent.message (composed_goes digest s going) at in
     record {
       here = from_is (composed digest s) number ask next;
-      state = sym (ap (λ b. cond b (cond (is_acting s.stage) (given_up s) s) (composed digest s)) other);
+      state = sym (ap (λ b. cond b (cond (may_give_up s) (given_up s) s) (composed digest s)) other);
     }
 
 -- ---- giving a call up
@@ -292,7 +293,6 @@ given_between s going = given_between_in s s.stage going
 pub record WindsUp (s : ClientState) (asked : Request) : Type 0 where
   pub here : call_ref (given_up s) ≡ call_ref s
   pub lifted : lifts asked ≡ true
-  pub acting : is_acting s.stage ≡ true
 
 abbrev first_lifts : List Message → Bool
 first_lifts [] = true
@@ -323,7 +323,6 @@ winds_in s (act flow) message at going winding there = by (clean_up s.who flow) 
         record {
           here = ap call_ref (ap (given_up_in s) at ∙ ap (λ messages. wound (answers answer.NoMemory None) messages s) is);
           lifted = ap (λ (x : Message). lifts x.request) (sym same) ∙ cleans s.who flow m ms is;
-          acting = ap is_acting at;
         }
 winds_in s (winds ending m ms) message at going winding there = absurd (cc)
 
@@ -337,10 +336,19 @@ who_in s (act flow) = by (clean_up s.who flow)
     by (m ∷ ms) = refl
 who_in s (winds ending m ms) = refl
 
+may_so : (s : ClientState) → has_ask s ≡ true → is_winding s.stage ≡ false → may_give_up s ≡ true
+may_so s some going = by (has_ask s) (is_winding s.stage) some going
+  where
+    by : (b c : Bool) → b ≡ true → c ≡ false → (b && not c) ≡ true
+    by true false some going = refl
+    by true true some going = absurd (cc)
+    by false c some going = absurd (cc)
+
 -- the clean-up of a call that is given up finds it
-pub given_up_found : (digest : List ℕ → Id) (s : ClientState) (number : ℕ) (ask : Ask) → is_winding s.stage ≡ false → is_winding (given_up s).stage ≡ true
+pub given_up_found : (digest : List ℕ → Id) (s : ClientState) (number : ℕ) (ask : Ask) → has_ask s ≡ true
+    → is_winding s.stage ≡ false → is_winding (given_up s).stage ≡ true
     → next_step (given_up s) ≡ asks number ask → IsFound digest ask s (given_up s)
-given_up_found digest s number ask going winding next =
+given_up_found digest s number ask some going winding next =
     let sent = sends (given_up s) number ask next in
     let at : slice_get (group s.who (given_up s).stage) 0 ≡ Some sent.message =
     ap (λ (who : Who). slice_get (group who (given_up s).stage) 0) (sym (who_in s s.stage))
@@ -349,7 +357,7 @@ given_up_found digest s number ask going winding next =
     let lifted : lifts ask.request ≡ true = ap lifts (request_is (given_up s) number ask sent) ∙ up.lifted in
     record {
       here = from_is (given_up s) number ask next ∙ up.here;
-      state = sym (ap (λ b. cond b (cond (is_acting s.stage) (given_up s) s) (composed digest s)) lifted ∙ ap (λ b. cond b (given_up s) s) up.acting);
+      state = sym (ap (λ b. cond b (cond (may_give_up s) (given_up s) s) (composed digest s)) lifted ∙ ap (λ b. cond b (given_up s) s) (may_so s some going));
     }
 
 passes_in : (s : ClientState) (stage : Stage) → s.stage ≡ stage → is_winding stage ≡ false → is_winding (given_up_in s stage).stage ≡ false → is_free s.who stage ≡ true
@@ -362,9 +370,11 @@ passes_in s (act flow) at going passed = by (clean_up s.who flow) passed
     by (m ∷ ms) passed = absurd (cc)
 passes_in s (winds ending m ms) at going passed = absurd (cc)
 
-pub passed : (s now : ClientState) → is_winding s.stage ≡ false → is_some (next_course s.left) ≡ true → now ≡ given_up s → is_winding now.stage ≡ false
+pub passed : (s now : ClientState) → is_winding s.stage ≡ false → has_ask s ≡ true → now ≡ given_up s → is_winding now.stage ≡ false
     → IsPassed s now
-passed s now going built is winds_not = record {
-  free = rw built (passes_in s s.stage refl going (ap (λ (t : ClientState). is_winding t.stage) (sym is) ∙ winds_not));
+passed s now going some is winds_not = record {
+  free =
+      ap (λ b. b && is_free s.who s.stage) (may_so s some going)
+      ∙ passes_in s s.stage refl going (ap (λ (t : ClientState). is_winding t.stage) (sym is) ∙ winds_not);
   state = is;
 }

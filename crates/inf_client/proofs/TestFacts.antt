@@ -1,5 +1,5 @@
 -- What the steps of a test leave.
-use Rattle.std.proofs.Common.{◌≡◌, ℕ, ◌+◌, ◌≤◌, Bool, true, false, cond, eqb, List, [], ◌∷◌, Option, Some, None, is_some, slice_get, subst, sym, ap, ◌∙◌, refl, arith}
+use Rattle.std.proofs.Common.{◌≡◌, ℕ, ◌+◌, ◌≤◌, Bool, true, false, cond, eqb, List, [], ◌∷◌, Option, Some, None, slice_get, subst, sym, ap, ◌∙◌, refl, arith}
 use Rattle.inf_base.specs.declared.id.Id.{Id}
 use Rattle.inf_base.specs.declared.answer.Answer.TheVariants as answer
 use Rattle.inf_base.specs.declared.call.Call.{Call}
@@ -7,12 +7,12 @@ use Rattle.inf_base.specs.declared.setup.ClientLine.{ClientLine}
 use Rattle.inf_client.specs.AskLog.{AskLog, IsLater, asked_log, no_asks}
 use Rattle.inf_client.specs.Client.{Client, AsksNext, client_with}
 use Rattle.inf_client.proofs.LogTestFacts.{made_later, none_later}
-use Rattle.inf_duty.specs.Duty.{at_call, begun, found_at, given_up, given_up_in, is_acting, lifts}
+use Rattle.inf_duty.specs.Duty.{at_call, begun, found_at, given_up, given_up_in, lifts, may_give_up}
 use Rattle.inf_duty.specs.Start.{start, starting}
 use Rattle.inf_duty.specs.World.{World}
 use Rattle.inf_flow_dir.specs.Client.{ClientState, Sent, Stage, act, answers, compose, placed, round, winds, wound}
 use Rattle.inf_flow_dir.specs.Flow.{clean_up}
-use Rattle.inf_flow_dir.specs.Group.{composed, course_of}
+use Rattle.inf_flow_dir.specs.Group.{composed}
 use Rattle.inf_message.specs.declared.ask.Ask.{Ask}
 use Rattle.inf_message.specs.declared.request.Request.{Request}
 use Rattle.inf_message.specs.declared.step.Message.{Message}
@@ -40,7 +40,7 @@ given_few s (act flow) = by (clean_up s.who flow)
 given_few s (winds ending m ms) = omega arith
 
 found_few : (digest : List ℕ → Id) (asked : Request) (s : ClientState) → (found_at digest asked s).counts.messages ≤ s.counts.messages
-found_few digest asked s = by (lifts asked) (is_acting s.stage)
+found_few digest asked s = by (lifts asked) (may_give_up s)
   where
     by : (b c : Bool) → (cond b (cond c (given_up s) s) (composed digest s)).counts.messages ≤ s.counts.messages
     by true true = given_few s s.stage
@@ -49,7 +49,7 @@ found_few digest asked s = by (lifts asked) (is_acting s.stage)
 
 call_few : (digest : List ℕ → Id) (number : ℕ) (asked : Request) (left : List Call) (s : ClientState) → (at_call digest number asked left s).counts.messages ≤ s.counts.messages
 call_few digest number asked [] s = omega arith
-call_few digest number asked (call ∷ left) s = by (eqb number s.number) (is_some (course_of call)) (call_few digest number asked left (given_up s))
+call_few digest number asked (call ∷ left) s = by (eqb number s.number) (may_give_up s) (call_few digest number asked left (given_up s))
   where
     by : (b c : Bool) → (at_call digest number asked left (given_up s)).counts.messages ≤ (given_up s).counts.messages
         → (cond b (found_at digest asked s) (cond c (at_call digest number asked left (given_up s)) s)).counts.messages ≤ s.counts.messages

@@ -1,13 +1,13 @@
 -- What contracts see of a client of a run, and what a step of it does.
-use Rattle.std.specs.Prelude.{◌≡◌, ◌⊎◌, ℕ, ◌≤◌, ◌<◌, Bool, true, false, not, ◌&&◌, List, [], length, map, drop, slice_get, Some, is_some}
+use Rattle.std.specs.Prelude.{◌≡◌, ◌⊎◌, ℕ, ◌≤◌, ◌<◌, Bool, true, false, not, ◌&&◌, List, [], length, map, drop, slice_get, Some}
 use Rattle.inf_base.specs.declared.id.Id.{Id}
 use Rattle.inf_duty.specs.ClientStep.{is_ask}
-use Rattle.inf_duty.specs.Duty.{Duty, at_call, begun, is_over, next_step, waits}
-use Rattle.inf_duty.specs.Outcome.{all_given_up, may_give_up}
+use Rattle.inf_duty.specs.Duty.{Duty, at_call, begun, has_ask, is_over, next_step, waits}
+use Rattle.inf_duty.specs.Outcome.{all_given_up, may_pass}
 use Rattle.inf_duty.specs.declared.client_step.ClientStep.{ClientStep}
 use Rattle.inf_duty.specs.declared.client_step.ClientStep.TheVariants as step
 use Rattle.inf_flow_dir.specs.Client.{ClientState, Sent, call_ref}
-use Rattle.inf_flow_dir.specs.Group.{group, next_course}
+use Rattle.inf_flow_dir.specs.Group.{group}
 use Rattle.inf_message.specs.declared.ask.Ask.{Ask}
 use Rattle.inf_message.specs.declared.request.Request.{Request}
 use Rattle.inf_message.specs.declared.step.Message.{Message}
@@ -62,7 +62,7 @@ pub record AsksNext (digest : List ℕ → Id) (number : ℕ) (ask : Ask) (old n
 pub record GaveUp (digest : List ℕ → Id) (old new : Client) : Type 0 where
   pub asking : wants_to_ask digest old ≡ true
   pub between : old.state.sent ≡ []
-  pub free : may_give_up old.state ≡ true
+  pub free : may_pass old.state ≡ true
   pub state : new.state ≡ all_given_up old.state.left old.state
   pub gone : new.gone ≡ true
   pub asks : new.log.asks ≡ old.log.asks
@@ -82,9 +82,9 @@ Steps digest old (step.Ask number ask) new = AsksNext digest number ask old new
 Steps digest old step.Waiting new = Rests digest old new × (next_step (planned digest new.state) ≡ waits)
 Steps digest old step.Finished new = Rests digest old new × (next_step (planned digest new.state) ≡ is_over)
 
--- a client that gave up what it had left stands between two groups, and has come to no call that is built
+-- a client that gave up what it had left stands between two groups, and has no ask to make
 abbrev pub IsAtRest : ClientState → Bool → Type 0
-IsAtRest state true = (state.sent ≡ []) × (is_some (next_course state.left) ≡ false)
+IsAtRest state true = (state.sent ≡ []) × (has_ask state ≡ false)
 IsAtRest state false = Unit {0}
 
 -- between two groups nothing is ready, but where the client was told to ask; else all that is left of the group

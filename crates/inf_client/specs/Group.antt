@@ -5,7 +5,7 @@ use Rattle.inf_client.specs.AskLog.{AskLog, with_ready}
 use Rattle.inf_client.specs.Client.{IsAtRest, IsInStep, group_asks}
 use Rattle.inf_client.specs.Room.{room_needed, room_within}
 use Rattle.inf_duty.specs.Duty.{asks, found_at, given_up, next_step}
-use Rattle.inf_duty.specs.Outcome.{may_give_up}
+use Rattle.inf_duty.specs.Outcome.{may_pass}
 use Rattle.inf_flow_dir.specs.Client.{ClientState, call_ref}
 use Rattle.inf_message.specs.declared.ask.Ask.{Ask}
 use Rattle.inf_message.specs.History.{Posted, posted_ask}
@@ -46,7 +46,7 @@ pub record IsReadied (number : ℕ) (ask : Ask) (others : List (ℕ × Ask)) (s 
 
 -- nothing had to be cleaned up behind the call that was given up
 pub record IsPassed (old new : ClientState) : Type 0 where
-  pub free : may_give_up old ≡ true
+  pub free : may_pass old ≡ true
   pub state : new ≡ given_up old
 
 -- the ask is of the call under way, and finds the client there

@@ -75,7 +75,7 @@ impl Client {
     }
 
     /// What to do next. Where memory is wanting for a group, its call is given up, and the next one tried.
-    #[tactic(auto, using(crate::proofs::ClientFacts::rests_gone, crate::proofs::ClientFacts::rests_unbuilt, crate::proofs::ClientFacts::full, crate::proofs::ClientFacts::none_ready, crate::proofs::ClientFacts::room_ready))]
+    #[tactic(auto, using(crate::proofs::ClientFacts::rests_gone, crate::proofs::ClientFacts::rests_askless, crate::proofs::ClientFacts::full, crate::proofs::ClientFacts::none_ready, crate::proofs::ClientFacts::room_ready))]
     pub fn step<R: IdRule>(&mut self, alloc: Global, rule: &R) -> ClientStep
         requires { self.old.handed ≡ false }
         ensures { Steps (R.digest_of rule.now) self.old result self.new }
@@ -90,7 +90,7 @@ impl Client {
         if !self.state.is_between() {
             return self.state.rest();
         }
-        if !self.state.is_built() {
+        if !self.state.has_ask() {
             return self.state.rest();
         }
         match next_group(alloc, rule, &mut self.state, &mut self.log) {

@@ -1,13 +1,13 @@
 //! The groups of Asks that a client is to make: where memory is wanting for one, its call is given up.
 
-ghost use Rattle.std.specs.Prelude.{◌≡◌, ◌≤◌, ◌<◌, true, false, [], length, is_some, None, IfOk, IfSome, OnErr};
+ghost use Rattle.std.specs.Prelude.{◌≡◌, ◌≤◌, ◌<◌, true, false, [], length, None, IfOk, IfSome, OnErr};
 ghost use Rattle.inf_client.specs.Group.{IsFound, IsPassed, IsReadied, with_asks};
 ghost use Rattle.inf_client.specs.Room.{room_between};
 ghost use Rattle.inf_duty.specs.ClientStep.{is_ask};
-ghost use Rattle.inf_duty.specs.Duty.{begun, given_up, next_step};
+ghost use Rattle.inf_duty.specs.Duty.{begun, given_up, has_ask, next_step};
 ghost use Rattle.inf_duty.specs.Messages.{is_winding};
 ghost use Rattle.inf_duty.specs.Outcome.{all_given_up};
-ghost use Rattle.inf_flow_dir.specs.Group.{composed, next_course};
+ghost use Rattle.inf_flow_dir.specs.Group.{composed};
 
 use crate::ask_log::AskLog;
 use inf_base::NoMemory;
@@ -100,7 +100,7 @@ fn attempt<R: IdRule>(
     log: &mut AskLog,
 ) -> Option<Group>
     requires between { state.old.sent ≡ [] }
-    requires built { is_some (next_course state.old.left) ≡ true }
+    requires asks { has_ask state.old ≡ true }
     requires asking { is_ask (next_step (composed (R.digest_of rule.now) state.old)) ≡ true }
     requires none { log.old.ready ≡ [] }
     requires room { room_between state.old.who state.old.stage ≤ log.old.room }
@@ -141,12 +141,12 @@ pub(crate) fn next_group<R: IdRule>(
     ensures own { IfSome result (λ group. group.ask.from.client ≡ state.old.who.client) }
     ensures gave_up { result ≡ None → state.new
         ≡ all_given_up state.old.left state.old }
-    ensures rests { result ≡ None → is_some (next_course state.new.left) ≡ false }
+    ensures rests { result ≡ None → has_ask state.new ≡ false }
     ensures still_between { result ≡ None → state.new.sent ≡ [] }
     ensures still_room { result ≡ None → room_between state.new.who state.new.stage ≤ log.new.room }
     ensures same { result ≡ None → log.new ≡ log.old }
 {
-    while state.is_built() {
+    while state.has_ask() {
         if let Some(group) = attempt(alloc, rule, state, log) {
             return Some(group);
         }

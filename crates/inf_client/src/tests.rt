@@ -6,10 +6,12 @@ ghost use Rattle.inf_base.specs.Setup.{call_count};
 ghost use Rattle.inf_client.specs.AskLog.{IsLater};
 
 use super::*;
-use inf_base::{Call, Caller, Calls, ClientLine, Clients, Name, NoMemory, Place, Setup, Text};
+use inf_base::{
+    Answer, Call, Caller, Calls, ClientLine, Clients, Name, NoMemory, Place, Setup, Text,
+};
 use inf_birth::ShaRule;
 use inf_duty::ClientStep;
-use inf_message::{Reply, Request, Trip};
+use inf_message::{CallResult, Reply, Request, Trip};
 use std::alloc::Global;
 use std::test::Fail;
 
@@ -119,5 +121,22 @@ fn a_round_is_answered_in_another_order(rt: HostRuntime) -> Result<(), Fail> {
     assert!(rt; waits(&mut client, rt.alloc()));
     answer_all(&mut client);
     assert!(rt; are_trips(client.trips(), &[(0, 1, 5), (0, 2, 6), (1, 3, 4)]));
+    Ok(())
+}
+
+/// Whether one call came to want of memory, and its last Serve is not told.
+fn is_one_wanting(results: &[CallResult]) -> bool {
+    results.len() == 1
+        && results.iter().all(|ended| ended.answer == Answer::NoMemory && ended.last.is_none())
+}
+
+/// What one lookup was told decides the call, though the others of its round still wait.
+#[test]
+fn an_unfinished_round_wants_memory(rt: HostRuntime) -> Result<(), Fail> {
+    let mut client = open(rt.alloc())?;
+    assert!(rt; asks_in_order(&mut client, rt.alloc())?);
+    client.told(&WHOLE, 1, 4, Reply::NoMem);
+    let results = client.into_results();
+    assert!(rt; is_one_wanting(results.as_slice()));
     Ok(())
 }

@@ -127,3 +127,43 @@ abbrev pub decided_calls : List Decided
 decided_calls =
     decided (call.Stat (codes "/f")) (answer.Refused errno.ENOENT)
     ∷ decided (call.Create (codes "/f") 0o644) answer.Done ∷ []
+
+-- ---- half a round
+
+-- a client that asks for a file in a directory of the root
+abbrev pub deep_world : World
+deep_world = record {
+  setup = record {
+    servers = 2;
+    digest_bytes = 32;
+    cache = 256;
+    clients = line (codes "a") (call.Stat (codes "/d/f") ∷ []) ∷ [];
+  };
+  digest = λ message. zero_id;
+}
+
+-- it looks up the root and the directory; the first lookup is told that memory is wanting, the second is not answered
+abbrev pub half_answered : List Event
+half_answered =
+    event.Serve 0 1 reply.NoMem
+    ∷ asks 0 (request.Lookup (look.At zero_id (codes "d")))
+    ∷ asks 0 look_up_top
+    ∷ []
+
+abbrev pub deep_stat : Answer → CallResult
+deep_stat given = record {
+  call = record { client = 0; number = 1 };
+  answer = given;
+  place = None;
+  first = Some 1;
+  last = None;
+  attempts = 1;
+  rounds = 1;
+  messages = 2;
+}
+
+abbrev pub wants_memory : CallResult
+wants_memory = deep_stat answer.NoMemory
+
+abbrev pub still_open : CallResult
+still_open = deep_stat answer.Unanswered

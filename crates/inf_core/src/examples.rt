@@ -77,3 +77,11 @@ pub fn refusals()
     // A result is left out.
     ensures left_out { ¬ Outcome example.world example.history [] }
 {}
+
+/// A round that is told once that memory is wanting, before it is over: so the call has wanted memory, and is not
+/// unanswered.
+pub fn half_rounds()
+    ensures legal { Legal example.deep_world example.half_answered }
+    ensures outcome { Outcome example.deep_world example.half_answered (example.wants_memory ∷ []) }
+    ensures no_other { ¬ Outcome example.deep_world example.half_answered (example.still_open ∷ []) }
+{}

@@ -1,11 +1,9 @@
 -- What an ask finds, where the client stops before the ask's call.
-use Rattle.std.proofs.Common.{List, ◌≡◌, ◌≢◌, ◌↔◌, ℕ, Bool, IsTrue, IfOk, Result, true, false, [], is_some, sym, ap, subst, ◌∙◌}
+use Rattle.std.proofs.Common.{List, ◌≡◌, ◌≢◌, ◌↔◌, ℕ, Bool, IsTrue, IfOk, Result, true, false, [], sym, ap, subst, ◌∙◌}
 use Rattle.inf_base.specs.declared.id.Id.{Id}
-use Rattle.inf_duty.specs.Duty.{Duty, asks, at_call, begun, given_up, next_step}
-use Rattle.inf_duty.specs.Messages.{is_winding}
+use Rattle.inf_duty.specs.Duty.{Duty, asks, at_call, begun, given_up, may_give_up, next_step}
 use Rattle.inf_duty.proofs.BegunFacts.{at_nothing, begun_between, gives_up, stays_at}
 use Rattle.inf_flow_dir.specs.Client.{ClientState}
-use Rattle.inf_flow_dir.specs.Group.{next_course}
 use Rattle.inf_message.specs.declared.ask.Ask.{Ask}
 use Rattle.inf_message.specs.declared.request.Request.{Request}
 
@@ -25,7 +23,7 @@ begun_over digest ask before after none way over =
 -- it ends where the call is another
 pub begun_stopped : (digest : List ℕ → Id) (ask : Ask) (before after : ClientState) → before.sent ≡ []
     → at_call digest ask.from.number ask.request after.left after ≡ at_call digest ask.from.number ask.request before.left before
-    → after.number ≢ ask.from.number → (is_some (next_course after.left) ≡ true → is_winding after.stage ≡ true)
+    → after.number ≢ ask.from.number → may_give_up after ≡ false
     → after ≡ begun digest ask before.sent before
 begun_stopped digest ask before after none way unlike stopped =
     begun_passed digest ask before after none way (stays_at digest ask.from.number ask.request after unlike stopped)
@@ -34,10 +32,10 @@ begun_stopped digest ask before after none way unlike stopped =
 
 -- a call is given up that is not the one looked for
 pub gave_up : (digest : List ℕ → Id) (number : ℕ) (asked : Request) (now after : ClientState) → after ≡ given_up now → now.number ≢ number
-    → is_some (next_course now.left) ≡ true → is_winding now.stage ≡ false
+    → may_give_up now ≡ true
     → at_call digest number asked after.left after ≡ at_call digest number asked now.left now
-gave_up digest number asked now after is unlike built going =
-    ap (λ s. at_call digest number asked s.left s) is ∙ gives_up digest number asked now unlike built going
+gave_up digest number asked now after is unlike may =
+    ap (λ s. at_call digest number asked s.left s) is ∙ gives_up digest number asked now unlike may
 
 -- ---- what the ask is to be
 

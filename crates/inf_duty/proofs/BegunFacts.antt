@@ -1,15 +1,15 @@
 -- Where an ask finds a client that has sent nothing: calls that it gave up, and the call that it takes up.
-use Rattle.std.proofs.Common.{◌≡◌, ◌≢◌, ◌⊎◌, inl, inr, ⊎_elim, ℕ, ◌+◌, ◌<◌, Bool, true, false, cond, eqb, List, [], ◌∷◌, length, None, is_some, refl, sym, ap, ◌∙◌, arith}
+use Rattle.std.proofs.Common.{◌≡◌, ◌≢◌, ◌⊎◌, inl, inr, ⊎_elim, ℕ, ◌+◌, ◌<◌, Bool, true, false, not, ◌&&◌, cond, eqb, List, [], ◌∷◌, length, None, is_some, refl, sym, ap, ◌∙◌, arith}
 use Rattle.std.proofs.lemmas.Bool.Decides.{nat_tests}
 use Rattle.inf_base.specs.declared.id.Id.{Id}
 use Rattle.inf_base.specs.declared.answer.Answer.TheVariants as answer
 use Rattle.inf_base.specs.declared.call.Call.{Call}
-use Rattle.inf_duty.specs.Duty.{at_call, begun, found_at, given_up, given_up_in, is_acting, lifts}
+use Rattle.inf_duty.specs.Duty.{at_call, begun, found_at, given_up, given_up_in, has_ask, has_message, lifts, may_give_up}
 use Rattle.inf_duty.specs.Kept.{weight}
 use Rattle.inf_duty.specs.Messages.{is_compose, is_winding}
 use Rattle.inf_flow_dir.specs.Client.{ClientState, Ending, Sent, Stage, act, answers, compose, rest_of, retries, round, winds, wound}
 use Rattle.inf_flow_dir.specs.Flow.{clean_up}
-use Rattle.inf_flow_dir.specs.Group.{composed, composed_stage, course_of, next_course}
+use Rattle.inf_flow_dir.specs.Group.{composed, composed_stage, next_course}
 use Rattle.inf_message.specs.declared.ask.Ask.{Ask}
 use Rattle.inf_message.specs.declared.request.Request.{Request}
 use Rattle.inf_message.specs.declared.step.Message.{Message}
@@ -35,11 +35,14 @@ same_stage s next is = ap (λ (x : Stage). record s { stage = x }) is
 pub stays_composed : (digest : List ℕ → Id) (s : ClientState) → is_compose s.stage ≡ false → s ≡ composed digest s
 stays_composed digest s settled = same_stage s (composed_stage digest s s.stage) (settled_stage digest s s.stage settled)
 
-winding_acts : (x : Stage) → is_winding x ≡ true → is_acting x ≡ false
-winding_acts compose is = absurd (cc)
-winding_acts (round keys) is = absurd (cc)
-winding_acts (act flow) is = absurd (cc)
-winding_acts (winds ending m ms) is = refl
+unless : (b c : Bool) → c ≡ true → (b && not c) ≡ false
+unless true true is = refl
+unless false true is = refl
+unless b false is = absurd (cc)
+
+-- nor may it
+pub winding_goes : (s : ClientState) → is_winding s.stage ≡ true → may_give_up s ≡ false
+winding_goes s is = unless (has_ask s) (is_winding s.stage) is
 
 winding_settled : (x : Stage) → is_winding x ≡ true → is_compose x ≡ false
 winding_settled compose is = absurd (cc)
@@ -53,7 +56,7 @@ either_same false c x y s idle same = same
 
 found_stays : (digest : List ℕ → Id) (asked : Request) (s : ClientState) → is_winding s.stage ≡ true → found_at digest asked s ≡ s
 found_stays digest asked s is =
-    either_same (lifts asked) (is_acting s.stage) (given_up s) (composed digest s) s (winding_acts s.stage is)
+    either_same (lifts asked) (may_give_up s) (given_up s) (composed digest s) s (winding_goes s is)
     (sym (stays_composed digest s (winding_settled s.stage is)))
 
 all_same : (b c : Bool) (x y s : ClientState) → x ≡ s → y ≡ s → cond b x (cond c y s) ≡ s
@@ -64,7 +67,7 @@ all_same false false x y s here there = refl
 pub winding_stays : (digest : List ℕ → Id) (number : ℕ) (asked : Request) (calls : List Call) (s : ClientState) → is_winding s.stage ≡ true → at_call digest number asked calls s ≡ s
 winding_stays digest number asked [] s is = refl
 winding_stays digest number asked (next ∷ calls) s is =
-    all_same (eqb number s.number) (is_some (course_of next)) (found_at digest asked s) (at_call digest number asked calls (given_up s)) s
+    all_same (eqb number s.number) (may_give_up s) (found_at digest asked s) (at_call digest number asked calls (given_up s)) s
     (found_stays digest asked s is)
     (ap (at_call digest number asked calls) (winding_given_in s s.stage is) ∙ winding_stays digest number asked calls s is)
 
@@ -96,26 +99,47 @@ given_sent_in s (winds ending m ms) going = absurd (cc)
 pub given_sent : (s : ClientState) → is_winding s.stage ≡ false → (given_up s).sent ≡ []
 given_sent s going = given_sent_in s s.stage going
 
--- giving up a call before the one that is looked for changes nothing of what is found
-pub gives_up : (digest : List ℕ → Id) (number : ℕ) (asked : Request) (s : ClientState) → s.number ≢ number → is_some (next_course s.left) ≡ true → is_winding s.stage ≡ false
-    → at_call digest number asked (given_up s).left (given_up s) ≡ at_call digest number asked s.left s
-gives_up digest number asked s unlike built going = by s.left refl built
-  where
-    elsewhere : eqb number s.number ≡ false
-    elsewhere = grind (arith, nat_tests)
+-- ---- a call that may be given up
 
-    by : (left : List Call) → s.left ≡ left → is_some (next_course left) ≡ true → at_call digest number asked (given_up s).left (given_up s) ≡ at_call digest number asked left s
-    by [] same built = absurd (cc)
-    by (next ∷ calls) same built =
-        let step : at_call digest number asked (next ∷ calls) s ≡ at_call digest number asked calls (given_up s) = rw (elsewhere, built) refl in
-        ⊎_elim
-        (λ e. ap (λ xs. at_call digest number asked xs (given_up s)) (e ∙ ap rest_of same) ∙ sym step)
-        (λ w. winding_stays digest number asked (given_up s).left (given_up s) w ∙ sym (winding_stays digest number asked calls (given_up s) w) ∙ sym step)
-        (given_left_in s s.stage going)
+pub both : (b c : Bool) → (b && c) ≡ true → (b ≡ true) × (c ≡ true)
+both true c is = (refl, is)
+both false c is = absurd (cc)
+
+not_true : (b : Bool) → not b ≡ true → b ≡ false
+not_true true is = absurd (cc)
+not_true false is = refl
+
+-- it does not wind up
+pub may_goes : (s : ClientState) → may_give_up s ≡ true → is_winding s.stage ≡ false
+may_goes s may = not_true (is_winding s.stage) (both (has_ask s) (not (is_winding s.stage)) may).1
 
 pub built_left : (left : List Call) → is_some (next_course left) ≡ true → 0 < length left
 built_left [] is = absurd (cc)
 built_left (next ∷ calls) is = omega arith
+
+-- an ask is made for a call that is left
+pub ask_left : (s : ClientState) → has_ask s ≡ true → 0 < length s.left
+ask_left s asks = built_left s.left (both (is_some (next_course s.left)) (has_message s.who s.stage) asks).0
+
+pub may_left : (s : ClientState) → may_give_up s ≡ true → 0 < length s.left
+may_left s may = ask_left s (both (has_ask s) (not (is_winding s.stage)) may).0
+
+-- giving up a call before the one that is looked for changes nothing of what is found
+pub gives_up : (digest : List ℕ → Id) (number : ℕ) (asked : Request) (s : ClientState) → s.number ≢ number → may_give_up s ≡ true
+    → at_call digest number asked (given_up s).left (given_up s) ≡ at_call digest number asked s.left s
+gives_up digest number asked s unlike may = by s.left refl
+  where
+    elsewhere : eqb number s.number ≡ false
+    elsewhere = grind (arith, nat_tests)
+
+    by : (left : List Call) → s.left ≡ left → at_call digest number asked (given_up s).left (given_up s) ≡ at_call digest number asked left s
+    by [] same = absurd (omega (arith, may_left s may, ap length same))
+    by (next ∷ calls) same =
+        let step : at_call digest number asked (next ∷ calls) s ≡ at_call digest number asked calls (given_up s) = rw (elsewhere, may) refl in
+        ⊎_elim
+        (λ e. ap (λ xs. at_call digest number asked xs (given_up s)) (e ∙ ap rest_of same) ∙ sym step)
+        (λ w. winding_stays digest number asked (given_up s).left (given_up s) w ∙ sym (winding_stays digest number asked calls (given_up s) w) ∙ sym step)
+        (given_left_in s s.stage (may_goes s may))
 
 weight_wound : (ending : Ending) (ms : List Message) (s : ClientState) → ending ≡ answers answer.NoMemory None → 0 < length s.left → weight (wound ending ms s) < length s.left + 1
 weight_wound (answers given place) [] s is some = rest s.left some
@@ -135,24 +159,21 @@ weight_in s (winds ending m ms) going some = absurd (cc)
 weight_is : (s : ClientState) → is_winding s.stage ≡ false → weight s ≡ length s.left + 1
 weight_is s going = rw going refl
 
-pub gives_up_less : (s : ClientState) → is_winding s.stage ≡ false → is_some (next_course s.left) ≡ true → weight (given_up s) < weight s
-gives_up_less s going built = rw (weight_is s going) (weight_in s s.stage going (built_left s.left built))
+pub gives_up_less : (s : ClientState) → may_give_up s ≡ true → weight (given_up s) < weight s
+gives_up_less s may = rw (weight_is s (may_goes s may)) (weight_in s s.stage (may_goes s may) (may_left s may))
 
 -- ---- where the walk ends
 
--- a call that asks for nothing is where the client stays, as is one that winds up
-pub stays_at : (digest : List ℕ → Id) (number : ℕ) (asked : Request) (s : ClientState) → s.number ≢ number → (is_some (next_course s.left) ≡ true → is_winding s.stage ≡ true) → at_call digest number asked s.left s ≡ s
-stays_at digest number asked s unlike stopped = by s.left refl (is_some (next_course s.left)) refl
+-- a client that may not give its call up stays there
+pub stays_at : (digest : List ℕ → Id) (number : ℕ) (asked : Request) (s : ClientState) → s.number ≢ number → may_give_up s ≡ false → at_call digest number asked s.left s ≡ s
+stays_at digest number asked s unlike stopped = by s.left
   where
     elsewhere : eqb number s.number ≡ false
     elsewhere = grind (arith, nat_tests)
 
-    by : (left : List Call) → s.left ≡ left → (b : Bool) → is_some (next_course s.left) ≡ b → at_call digest number asked left s ≡ s
-    by [] same b is = refl
-    by (next ∷ calls) same true is = winding_stays digest number asked (next ∷ calls) s (stopped is)
-    by (next ∷ calls) same false is =
-        let none : is_some (course_of next) ≡ false = ap (λ xs. is_some (next_course xs)) (sym same) ∙ is in
-        rw (elsewhere, none) refl
+    by : (left : List Call) → at_call digest number asked left s ≡ s
+    by [] = refl
+    by (next ∷ calls) = rw (elsewhere, stopped) refl
 
 pub at_nothing : (digest : List ℕ → Id) (number : ℕ) (asked : Request) (s : ClientState) → s.left ≡ [] → at_call digest number asked s.left s ≡ s
 at_nothing digest number asked s over = ap (λ calls. at_call digest number asked calls s) over
@@ -179,17 +200,11 @@ begun_inside digest ask s some = begun_with digest ask s.sent s some
 
 -- ---- found at its call
 
-pub found_lifts : (digest : List ℕ → Id) (asked : Request) (s : ClientState) → lifts asked ≡ true → is_acting s.stage ≡ true → given_up s ≡ found_at digest asked s
-found_lifts digest asked s is acting = rw (is, acting) refl
+pub found_lifts : (digest : List ℕ → Id) (asked : Request) (s : ClientState) → lifts asked ≡ true → may_give_up s ≡ true → given_up s ≡ found_at digest asked s
+found_lifts digest asked s is may = rw (is, may) refl
 
-pub found_idle : (digest : List ℕ → Id) (asked : Request) (s : ClientState) → lifts asked ≡ true → is_acting s.stage ≡ false → s ≡ found_at digest asked s
-found_idle digest asked s is acting = rw (is, acting) refl
+pub found_idle : (digest : List ℕ → Id) (asked : Request) (s : ClientState) → lifts asked ≡ true → may_give_up s ≡ false → s ≡ found_at digest asked s
+found_idle digest asked s is stays = rw (is, stays) refl
 
 pub found_other : (digest : List ℕ → Id) (asked : Request) (s : ClientState) → lifts asked ≡ false → composed digest s ≡ found_at digest asked s
 found_other digest asked s is = rw is refl
-
-pub acting_goes : (x : Stage) → is_acting x ≡ true → is_winding x ≡ false
-acting_goes compose is = absurd (cc)
-acting_goes (round keys) is = absurd (cc)
-acting_goes (act flow) is = refl
-acting_goes (winds ending m ms) is = absurd (cc)

@@ -1,17 +1,18 @@
 -- What a client has still to send.
-use Rattle.std.proofs.Common.{◌≡◌, ◌≢◌, ℕ, zero, suc, ◌<◌, ◌≤◌, Bool, true, false, List, [], ◌∷◌, length, map, slice_get, Option, Some, None, is_some, Decides, refl, sym, ap, ◌∙◌, arith}
+use Rattle.std.proofs.Common.{◌≡◌, ◌≢◌, ℕ, zero, suc, ◌<◌, ◌≤◌, Bool, true, false, not, ◌&&◌, nat_lt, List, [], ◌∷◌, length, map, slice_get, Option, Some, None, is_some, Decides, refl, sym, ap, ◌∙◌, arith}
+use Rattle.std.proofs.lemmas.Bool.{lt-ltb}
 use Rattle.std.proofs.lemmas.Bool.Decides.{Decides-like}
 use Rattle.inf_base.specs.declared.id.Id.{Id}
 use Rattle.inf_base.specs.declared.call.Call.{Call}
 use Rattle.inf_base.specs.declared.key.LookKey.{LookKey}
 use Rattle.inf_duty.specs.ClientStep.{is_ask}
-use Rattle.inf_duty.specs.Duty.{asks, is_over, next_in, next_of, next_step, waits}
+use Rattle.inf_duty.specs.Duty.{asks, has_ask, has_message, is_over, next_in, next_of, next_step, waits}
 use Rattle.inf_duty.specs.Kept.{IsOf}
-use Rattle.inf_duty.specs.Messages.{is_compose, post_of}
+use Rattle.inf_duty.specs.Messages.{are_none, is_compose, post_of}
 use Rattle.inf_duty.specs.Standing.{stage_of}
 use Rattle.inf_duty.specs.declared.standing.Standing.{Standing}
 use Rattle.inf_duty.specs.declared.standing.Standing.TheVariants as standing
-use Rattle.inf_duty.proofs.BegunFacts.{built_left}
+use Rattle.inf_duty.proofs.BegunFacts.{ask_left, both}
 use Rattle.inf_flow_dir.specs.Client.{ClientState, Stage, act, compose, round, winds}
 use Rattle.inf_flow_dir.specs.Draft.{Drafted, course_with}
 use Rattle.inf_flow_dir.specs.Flow.{Who}
@@ -27,28 +28,33 @@ some_ask : (s : ClientState) (o : Option Message) → (o ≡ None → ⊥) → i
 some_ask s None some = absurd (some refl)
 some_ask s (Some message) some = refl
 
-first_key : (who : Who) (keys : List LookKey) → 0 < length keys → slice_get (map (lookup_of who) keys) 0 ≡ None → ⊥
-first_key who [] some none = omega arith
-first_key who (key ∷ keys) some none = cc
-
 first_of_course : (digest : List ℕ → Id) (who : Who) (course : Option Course) → is_some course ≡ true → slice_get (group who (keys_of digest who course)) 0 ≡ None → ⊥
 first_of_course digest who None built none = cc
 first_of_course digest who (Some course) built none = cc
 
-composed_there : (digest : List ℕ → Id) (s : ClientState) (stands : Standing) → IsOf s.left stands → is_some (next_course s.left) ≡ true
-    → slice_get (group s.who (composed_stage digest s (stage_of stands))) 0 ≡ None → ⊥
-composed_there digest s standing.Compose is built none = first_of_course digest s.who (next_course s.left) built none
-composed_there digest s (standing.Round keys draft) is built none = first_key s.who keys is.1 none
-composed_there digest s (standing.Act flow) is built none = cc
-composed_there digest s (standing.Winds ending first rest) is built none = cc
+some_first : (messages : List Message) → not (are_none messages) ≡ true → slice_get messages 0 ≡ None → ⊥
+some_first [] some none = cc
+some_first (m ∷ messages) some none = cc
 
--- between two groups there is an ask to make for a call that is built
-pub built_asks : (digest : List ℕ → Id) (s : ClientState) (stands : Standing) → s.stage ≡ stage_of stands → IsOf s.left stands → s.sent ≡ [] → is_some (next_course s.left) ≡ true → is_ask (next_step (composed digest s)) ≡ true
-built_asks digest s stands at is between built =
-    ap is_ask (next_in_some (composed digest s) s.left (built_left s.left built)
+composed_there : (digest : List ℕ → Id) (s : ClientState) (stage : Stage) → is_some (next_course s.left) ≡ true → has_message s.who stage ≡ true
+    → slice_get (group s.who (composed_stage digest s stage)) 0 ≡ None → ⊥
+composed_there digest s compose built some none = first_of_course digest s.who (next_course s.left) built none
+composed_there digest s (round keys) built some none = some_first (group s.who (round keys)) some none
+composed_there digest s (act flow) built some none = some_first (group s.who (act flow)) some none
+composed_there digest s (winds ending m ms) built some none = some_first (group s.who (winds ending m ms)) some none
+
+-- where there is an ask to make between two groups, it is the next step
+pub asks_there : (digest : List ℕ → Id) (s : ClientState) → s.sent ≡ [] → has_ask s ≡ true → is_ask (next_step (composed digest s)) ≡ true
+asks_there digest s between there =
+    let they = both (is_some (next_course s.left)) (has_message s.who s.stage) there in
+    ap is_ask (next_in_some (composed digest s) s.left (ask_left s there)
     ∙ ap (λ sent. next_of (composed digest s) (slice_get (group s.who (composed_stage digest s s.stage)) (length sent))) between)
     ∙ some_ask (composed digest s) (slice_get (group s.who (composed_stage digest s s.stage)) 0)
-    (λ none. composed_there digest s stands is built (ap (λ x. slice_get (group s.who (composed_stage digest s x)) 0) (sym at) ∙ none))
+    (composed_there digest s s.stage they.0 they.1)
+
+pub keys_ask : (who : Who) (keys : List LookKey) → not (are_none (map (lookup_of who) keys)) ≡ nat_lt 0 (length keys)
+keys_ask who [] = refl
+keys_ask who (key ∷ keys) = sym (lt-ltb 0 (length (key ∷ keys)) (omega arith))
 
 pub over_next : (s : ClientState) → s.left ≡ [] → next_step s ≡ is_over
 over_next s over = ap (next_in s) over
@@ -72,11 +78,28 @@ unbuilt_stage digest s (standing.Round keys draft) is none = let some : next_cou
 unbuilt_stage digest s (standing.Act flow) is none = let some : is_some (next_course s.left) ≡ true = is in absurd (cc)
 unbuilt_stage digest s (standing.Winds ending first rest) is none = let some : is_some (next_course s.left) ≡ true = is in absurd (cc)
 
--- so does one that has come to a call that is not built
-pub waits_unbuilt : (digest : List ℕ → Id) (s : ClientState) (stands : Standing) → s.stage ≡ stage_of stands → IsOf s.left stands → is_some (next_course s.left) ≡ false → 0 < length s.left → next_step (composed digest s) ≡ waits
+waits_unbuilt : (digest : List ℕ → Id) (s : ClientState) (stands : Standing) → s.stage ≡ stage_of stands → IsOf s.left stands → is_some (next_course s.left) ≡ false → 0 < length s.left → next_step (composed digest s) ≡ waits
 waits_unbuilt digest s stands at is none left =
     next_in_some (composed digest s) s.left left
     ∙ ap (λ (next : Stage). next_of (composed digest s) (slice_get (group s.who next) (length s.sent))) (ap (composed_stage digest s) at ∙ unbuilt_stage digest s stands is none)
+
+none_there : (messages : List Message) (at : ℕ) → not (are_none messages) ≡ false → slice_get messages at ≡ None
+none_there [] at none = refl
+none_there (m ∷ messages) at none = absurd (cc)
+
+no_message : (digest : List ℕ → Id) (s : ClientState) (stage : Stage) (at : ℕ) → has_message s.who stage ≡ false → slice_get (group s.who (composed_stage digest s stage)) at ≡ None
+no_message digest s compose at none = absurd (cc)
+no_message digest s (round keys) at none = none_there (group s.who (round keys)) at none
+no_message digest s (act flow) at none = none_there (group s.who (act flow)) at none
+no_message digest s (winds ending m ms) at none = none_there (group s.who (winds ending m ms)) at none
+
+-- so does one that has come to a call, or to a message, that is not built
+pub waits_askless : (digest : List ℕ → Id) (s : ClientState) (stands : Standing) → s.stage ≡ stage_of stands → IsOf s.left stands → has_ask s ≡ false → 0 < length s.left → next_step (composed digest s) ≡ waits
+waits_askless digest s stands at is none left = by (is_some (next_course s.left)) refl none
+  where
+    by : (b : Bool) → is_some (next_course s.left) ≡ b → (b && has_message s.who s.stage) ≡ false → next_step (composed digest s) ≡ waits
+    by true built none = next_in_some (composed digest s) s.left left ∙ ap (next_of (composed digest s)) (no_message digest s s.stage (length s.sent) none)
+    by false unbuilt none = waits_unbuilt digest s stands at is unbuilt left
 
 -- what is settled for a call that is built has a message
 pub composed_settled : (digest : List ℕ → Id) (s : ClientState) (next : Stage) → is_some (next_course s.left) ≡ true → is_compose (composed_stage digest s next) ≡ false

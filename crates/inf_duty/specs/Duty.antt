@@ -1,5 +1,5 @@
 -- What a client may send next.
-use Rattle.std.specs.Prelude.{◌≡◌, ℕ, ◌==◌, Bool, true, false, if◌then◌else◌, List, [], ◌∷◌, length, slice_get, Option, Some, None, is_some}
+use Rattle.std.specs.Prelude.{◌≡◌, ℕ, ◌==◌, ◌&&◌, not, Bool, true, false, if◌then◌else◌, List, [], ◌∷◌, length, slice_get, Option, Some, None, is_some}
 use Rattle.inf_base.specs.declared.answer.Answer.TheVariants as answer
 use Rattle.inf_base.specs.declared.call.Call.{Call}
 use Rattle.inf_base.specs.declared.id.Id.{Id}
@@ -7,9 +7,10 @@ use Rattle.inf_message.specs.declared.ask.Ask.{Ask}
 use Rattle.inf_message.specs.declared.request.Request.{Request}
 use Rattle.inf_message.specs.declared.request.Request.TheVariants as request
 use Rattle.inf_message.specs.declared.step.Message.{Message}
-use Rattle.inf_flow_dir.specs.Client.{ClientState, Sent, Stage, act, answers, call_ref, ended, placed, winds, wound}
-use Rattle.inf_flow_dir.specs.Flow.{clean_up}
-use Rattle.inf_flow_dir.specs.Group.{composed, course_of, group}
+use Rattle.inf_flow_dir.specs.Client.{ClientState, Sent, Stage, act, answers, call_ref, compose, ended, placed, winds, wound}
+use Rattle.inf_flow_dir.specs.Flow.{Who, clean_up}
+use Rattle.inf_flow_dir.specs.Group.{composed, group, next_course}
+use Rattle.inf_duty.specs.Messages.{are_none, is_winding}
 
 pub data Next : Type 0 where
   -- this ask, to the server of this number
@@ -31,6 +32,22 @@ next_in s (call ∷ calls) = next_of s (slice_get (group s.who s.stage) (length 
 abbrev pub next_step : ClientState → Next
 next_step s = next_in s s.left
 
+-- ---- want of memory
+
+-- what is settled has a message to send; what is not yet is still to get one
+abbrev pub has_message : Who → Stage → Bool
+has_message who compose = true
+has_message who settled = not (are_none (group who settled))
+
+-- between two groups: there is an ask to make for the call under way. There is none where its kind, or its next message, is
+-- not built
+abbrev pub has_ask : ClientState → Bool
+has_ask s = is_some (next_course s.left) && has_message s.who s.stage
+
+-- memory may be wanting for an ask, but for one that winds the call up
+abbrev pub may_give_up : ClientState → Bool
+may_give_up s = has_ask s && not (is_winding s.stage)
+
 -- a client that wants memory between two groups takes the clean-up of its next step, and gives its call up
 abbrev pub given_up_in : ClientState → Stage → ClientState
 given_up_in s (act flow) = wound (answers answer.NoMemory None) (clean_up s.who flow) s
@@ -47,21 +64,17 @@ lifts (request.Drop dir) = true
 lifts (request.Unseal dir) = true
 lifts other = false
 
-abbrev pub is_acting : Stage → Bool
-is_acting (act flow) = true
-is_acting other = false
-
 -- an ask of a clean-up shows that the client wanted memory for its next step
 abbrev pub found_at : (List ℕ → Id) → Request → ClientState → ClientState
-found_at digest asked s = if lifts asked then (if is_acting s.stage then given_up s else s) else composed digest s
+found_at digest asked s = if lifts asked then (if may_give_up s then given_up s else s) else composed digest s
 
 -- the client at the call of this number, where it gives up those before it; one that has something to clean up does that
--- first, and one that cleans up gives nothing up
+-- first, and one that may not give up its call stays there
 abbrev pub at_call : (List ℕ → Id) → ℕ → Request → List Call → ClientState → ClientState
 at_call digest number asked [] s = s
 at_call digest number asked (call ∷ calls) s =
     if number == s.number then found_at digest asked s
-    else (if is_some (course_of call) then at_call digest number asked calls (given_up s) else s)
+    else (if may_give_up s then at_call digest number asked calls (given_up s) else s)
 
 -- whom the client's ask finds: within a group the next message; between groups it may have given up calls
 abbrev pub begun : (List ℕ → Id) → Ask → List Sent → ClientState → ClientState

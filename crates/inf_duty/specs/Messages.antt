@@ -1,9 +1,12 @@
 -- Words for stages and messages that the code asks about.
-use Rattle.std.specs.Prelude.{ℕ, Bool, true, false}
-use Rattle.inf_duty.specs.Duty.{Next, asks}
+use Rattle.std.specs.Prelude.{ℕ, Bool, true, false, List, [], ◌∷◌}
 use Rattle.inf_flow_dir.specs.Client.{ClientState, Stage, act, call_ref, compose, round, winds}
 use Rattle.inf_message.specs.declared.ask.Ask.{Ask}
 use Rattle.inf_message.specs.declared.step.Message.{Message}
+
+abbrev pub are_none : List Message → Bool
+are_none [] = true
+are_none (m ∷ ms) = false
 
 -- nothing is settled yet
 abbrev pub is_compose : Stage → Bool

@@ -1,7 +1,7 @@
 //! What is asked about where a client stands.
 
 ghost use Rattle.std.specs.Prelude.{◌≡◌, length};
-ghost use Rattle.inf_duty.specs.Duty.{is_acting};
+ghost use Rattle.inf_duty.specs.Duty.{has_message};
 ghost use Rattle.inf_duty.specs.Messages.{has_one_message, is_compose, is_winding};
 ghost use Rattle.inf_duty.specs.Standing.{stage_of};
 ghost use Rattle.inf_flow_dir.specs.Client.{is_round};
@@ -30,18 +30,6 @@ pub fn is_round(stands: &Standing) -> bool
         Standing::Compose => false,
         Standing::Round(_, _) => true,
         Standing::Act(_) => false,
-        Standing::Winds(_, _, _) => false,
-    }
-}
-
-/// Whether the group is a message of a flow.
-pub fn is_acting(stands: &Standing) -> bool
-    ensures { result ≡ is_acting (stage_of stands.now) }
-{
-    match stands {
-        Standing::Compose => false,
-        Standing::Round(_, _) => false,
-        Standing::Act(_) => true,
         Standing::Winds(_, _, _) => false,
     }
 }
@@ -79,5 +67,18 @@ pub fn group_size(stands: &Standing) -> usize
         Standing::Round(keys, _) => keys.len(),
         Standing::Act(_) => 1,
         Standing::Winds(_, _, _) => 1,
+    }
+}
+
+/// Whether what is settled has a message to send; what is not settled yet is still to get one.
+#[tactic(auto, using(crate::proofs::StepFacts::keys_ask))]
+pub fn has_message(stands: &Standing) -> bool
+    ensures { (who : Who) → has_message who (stage_of stands.now) ≡ result }
+{
+    match stands {
+        Standing::Compose => true,
+        Standing::Round(keys, _) => keys.len() > 0,
+        Standing::Act(_) => true,
+        Standing::Winds(_, _, _) => true,
     }
 }

@@ -96,11 +96,14 @@ wants_memory (Some told) = is_no_mem told.reply
     is_no_mem reply.NoMem = true
     is_no_mem any_reply = false
 
+abbrev pub is_wanting : List Sent → Bool
+is_wanting sent = list_any (λ (x : Sent). wants_memory x.told) sent
+
 abbrev pub after_round : Option Course → List Sent → Turn
 after_round None sent = again
 after_round (Some course) [] = again
 after_round (Some course) (x ∷ xs) =
-    if list_any (λ (y : Sent). wants_memory y.told) (x ∷ xs) then winds_up (answers answer.NoMemory None) [] else of x.told
+    if is_wanting (x ∷ xs) then winds_up (answers answer.NoMemory None) [] else of x.told
   where
     of : Option Told → Turn
     of None = again

@@ -29,7 +29,7 @@ pub use draft::{Draft, has_course};
 pub use ending::Ending;
 pub use room::ReplyRoom;
 pub use round::after_round;
-pub use sending::{Sending, are_told, has_place};
+pub use sending::{Sending, are_told, has_place, is_one_wanting};
 pub use telling::Telling;
 pub use turn::Turn;
 pub use who::{LookKeys, Who};

@@ -1,10 +1,8 @@
 //! What comes of the answers to a round.
 
 ghost use Rattle.std.specs.Prelude.{◌≡◌, [], false, Some, vec_capacity};
-ghost use Rattle.std.specs.List.{list_any};
-ghost use Rattle.inf_flow_dir.specs.Client.{Sent};
 ghost use Rattle.inf_flow_dir.specs.Draft.{course_with};
-ghost use Rattle.inf_flow_dir.specs.Turn.{after_round, wants_memory};
+ghost use Rattle.inf_flow_dir.specs.Turn.{after_round, is_wanting};
 ghost use Rattle.inf_flow_dir.specs.TurnOf.{turn_of};
 
 use crate::clean_up::CleanUps;
@@ -38,7 +36,7 @@ fn after_answers(draft: Draft, sent: &mut Vec<Sending>) -> Turn
 
 /// What comes of them where none says that memory is wanting.
 fn after_entries(draft: Draft, sent: &mut Vec<Sending>) -> Turn
-    requires { list_any (λ (x : Sent). wants_memory x.told) sent.old.items ≡ false }
+    requires { is_wanting sent.old.items ≡ false }
     ensures turn { turn_of result ≡ after_round (Some (course_with draft)) sent.old.items }
     ensures capacity { vec_capacity sent.new ≡ vec_capacity sent.old }
 {

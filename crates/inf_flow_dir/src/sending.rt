@@ -1,10 +1,10 @@
 //! The Asks of the group that is under way.
 
 ghost use Rattle.std.specs.Prelude.{◌≡◌, ◌==◌, ◌∷◌, [], vec_capacity, MatchOption};
-ghost use Rattle.std.specs.List.{list_all, list_any};
-ghost use Rattle.inf_flow_dir.specs.Client.{Sent, has_place, is_told};
+ghost use Rattle.std.specs.List.{list_all};
+ghost use Rattle.inf_flow_dir.specs.Client.{has_place, is_told};
 ghost use Rattle.inf_flow_dir.specs.Sending.{new_sent, told_more};
-ghost use Rattle.inf_flow_dir.specs.Turn.{wants_memory};
+ghost use Rattle.inf_flow_dir.specs.Turn.{is_wanting, wants_memory};
 
 use crate::telling::Telling;
 use inf_base::Place;
@@ -93,7 +93,7 @@ pub fn are_told(sent: &[Sending]) -> bool
 
 /// Whether one of them was told that memory is wanting.
 pub fn is_one_wanting(sent: &[Sending]) -> bool
-    ensures { result ≡ list_any (λ (x : Sent). wants_memory x.told) sent.now }
+    ensures { result ≡ is_wanting sent.now }
 {
     sent.iter().any(|sending| sending.wants_memory())
 }

@@ -1,14 +1,14 @@
 -- What a client keeps that gives up only calls that it has.
-use Rattle.std.proofs.Common.{◌≡◌, ◌⊎◌, inl, inr, ℕ, ◌<◌, eqb, List, [], ◌∷◌, length, None, is_some, refl, sym, ap, subst, arith}
+use Rattle.std.proofs.Common.{◌≡◌, ◌⊎◌, inl, inr, ℕ, ◌<◌, eqb, List, [], ◌∷◌, length, None, refl, sym, ap, subst, arith}
 use Rattle.inf_base.specs.declared.id.Id.{Id}
 use Rattle.inf_base.specs.declared.answer.Answer.TheVariants as answer
 use Rattle.inf_base.specs.declared.call.Call.{Call}
-use Rattle.inf_duty.specs.Duty.{at_call, begun, found_at, given_up, given_up_in, is_acting, lifts}
-use Rattle.inf_duty.specs.Outcome.{all_given_up, may_give_up}
+use Rattle.inf_duty.specs.Duty.{at_call, begun, found_at, given_up, given_up_in, lifts, may_give_up}
+use Rattle.inf_duty.specs.Outcome.{all_given_up, may_pass}
 use Rattle.inf_duty.proofs.BegunKept.{if_both}
 use Rattle.inf_flow_dir.specs.Client.{ClientState, Sent, Stage, act, answers, compose, rest_of, round, winds, wound}
 use Rattle.inf_flow_dir.specs.Flow.{clean_up}
-use Rattle.inf_flow_dir.specs.Group.{composed, course_of}
+use Rattle.inf_flow_dir.specs.Group.{composed}
 use Rattle.inf_message.specs.declared.ask.Ask.{Ask}
 use Rattle.inf_message.specs.declared.request.Request.{Request}
 use Rattle.inf_message.specs.declared.step.Message.{Message}
@@ -60,8 +60,8 @@ module _ (digest : List ℕ → Id) (P : ClientState → Type 0) (keeps : IsKept
   kept_at number asked (call ∷ calls) s tied now =
       let less : P (given_up s) = giving call calls s tied now in
       if_both P (eqb number s.number) (found_at digest asked s) _
-      (if_both P (lifts asked) _ _ (if_both P (is_acting s.stage) (given_up s) s less now) (keeps.composing s now))
-      (if_both P (is_some (course_of call)) (at_call digest number asked calls (given_up s)) s
+      (if_both P (lifts asked) _ _ (if_both P (may_give_up s) (given_up s) s less now) (keeps.composing s now))
+      (if_both P (may_give_up s) (at_call digest number asked calls (given_up s)) s
       (kept_at number asked calls (given_up s) (given_up_tied call calls s s.stage refl tied) less) now)
 
   pub kept_begun : (ask : Ask) (sent : List Sent) (s : ClientState) → P s → P (begun digest ask sent s)
@@ -71,7 +71,7 @@ module _ (digest : List ℕ → Id) (P : ClientState → Type 0) (keeps : IsKept
   kept_all : (calls : List Call) (s : ClientState) → IsTied calls s → P s → P (all_given_up calls s)
   kept_all [] s tied now = now
   kept_all (call ∷ calls) s tied now =
-      if_both P (may_give_up s) (all_given_up calls (given_up s)) s
+      if_both P (may_pass s) (all_given_up calls (given_up s)) s
       (kept_all calls (given_up s) (given_up_tied call calls s s.stage refl tied) (giving call calls s tied now)) now
 
   pub kept_all_given_up : (s : ClientState) → P s → P (all_given_up s.left s)

@@ -1,5 +1,5 @@
 -- What holds of each answer that a group may come to, with its place, holds of all results that agree with a history.
-use Rattle.std.proofs.Common.{◌≡◌, ℕ, suc, ◌+◌, ◌==◌, eqb, List, [], ◌∷◌, ◌++◌, length, slice_get, Option, None, Some, All, sym, subst, ⊎_elim}
+use Rattle.std.proofs.Common.{◌≡◌, ℕ, suc, ◌+◌, ◌==◌, Bool, true, false, eqb, List, [], ◌∷◌, ◌++◌, length, slice_get, Option, None, Some, All, sym, subst, ⊎_elim}
 use Rattle.std.proofs.lemmas.List.Elements.{All-append, All-cons, All-nil, All-push}
 use Rattle.inf_base.specs.declared.id.Id.{Id}
 use Rattle.inf_base.specs.declared.answer.Answer.{Answer}
@@ -15,7 +15,7 @@ use Rattle.inf_base.specs.declared.triple.Triple.{Triple}
 use Rattle.inf_base.specs.Same.{dir_of}
 use Rattle.inf_duty.specs.After.{client_after}
 use Rattle.inf_duty.specs.Duty.{asked, given_up_in}
-use Rattle.inf_duty.specs.Outcome.{Agrees, OutcomeFrom, all_given_up, results_of, so_far, unanswered}
+use Rattle.inf_duty.specs.Outcome.{Agrees, OutcomeFrom, all_given_up, come_to, results_of, so_far, unanswered}
 use Rattle.inf_duty.specs.Start.{starting}
 use Rattle.inf_duty.specs.World.{World}
 use Rattle.inf_duty.proofs.BegunKept.{IsKept, if_both, kept_all_given_up, kept_begun}
@@ -23,7 +23,7 @@ use Rattle.inf_flow_dir.specs.Client.{ClientState, Ending, Sent, Stage, act, ans
 use Rattle.inf_flow_dir.specs.Flow.{Flow, Who, birth_of, clean_up, finishes, links, makes, reserves, seals, unlinks}
 use Rattle.inf_flow_dir.specs.Group.{Course, composed_stage, keys_of, next_course}
 use Rattle.inf_flow_dir.specs.Heard.{heard}
-use Rattle.inf_flow_dir.specs.Turn.{Next, Turn, act_turn, after_act, after_make, after_round, by_next, fails, follow, from_root, goes_on, is_busy, links_to, next_entry, recorded, served, steps, stops, told_entry, turn_at, turned, winds_up}
+use Rattle.inf_flow_dir.specs.Turn.{Next, Turn, act_turn, after_act, after_make, after_round, by_next, fails, follow, from_root, goes_on, is_busy, is_wanting, links_to, next_entry, recorded, served, steps, stops, told_entry, turn_at, turned, winds_up}
 use Rattle.inf_laws_history.proofs.ClientSteps.{by_answer}
 use Rattle.inf_message.specs.declared.ask.Ask.{Ask}
 use Rattle.inf_message.specs.declared.call_result.CallResult.{CallResult}
@@ -222,7 +222,11 @@ module _ (P : Of) (of : IsOfServes P) where
     so_far_is (winds (answers given at) m ms) s is = is
     so_far_is (winds retries m ms) s is = open_yet
     so_far_is compose s is = open_yet
-    so_far_is (round keys) s is = open_yet
+    so_far_is (round keys) s is = come_is (is_wanting s.sent)
+      where
+        come_is : (b : Bool) → P (come_to b) None
+        come_is true = of.wanting
+        come_is false = open_yet
     so_far_is (act flow) s is = open_yet
 
     left_are : (calls : List Call) (s : ClientState) → StageIs P s.stage → All (ResultIs P) (unanswered calls s)

@@ -13,14 +13,14 @@ use Rattle.inf_base.specs.declared.triple.Triple.{Triple}
 use Rattle.inf_base.specs.Same.{dir_of}
 use Rattle.inf_duty.specs.After.{client_after}
 use Rattle.inf_duty.specs.Duty.{asked, begun, given_up_in}
-use Rattle.inf_duty.specs.Outcome.{Agrees, Outcome, OutcomeFrom, all_given_up, results_of, so_far, unanswered}
+use Rattle.inf_duty.specs.Outcome.{Agrees, Outcome, OutcomeFrom, all_given_up, come_to, results_of, so_far, unanswered}
 use Rattle.inf_duty.specs.Start.{starting}
 use Rattle.inf_duty.specs.World.{World}
 use Rattle.inf_flow_dir.specs.Client.{ClientState, Ending, Sent, Stage, act, answers, call_ref, compose, ended, has_place, result_of, retries, round, told_at, winds, wound}
 use Rattle.inf_flow_dir.specs.Flow.{Flow, Who, birth_of, clean_up, finishes, links, makes, message_of, reserves, seals, unlinks}
 use Rattle.inf_flow_dir.specs.Group.{Course, composed_stage, group, keys_of, next_course}
 use Rattle.inf_flow_dir.specs.Heard.{heard}
-use Rattle.inf_flow_dir.specs.Turn.{Next, Turn, act_turn, after_act, after_make, after_round, by_next, fails, follow, from_root, goes_on, is_busy, links_to, next_entry, recorded, served, steps, stops, told_entry, turn_at, turned, winds_up}
+use Rattle.inf_flow_dir.specs.Turn.{Next, Turn, act_turn, after_act, after_make, after_round, by_next, fails, follow, from_root, goes_on, is_busy, is_wanting, links_to, next_entry, recorded, served, steps, stops, told_entry, turn_at, turned, winds_up}
 use Rattle.inf_laws_client.specs.Asked.{AreAskedFor}
 use Rattle.inf_laws_history.specs.Legal.{Legal, MayServe}
 use Rattle.inf_laws_history.specs.Objects.{WasAskedIn}
@@ -330,7 +330,11 @@ so_far_caused : (h : List Event) (stage : Stage) (s : ClientState) → StageCaus
 so_far_caused h (winds (answers given at) m ms) s is = is
 so_far_caused h (winds retries m ms) s is = tt
 so_far_caused h compose s is = tt
-so_far_caused h (round keys) s is = tt
+so_far_caused h (round keys) s is = by (is_wanting s.sent)
+  where
+    by : (b : Bool) → IsCausedFor h (call_ref s) (come_to b) None
+    by true = tt
+    by false = tt
 so_far_caused h (act flow) s is = tt
 
 unanswered_caused : (h : List Event) (calls : List Call) (s : ClientState) → StageCaused h (call_ref s) s.stage → AllCaused h (unanswered calls s)

@@ -12,7 +12,8 @@ use Rattle.inf_base.specs.declared.caller.CallRef.{CallRef}
 use Rattle.inf_base.specs.declared.setup.ClientLine.{ClientLine}
 use Rattle.inf_duty.specs.After.{client_after}
 use Rattle.inf_duty.specs.Duty.{asked, begun, given_up_in}
-use Rattle.inf_duty.specs.Outcome.{Agrees, OutcomeFrom, all_given_up, are_none, is_free, results_of, so_far, unanswered}
+use Rattle.inf_duty.specs.Messages.{are_none}
+use Rattle.inf_duty.specs.Outcome.{Agrees, OutcomeFrom, all_given_up, is_free, results_of, so_far, unanswered}
 use Rattle.inf_duty.specs.World.{World}
 use Rattle.inf_duty.proofs.BegunKept.{IsKept, if_both, kept_all_given_up, kept_begun}
 use Rattle.inf_flow_dir.specs.Client.{ClientState, Counts, Ending, Stage, act, answers, call_ref, compose, ended, first_place, placed, result_of, retries, round, winds, wound}

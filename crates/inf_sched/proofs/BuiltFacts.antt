@@ -1,5 +1,5 @@
 -- A client's stage is of a call that is built, and one that gives up what is left gives up a call.
-use Rattle.std.proofs.Common.{◌≡◌, ℕ, suc, Bool, true, false, cond, eqb, ◌||◌, ◌&&◌, List, [], ◌∷◌, ◌++◌, length, slice_get, Option, Some, None, is_some, refl, sym, ap, subst, ◌∙◌}
+use Rattle.std.proofs.Common.{◌≡◌, ℕ, suc, Bool, true, false, cond, eqb, ◌||◌, List, [], ◌∷◌, ◌++◌, length, slice_get, Option, Some, None, is_some, refl, sym, ap, subst, ◌∙◌, arith}
 use Rattle.inf_base.specs.declared.id.Id.{Id}
 use Rattle.std.specs.List.{list_any}
 use Rattle.std.proofs.lemmas.List.Folds.{list_any-append}
@@ -7,8 +7,9 @@ use Rattle.inf_base.specs.declared.answer.Answer.TheVariants as answer
 use Rattle.inf_base.specs.declared.call.Call.{Call}
 use Rattle.inf_base.specs.declared.setup.ClientLine.{ClientLine}
 use Rattle.inf_duty.specs.After.{client_after}
-use Rattle.inf_duty.specs.Duty.{asked, given_up, given_up_in}
-use Rattle.inf_duty.specs.Outcome.{all_given_up, are_none, is_free, may_give_up, results_of}
+use Rattle.inf_duty.specs.Duty.{asked, given_up, given_up_in, may_give_up}
+use Rattle.inf_duty.specs.Messages.{are_none}
+use Rattle.inf_duty.specs.Outcome.{all_given_up, is_free, may_pass, results_of}
 use Rattle.inf_duty.specs.Start.{starting}
 use Rattle.inf_duty.specs.World.{World}
 use Rattle.inf_flow_dir.specs.Client.{ClientState, Ending, Stage, act, answers, compose, ended, retries, round, winds, wound}
@@ -21,6 +22,7 @@ use Rattle.inf_message.specs.declared.event.Event.{Event}
 use Rattle.inf_message.specs.declared.event.Event.TheVariants as event
 use Rattle.inf_message.specs.declared.step.Message.{Message}
 use Rattle.inf_message.specs.History.{Told, told_reply}
+use Rattle.inf_duty.proofs.BegunFacts.{both, may_left}
 use Rattle.inf_duty.proofs.BegunKept.{IsKept, if_both, kept_all_given_up, kept_begun}
 use Rattle.inf_laws_history.proofs.ClientSteps.{Lasts, by_answer, lasts_kept}
 use Rattle.inf_sched.specs.Laws.{gave_up}
@@ -152,13 +154,9 @@ free_ends s (winds ending m ms) free = absurd (cc)
 free_ends s compose free = refl
 free_ends s (round keys) free = refl
 
-both : (a b : Bool) → (a && b) ≡ true → (a ≡ true) × (b ≡ true)
-both true b e = (refl, e)
-both false b e = absurd (cc)
-
 -- where nothing has to be cleaned up, giving up ends the call
-pub may_end : (s : ClientState) → may_give_up s ≡ true → given_up s ≡ ended answer.NoMemory None s
-may_end s may = free_ends s s.stage (both (is_some (next_course s.left)) _ may).1
+pub may_end : (s : ClientState) → may_pass s ≡ true → given_up s ≡ ended answer.NoMemory None s
+may_end s may = free_ends s s.stage (both (may_give_up s) (is_free s.who s.stage) may).1
 
 gave_up_lasts : (digest : List ℕ → Id) → Lasts digest (λ s. HasGivenUp s.results)
 gave_up_lasts digest = record {
@@ -171,10 +169,9 @@ gave_up_lasts digest = record {
 all_gave_up : (digest : List ℕ → Id) (calls : List Call) (s : ClientState) → HasGivenUp s.results → HasGivenUp (all_given_up calls s).results
 all_gave_up digest calls s gave = kept_all_given_up digest (λ t. HasGivenUp t.results) (lasts_kept digest (λ t. HasGivenUp t.results) (gave_up_lasts digest)) calls s gave
 
-gave_up_left : (digest : List ℕ → Id) (s : ClientState) (left : List Call) → s.left ≡ left → may_give_up s ≡ true → HasGivenUp (all_given_up left s).results
+gave_up_left : (digest : List ℕ → Id) (s : ClientState) (left : List Call) → s.left ≡ left → may_pass s ≡ true → HasGivenUp (all_given_up left s).results
 gave_up_left digest s [] is may =
-    let none : is_some (next_course s.left) ≡ false = ap (λ calls. is_some (next_course calls)) is in
-    absurd (let some = (both (is_some (next_course s.left)) _ may).0 in cc)
+    absurd (omega (arith, may_left s (both (may_give_up s) (is_free s.who s.stage) may).0, ap length is))
 gave_up_left digest s (call ∷ calls) is may =
     let gave : HasGivenUp (given_up s).results =
     subst (λ (t : ClientState). HasGivenUp t.results) (sym (may_end s may)) (gave_up_behind s.results _ refl) in

@@ -1,5 +1,5 @@
 -- A client that shows no want of memory: what it did before shows none either, and what comes next shows none.
-use Rattle.std.proofs.Common.{◌≡◌, ℕ, zero, suc, ◌<◌, ◌==◌, Bool, true, false, if◌then◌else◌, eqb, List, [], ◌∷◌, length, map, slice_get, Option, Some, None, is_some, refl, sym, ap, subst, ◌∙◌, inl, inr, ◌⊎◌, arith}
+use Rattle.std.proofs.Common.{◌≡◌, ℕ, zero, suc, ◌<◌, ◌==◌, Bool, true, false, if◌then◌else◌, eqb, List, [], ◌∷◌, length, map, slice_get, Option, Some, None, refl, sym, ap, subst, ◌∙◌, inl, inr, ◌⊎◌, arith}
 use Rattle.inf_base.specs.declared.id.Id.{Id}
 use Rattle.std.specs.List.{list_any}
 use Rattle.std.proofs.lemmas.Bool.Decides.{Decides-eqb}
@@ -12,15 +12,16 @@ use Rattle.inf_base.specs.declared.key.LookKey.{LookKey}
 use Rattle.inf_base.specs.declared.key.LookKey.TheVariants as look
 use Rattle.inf_base.specs.declared.setup.ClientLine.{ClientLine}
 use Rattle.inf_duty.specs.After.{client_after}
-use Rattle.inf_duty.specs.Duty.{asked, asks, at_call, begun, found_at, given_up, given_up_in, is_acting, lifts, next_step}
-use Rattle.inf_duty.specs.Outcome.{results_of, so_far, unanswered}
+use Rattle.inf_duty.specs.Duty.{asked, asks, at_call, begun, found_at, given_up, given_up_in, lifts, may_give_up, next_step}
+use Rattle.inf_duty.specs.Messages.{is_winding}
+use Rattle.inf_duty.specs.Outcome.{come_to, results_of, so_far, unanswered}
 use Rattle.inf_duty.specs.Start.{starting}
 use Rattle.inf_duty.specs.World.{World}
 use Rattle.inf_flow_dir.specs.Client.{ClientState, Ending, Sent, Stage, act, answers, compose, ended, result_of, retries, round, told_at, winds, wound}
 use Rattle.inf_flow_dir.specs.Flow.{Flow, Who, clean_up, finishes, links, makes, message_of, reserves, seals, unlinks}
-use Rattle.inf_flow_dir.specs.Group.{Course, composed, composed_stage, course_of, group, keys_of, lookup_of, next_course}
+use Rattle.inf_flow_dir.specs.Group.{Course, composed, composed_stage, group, keys_of, lookup_of, next_course}
 use Rattle.inf_flow_dir.specs.Heard.{heard}
-use Rattle.inf_flow_dir.specs.Turn.{Turn, goes_on, recorded, served, turn_at, turned, wants_memory, winds_up}
+use Rattle.inf_flow_dir.specs.Turn.{Turn, goes_on, is_wanting, recorded, served, turn_at, turned, wants_memory, winds_up}
 use Rattle.inf_message.specs.declared.ask.Ask.{Ask}
 use Rattle.inf_message.specs.declared.event.Event.{Event}
 use Rattle.inf_message.specs.declared.event.Event.TheVariants as event
@@ -29,13 +30,14 @@ use Rattle.inf_message.specs.declared.reply.Reply.TheVariants as reply
 use Rattle.inf_message.specs.declared.request.Request.{Request}
 use Rattle.inf_message.specs.declared.step.Message.{Message}
 use Rattle.inf_message.specs.History.{Told, or_told, told_reply}
+use Rattle.inf_duty.proofs.BegunFacts.{winding_goes}
 use Rattle.inf_duty.proofs.BegunKept.{if_both}
 use Rattle.inf_laws_history.proofs.ClientSteps.{Lasts, begun_lasts, by_answer, turned_lasts}
 use Rattle.inf_laws_history.proofs.PendingFacts.{goes}
 use Rattle.inf_sched.specs.Laws.{is_no_mem, is_no_memory, wanted}
 use Rattle.inf_sched.specs.Scene.{planned_from}
 use Rattle.inf_sched.proofs.BuiltFacts.{HasNotGivenUp, IsBuilt, IsBuiltFor, false_before, false_behind, neither, none_before, none_behind, none_joined}
-use Rattle.inf_sched.proofs.TurnFacts.{EndingHas, IsOfReplies, composed_has, StageHas, TurnHas, turn_has, wants}
+use Rattle.inf_sched.proofs.TurnFacts.{EndingHas, IsOfReplies, composed_has, StageHas, TurnHas, turn_has}
 
 abbrev pub IsNoWant : Answer → Type 0
 IsNoWant given = is_no_memory given ≡ false
@@ -70,20 +72,25 @@ from_results s built none = record {
   stage = none_left s s.left built (none_behind s.results (unanswered s.left s) none);
 }
 
-so_far_none : (s : ClientState) (stage : Stage) → StageHas IsNoWant stage → is_no_memory (so_far stage s).answer ≡ false
-so_far_none s (winds (answers given place) m ms) none = none
-so_far_none s (winds retries m ms) none = refl
-so_far_none s compose none = refl
-so_far_none s (round keys) none = refl
-so_far_none s (act flow) none = refl
+so_far_none : (s : ClientState) (stage : Stage) → is_wanting s.sent ≡ false → StageHas IsNoWant stage
+    → is_no_memory (so_far stage s).answer ≡ false
+so_far_none s (winds (answers given place) m ms) plain none = none
+so_far_none s (winds retries m ms) plain none = refl
+so_far_none s compose plain none = refl
+so_far_none s (round keys) plain none = ap (λ b. is_no_memory (come_to b)) plain
+so_far_none s (act flow) plain none = refl
 
-unanswered_none : (left : List Call) (s : ClientState) → StageHas IsNoWant s.stage → HasNotGivenUp (unanswered left s)
-unanswered_none [] s none = refl
-unanswered_none (call ∷ left) s none =
-    neither (is_no_memory (so_far s.stage s).answer) _ (so_far_none s s.stage none) (unanswered_none left (ended answer.Unanswered None s) tt)
+unanswered_none : (left : List Call) (s : ClientState) → is_wanting s.sent ≡ false → StageHas IsNoWant s.stage
+    → HasNotGivenUp (unanswered left s)
+unanswered_none [] s plain none = refl
+unanswered_none (call ∷ left) s plain none =
+    neither (is_no_memory (so_far s.stage s).answer) _ (so_far_none s s.stage plain none)
+    (unanswered_none left (ended answer.Unanswered None s) refl tt)
 
-pub to_results : (s : ClientState) → ShowsNoWant s → HasNotGivenUp (results_of s)
-to_results s none = none_joined s.results (unanswered s.left s) none.results (unanswered_none s.left s none.stage)
+-- where no answer to its round says so either
+pub to_results : (s : ClientState) → is_wanting s.sent ≡ false → ShowsNoWant s → HasNotGivenUp (results_of s)
+to_results s plain none =
+    none_joined s.results (unanswered s.left s) none.results (unanswered_none s.left s plain none.stage)
 
 -- ---- before a step
 
@@ -156,14 +163,14 @@ at_call_kept : (digest : List ℕ → Id) (number : ℕ) (asked : Request) (call
     → KeptOn digest s (at_call digest number asked calls s)
 at_call_kept digest number asked [] s none = inl refl
 at_call_kept digest number asked (call ∷ calls) s none =
-    by (at_call_kept digest number asked calls (given_up s)) (eqb number s.number) (is_some (course_of call)) none
+    by (at_call_kept digest number asked calls (given_up s)) (eqb number s.number) (may_give_up s) none
   where
     later : ClientState
     later = at_call digest number asked calls (given_up s)
 
     by : (ShowsNoWant later → KeptOn digest (given_up s) later) → (b c : Bool) → ShowsNoWant (if b then found_at digest asked s else (if c then later else s))
         → KeptOn digest s (if b then found_at digest asked s else (if c then later else s))
-    by rest true c none = found_kept digest s (lifts asked) (is_acting s.stage) none
+    by rest true c none = found_kept digest s (lifts asked) (may_give_up s) none
     by rest false true none =
         let kept : KeptOn digest (given_up s) later = rest none in
         subst (λ t. KeptOn digest t later) (before_giving_up s s.stage (before_kept digest (given_up s) later kept none)) kept
@@ -228,7 +235,7 @@ no_key_lifts digest who (Some course) m found =
     ap (λ (n : Message). lifts n.request) (sym same)
 
 found_composed : (digest : List ℕ → Id) (asked : Request) (s : ClientState) → lifts asked ≡ false → found_at digest asked s ≡ composed digest s
-found_composed digest asked s no_lift = ap (λ b. if b then (if is_acting s.stage then given_up s else s) else composed digest s) no_lift
+found_composed digest asked s no_lift = ap (λ b. if b then (if may_give_up s then given_up s else s) else composed digest s) no_lift
 
 -- an ask that lifts something is of a client that winds up
 finds_composed : (digest : List ℕ → Id) (s : ClientState) (stage : Stage) (m : Message) → s.stage ≡ stage → slice_get (group s.who (composed_stage digest s stage)) 0 ≡ Some m
@@ -240,8 +247,8 @@ finds_composed digest s (act flow) m is found =
     found_composed digest m.request s (subst (λ (n : Message). lifts n.request ≡ false) same (no_lift s.who flow))
 finds_composed digest s (winds ending m ms) n is found =
     let same : s ≡ composed digest s = sym (ap (λ (stage : Stage). record s { stage = stage }) (ap (composed_stage digest s) is ∙ sym is)) in
-    if_both (λ (t : ClientState). t ≡ composed digest s) (lifts n.request) (if is_acting s.stage then given_up s else s) (composed digest s)
-    (ap (λ b. if b then given_up s else s) (ap is_acting is) ∙ same) refl
+    if_both (λ (t : ClientState). t ≡ composed digest s) (lifts n.request) (if may_give_up s then given_up s else s) (composed digest s)
+    (ap (λ b. if b then given_up s else s) (winding_goes s (ap is_winding is)) ∙ same) refl
 
 abbrev message_to : ℕ → Request → Message
 message_to number what = record { number = number; request = what }
@@ -262,7 +269,7 @@ begun_planned digest s number ask [] is next =
         → at_call digest ask.from.number ask.request left s ≡ composed digest s
     at_hand [] none own found = absurd (omega arith)
     at_hand (call ∷ calls) some own found =
-        ap (λ b. if b then found_at digest ask.request s else (if is_some (course_of call) then at_call digest ask.from.number ask.request calls (given_up s) else s)) own
+        ap (λ b. if b then found_at digest ask.request s else (if may_give_up s then at_call digest ask.from.number ask.request calls (given_up s) else s)) own
         ∙ found
 
 no_want : IsOfReplies IsNoWant
@@ -286,7 +293,7 @@ after_turn : (turn : Turn) (s : ClientState) → TurnHas IsNoWant turn → HasNo
 after_turn (goes_on next) s none before = record { results = before; stage = none }
 after_turn (winds_up ending more) s none before = after_wound ending more s none before
 
-pub after_served : (digest : List ℕ → Id) (place : ℕ) (told : Told) (s : ClientState) → wants (map (told_at place told) s.sent) ≡ false → ShowsNoWant s → ShowsNoWant (served digest place told s)
+pub after_served : (digest : List ℕ → Id) (place : ℕ) (told : Told) (s : ClientState) → is_wanting (map (told_at place told) s.sent) ≡ false → ShowsNoWant s → ShowsNoWant (served digest place told s)
 after_served digest place told s plain none =
     by_answer digest ShowsNoWant place told s
     (λ apart. none)
@@ -305,15 +312,15 @@ first_told : (earlier : Option Told) (told : Told) → wants_memory earlier ≡ 
 first_told None told before now = now
 first_told (Some earlier) told before now = before
 
-pub plain_recorded : (place : ℕ) (told : Told) (sent : List Sent) → wants_memory (Some told) ≡ false → wants sent ≡ false → wants (map (told_at place told) sent) ≡ false
+pub plain_recorded : (place : ℕ) (told : Told) (sent : List Sent) → wants_memory (Some told) ≡ false → is_wanting sent ≡ false → is_wanting (map (told_at place told) sent) ≡ false
 plain_recorded place told [] now before = refl
 plain_recorded place told (x ∷ sent) now before =
-    neither (wants_memory (told_at place told x).told) (wants (map (told_at place told) sent))
+    neither (wants_memory (told_at place told x).told) (is_wanting (map (told_at place told) sent))
     (if_both (λ (y : Sent). wants_memory y.told ≡ false) (x.place == place) (record x { told = Some (or_told x.told told) }) x
     (first_told x.told told (false_before _ _ before) now) (false_before _ _ before))
     (plain_recorded place told sent now (false_behind (wants_memory x.told) _ before))
 
-wants_last : (digest : List ℕ → Id) → Lasts digest (λ s. wants s.sent ≡ false)
+wants_last : (digest : List ℕ → Id) → Lasts digest (λ s. is_wanting s.sent ≡ false)
 wants_last digest = record {
   composing = λ s plain. plain;
   ending = λ given place s plain. refl;
@@ -321,27 +328,27 @@ wants_last digest = record {
   going_on = λ next s plain. refl;
 }
 
-starting_plain : (world : World) (client : ℕ) (line : Option ClientLine) → wants (starting world client line).sent ≡ false
+starting_plain : (world : World) (client : ℕ) (line : Option ClientLine) → is_wanting (starting world client line).sent ≡ false
 starting_plain world client None = refl
 starting_plain world client (Some line) = refl
 
 -- where no server wanted memory, no client was told so
-pub plain_after : (world : World) (client : ℕ) (h : List Event) → list_any wanted h ≡ false → wants (client_after world client h).sent ≡ false
+pub plain_after : (world : World) (client : ℕ) (h : List Event) → list_any wanted h ≡ false → is_wanting (client_after world client h).sent ≡ false
 plain_after world client [] plain = starting_plain world client (slice_get world.setup.clients client)
 plain_after world client (event.Ask number ask ∷ h) plain =
     let s : ClientState = client_after world client h in
-    let before : wants s.sent ≡ false = plain_after world client h plain in
-    if_both (λ (t : ClientState). wants t.sent ≡ false) (eqb ask.from.client client) (asked world.digest (suc (length h)) ask s) s
+    let before : is_wanting s.sent ≡ false = plain_after world client h plain in
+    if_both (λ (t : ClientState). is_wanting t.sent ≡ false) (eqb ask.from.client client) (asked world.digest (suc (length h)) ask s) s
     (list_any-append (λ (x : Sent). wants_memory x.told) (begun world.digest ask s.sent s).sent _
-    ∙ neither (wants (begun world.digest ask s.sent s).sent) false (begun_lasts world.digest (λ t. wants t.sent ≡ false) (wants_last world.digest) ask s.sent s before) refl)
+    ∙ neither (is_wanting (begun world.digest ask s.sent s).sent) false (begun_lasts world.digest (λ t. is_wanting t.sent ≡ false) (wants_last world.digest) ask s.sent s before) refl)
     before
 plain_after world client (event.Serve number ask_place given ∷ h) plain =
     let s : ClientState = client_after world client h in
     let told : Told = told_reply (suc (length h)) (heard given) in
-    let now : wants (map (told_at ask_place told) s.sent) ≡ false =
+    let now : is_wanting (map (told_at ask_place told) s.sent) ≡ false =
     plain_recorded ask_place told s.sent (plain_told (suc (length h)) given (false_before _ _ plain))
     (plain_after world client h (false_behind (is_no_mem given) _ plain)) in
-    by_answer world.digest (λ t. wants t.sent ≡ false) ask_place told s
+    by_answer world.digest (λ t. is_wanting t.sent ≡ false) ask_place told s
     (λ apart. plain_after world client h (false_behind (is_no_mem given) _ plain))
     (λ here going. now)
-    (λ here over. turned_lasts world.digest (λ t. wants t.sent ≡ false) (wants_last world.digest) (turn_at world.digest (recorded ask_place told s) s.stage) (recorded ask_place told s) now)
+    (λ here over. turned_lasts world.digest (λ t. is_wanting t.sent ≡ false) (wants_last world.digest) (turn_at world.digest (recorded ask_place told s) s.stage) (recorded ask_place told s) now)

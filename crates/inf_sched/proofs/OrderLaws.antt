@@ -6,7 +6,7 @@ use Rattle.inf_base.specs.declared.setup.ClientLine.{ClientLine}
 use Rattle.inf_flow_dir.specs.Client.{ClientState, has_place}
 use Rattle.inf_laws_history.specs.Legal.{Legal}
 use Rattle.inf_duty.specs.After.{client_after}
-use Rattle.inf_duty.specs.Outcome.{Agrees, Outcome, OutcomeFrom, may_give_up}
+use Rattle.inf_duty.specs.Outcome.{Agrees, Outcome, OutcomeFrom, may_pass}
 use Rattle.inf_flow_dir.specs.Heard.{heard}
 use Rattle.inf_duty.specs.World.{World}
 use Rattle.inf_laws_history.proofs.ByIndex.{got_apart}
@@ -40,7 +40,7 @@ is_legal world order h results by =
 pub record IsLeft (digest : List ℕ → Id) (s : ClientState) : Type 0 where
   pub between : s.sent ≡ []
   pub was_to_ask : is_ask (next_step (planned digest s)) ≡ true
-  pub free : may_give_up s ≡ true
+  pub free : may_pass s ≡ true
 
 abbrev pub GoneAreLeft : World → Scene → Type 0
 GoneAreLeft world scene = (client : ℕ) → is_gone scene client ≡ true → IsLeft world.digest (client_in world scene client)

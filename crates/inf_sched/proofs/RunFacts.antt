@@ -11,7 +11,7 @@ use Rattle.inf_core.specs.Core.{world_in}
 use Rattle.inf_duty.specs.Duty.{asked, next_step}
 use Rattle.inf_laws_history.specs.Legal.{Legal}
 use Rattle.inf_duty.specs.After.{client_after}
-use Rattle.inf_duty.specs.Outcome.{may_give_up}
+use Rattle.inf_duty.specs.Outcome.{may_pass}
 use Rattle.inf_duty.specs.World.{World}
 use Rattle.inf_laws_history.proofs.DrivenFacts.{others_stay}
 use Rattle.inf_message.specs.declared.ask.Ask.{Ask}
@@ -212,7 +212,7 @@ pub gives_up : (world : World) (h after : List Event) (client : ℕ) (clients : 
 gives_up world h after client clients a b at is did = inr (record {
   can = wants_same world h clients client a at is ∙ did.asking;
   between = ap (λ (s : ClientState). s.sent) (sym (state_here (client_after world client h) a is did.here)) ∙ did.between;
-  free = ap may_give_up (sym (state_here (client_after world client h) a is did.here)) ∙ did.free;
+  free = ap may_pass (sym (state_here (client_after world client h) a is did.here)) ∙ did.free;
   gone = ap₂ (λ g gs. record { history = g; gone = gs }) did.same
       (map-set (λ (x : Client). x.gone) clients client b ∙ ap (λ g. slice_set (gone_of clients) client g) did.gone);
 })

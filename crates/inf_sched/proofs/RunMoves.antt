@@ -3,6 +3,7 @@ use Rattle.std.proofs.Common.{◌≡◌, ℕ, zero, suc, ◌+◌, ◌<◌, Bool,
 use Rattle.std.proofs.lemmas.List.{length-map}
 use Rattle.inf_base.specs.declared.setup.ClientLine.{ClientLine}
 use Rattle.inf_flow_dir.specs.Client.{ClientState}
+use Rattle.inf_flow_dir.specs.Turn.{is_wanting}
 use Rattle.inf_duty.specs.Start.{starting}
 use Rattle.inf_duty.specs.World.{World}
 use Rattle.inf_order.specs.declared.moves.Move.{Move}
@@ -15,7 +16,7 @@ use Rattle.inf_sched.specs.Straight.{alone, ask_on, call, calls, made, only_if, 
 use Rattle.inf_sched.specs.Waiting.{Posting, is_by, is_for, oldest}
 use Rattle.inf_sched.specs.declared.limits.TheConstants.{MOST_EVENTS}
 use Rattle.inf_sched.proofs.BuiltFacts.{HasNotGivenUp, none_joined}
-use Rattle.inf_sched.proofs.CalmFacts.{ShowsNoWant, to_results}
+use Rattle.inf_sched.proofs.CalmFacts.{ShowsNoWant, plain_after, to_results}
 use Rattle.inf_sched.proofs.OrderLaws.{starts_present}
 use Rattle.inf_sched.proofs.RunSteps.{Comes, ask_comes, serve_comes}
 use Rattle.inf_sched.proofs.StraightSteps.{IsCalm}
@@ -137,9 +138,10 @@ opening_calm world = record {
   answers = λ client within. starting_none world client (slice_get world.setup.clients client);
 }
 
-came_to_none : (gone : Bool) (s : ClientState) → gone ≡ false → ShowsNoWant s → HasNotGivenUp (came_to gone s)
-came_to_none true s here none = absurd (cc)
-came_to_none false s here none = to_results s none
+came_to_none : (gone : Bool) (s : ClientState) → gone ≡ false → is_wanting s.sent ≡ false → ShowsNoWant s
+    → HasNotGivenUp (came_to gone s)
+came_to_none true s here plain none = absurd (cc)
+came_to_none false s here plain none = to_results s plain none
 
 one_on : (first k : ℕ) → first + suc k ≡ first + 1 + k
 one_on first k = omega arith
@@ -170,6 +172,7 @@ makes_calmly world order =
         replies = run.calm.replies;
         answers = results_none world scene 0 world.setup.clients (λ k within.
             subst (CameToNone world scene) (from_zero k)
-            (came_to_none (is_gone scene k) (client_in world scene k) (run.calm.here k within) (run.calm.answers k within)));
+            (came_to_none (is_gone scene k) (client_in world scene k) (run.calm.here k within)
+            (plain_after world k scene.history run.calm.replies) (run.calm.answers k within)));
       };
     }

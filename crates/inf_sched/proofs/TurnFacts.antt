@@ -1,7 +1,6 @@
 -- Which answers the turns of a client bring.
 use Rattle.std.proofs.Common.{◌≡◌, ℕ, ◌==◌, Bool, true, false, if◌then◌else◌, List, [], ◌∷◌, ◌++◌, Option, Some, None, refl, ap}
 use Rattle.inf_base.specs.declared.id.Id.{Id}
-use Rattle.std.specs.List.{list_any}
 use Rattle.inf_base.specs.declared.answer.Answer.{Answer}
 use Rattle.inf_base.specs.declared.answer.Answer.TheVariants as answer
 use Rattle.inf_base.specs.declared.caller.CallRef.{CallRef}
@@ -14,7 +13,7 @@ use Rattle.inf_base.specs.Same.{dir_of}
 use Rattle.inf_flow_dir.specs.Client.{ClientState, Ending, Sent, Stage, act, answers, compose, retries, round, winds}
 use Rattle.inf_flow_dir.specs.Flow.{Flow, Who, birth_of, finishes, links, makes, reserves, seals, unlinks}
 use Rattle.inf_flow_dir.specs.Group.{Course, composed_stage, keys_of, next_course}
-use Rattle.inf_flow_dir.specs.Turn.{Next, Turn, act_turn, after_act, after_make, after_round, by_next, fails, follow, from_root, goes_on, is_busy, links_to, next_entry, steps, stops, told_entry, turn_at, wants_memory, winds_up}
+use Rattle.inf_flow_dir.specs.Turn.{Next, Turn, act_turn, after_act, after_make, after_round, by_next, fails, follow, from_root, goes_on, is_busy, is_wanting, links_to, next_entry, steps, stops, told_entry, turn_at, winds_up}
 use Rattle.inf_message.specs.declared.op.Op.TheVariants as op
 use Rattle.inf_message.specs.declared.reply.Reply.{Reply}
 use Rattle.inf_message.specs.declared.reply.Reply.TheVariants as reply
@@ -52,10 +51,6 @@ pub record IsOfReplies (P : Answer → Type 0) : Type 0 where
   pub refused : (error : Errno) → P (answer.Refused error)
   pub again : (by : CallRef) → P (answer.Again by)
   pub clash : (own kept : Triple) → P (answer.IdClash own kept)
-
--- an answer of the group is that memory is wanting
-abbrev pub wants : List Sent → Bool
-wants sent = list_any (λ (x : Sent). wants_memory x.told) sent
 
 module _ (digest : List ℕ → Id) (P : Answer → Type 0) (of : IsOfReplies P) where
   -- ---- after a message of a flow
@@ -129,37 +124,37 @@ module _ (digest : List ℕ → Id) (P : Answer → Type 0) (of : IsOfReplies P)
   -- ---- after any group
 
   first_has : (course : Course) (place : ℕ) (told : Option Told) (xs : List Sent)
-      → (wants (record { place = place; told = told } ∷ xs) ≡ true → P answer.NoMemory)
+      → (is_wanting (record { place = place; told = told } ∷ xs) ≡ true → P answer.NoMemory)
       → TurnHas P (after_round (Some course) (record { place = place; told = told } ∷ xs))
   first_has course place None xs wanting =
-      turn_if (wants (record { place = place; told = None } ∷ xs)) (winds_up (answers answer.NoMemory None) []) (winds_up retries []) wanting tt
+      turn_if (is_wanting (record { place = place; told = None } ∷ xs)) (winds_up (answers answer.NoMemory None) []) (winds_up retries []) wanting tt
   first_has course place (Some told) xs wanting =
-      turn_if (wants (record { place = place; told = Some told } ∷ xs)) (winds_up (answers answer.NoMemory None) []) (from_root course xs told told.reply) wanting
+      turn_if (is_wanting (record { place = place; told = Some told } ∷ xs)) (winds_up (answers answer.NoMemory None) []) (from_root course xs told told.reply) wanting
       (root_has course xs told told.reply)
 
-  round_has : (course : Option Course) (sent : List Sent) → (wants sent ≡ true → P answer.NoMemory) → TurnHas P (after_round course sent)
+  round_has : (course : Option Course) (sent : List Sent) → (is_wanting sent ≡ true → P answer.NoMemory) → TurnHas P (after_round course sent)
   round_has None sent wanting = tt
   round_has (Some course) [] wanting = tt
   round_has (Some course) (x ∷ xs) wanting = first_has course x.place x.told xs wanting
 
   wanted_first : (place serve_place : ℕ) (given : Reply) (xs : List Sent)
-      → (wants (record { place = place; told = Some (record { serve_place = serve_place; reply = given }) } ∷ xs) ≡ true → P answer.NoMemory)
+      → (is_wanting (record { place = place; told = Some (record { serve_place = serve_place; reply = given }) } ∷ xs) ≡ true → P answer.NoMemory)
       → given ≡ reply.NoMem → P answer.NoMemory
   wanted_first place serve_place given xs wanting is =
-      wanting (ap (λ (r : Reply). wants (record { place = place; told = Some (record { serve_place = serve_place; reply = r }) } ∷ xs)) is)
+      wanting (ap (λ (r : Reply). is_wanting (record { place = place; told = Some (record { serve_place = serve_place; reply = r }) } ∷ xs)) is)
 
   told_has : (who : Who) (flow : Flow) (place : ℕ) (told : Option Told) (xs : List Sent)
-      → (wants (record { place = place; told = told } ∷ xs) ≡ true → P answer.NoMemory)
+      → (is_wanting (record { place = place; told = told } ∷ xs) ≡ true → P answer.NoMemory)
       → TurnHas P (act_turn digest who flow (record { place = place; told = told } ∷ xs))
   told_has who flow place None xs wanting = tt
   told_has who flow place (Some told) xs wanting =
       act_has who flow place told.serve_place told.reply (wanted_first place told.serve_place told.reply xs wanting)
 
-  flow_has : (who : Who) (flow : Flow) (sent : List Sent) → (wants sent ≡ true → P answer.NoMemory) → TurnHas P (act_turn digest who flow sent)
+  flow_has : (who : Who) (flow : Flow) (sent : List Sent) → (is_wanting sent ≡ true → P answer.NoMemory) → TurnHas P (act_turn digest who flow sent)
   flow_has who flow [] wanting = tt
   flow_has who flow (x ∷ xs) wanting = told_has who flow x.place x.told xs wanting
 
-  pub turn_has : (s : ClientState) (stage : Stage) → StageHas P stage → (wants s.sent ≡ true → P answer.NoMemory) → TurnHas P (turn_at digest s stage)
+  pub turn_has : (s : ClientState) (stage : Stage) → StageHas P stage → (is_wanting s.sent ≡ true → P answer.NoMemory) → TurnHas P (turn_at digest s stage)
   turn_has s compose has wanting = tt
   turn_has s (round keys) has wanting = round_has (next_course s.left) s.sent wanting
   turn_has s (act flow) has wanting = flow_has s.who flow s.sent wanting

@@ -1,5 +1,5 @@
 -- A call is unanswered exactly where the order's moves left it undecided.
-use Rattle.std.proofs.Common.{◌≡◌, ◌≢◌, ℕ, ◌+◌, ◌<◌, ◌≤◌, Bool, true, false, List, [], ◌∷◌, length, Option, None, All, refl, sym, ap, subst, ◌∙◌, arith}
+use Rattle.std.proofs.Common.{◌≡◌, ◌≢◌, ℕ, ◌+◌, ◌<◌, ◌≤◌, Bool, true, false, not, List, [], ◌∷◌, length, Option, None, All, refl, sym, ap, subst, ◌∙◌, arith}
 use Rattle.std.proofs.lemmas.List.Elements.{All-append, All-cons, All-nil}
 use Rattle.inf_base.specs.declared.id.Id.{Id}
 use Rattle.inf_base.specs.declared.answer.Answer.{Answer}
@@ -7,15 +7,16 @@ use Rattle.inf_base.specs.declared.answer.Answer.TheVariants as answer
 use Rattle.inf_base.specs.declared.call.Call.{Call}
 use Rattle.inf_base.specs.declared.caller.CallRef.{CallRef}
 use Rattle.inf_base.specs.declared.setup.ClientLine.{ClientLine}
-use Rattle.inf_duty.specs.Outcome.{results_of, so_far, unanswered}
+use Rattle.inf_duty.specs.Outcome.{come_to, results_of, so_far, unanswered}
 use Rattle.inf_duty.specs.World.{World}
 use Rattle.inf_flow_dir.specs.Client.{ClientState, Stage, act, answers, compose, ended, retries, round, winds}
+use Rattle.inf_flow_dir.specs.Turn.{is_wanting}
 use Rattle.inf_laws_history.proofs.Numbered.{IsNumbered, all_given_up_is, numbered_after, so_far_call, total_of}
 use Rattle.inf_laws_history.proofs.PlacedAnswers.{AllAre, IsOfServes, StageIs, all_given_up_are, answers_after}
 use Rattle.inf_message.specs.declared.call_result.CallResult.{CallResult}
 use Rattle.inf_message.specs.declared.event.Event.{Event}
 use Rattle.inf_order.specs.declared.moves.Move.{Move}
-use Rattle.inf_sched.specs.Endings.{IsLeftOpen, is_open, left_by, standing_in}
+use Rattle.inf_sched.specs.Endings.{IsLeftOpen, is_open, is_undecided, left_by, standing_in}
 use Rattle.inf_sched.specs.Order.{ByOrder, came_to, results_from}
 use Rattle.inf_sched.specs.Scene.{Scene, client_in, is_gone}
 
@@ -41,7 +42,7 @@ record IsLeft (s : ClientState) (result : CallResult) : Type 0 where
   before : ℕ
   numbered : result.call.number ≡ s.number + before
   left : before < length s.left
-  undecided : before ≡ 0 → is_open s.stage ≡ true
+  undecided : before ≡ 0 → is_undecided s ≡ true
 
 -- the result of a call of the client, unanswered exactly where it is left so
 record IsExact (client : ℕ) (s : ClientState) (result : CallResult) : Type 0 where
@@ -69,18 +70,27 @@ module _ (client : ℕ) (s : ClientState) where
       (behind calls (ended answer.Unanswered None t) (before + 1) own (omega arith) (omega (arith, number)) (omega (arith, within)))
 
   -- the one under way
-  open_if : (stage : Stage) → StageIs IsAnswer stage → (so_far stage s).answer ≡ answer.Unanswered → is_open stage ≡ true
+  open_if : (stage : Stage) → StageIs IsAnswer stage → (so_far stage s).answer ≡ answer.Unanswered
+      → is_open s.sent stage ≡ true
   open_if (winds (answers given at) m ms) is e = absurd (is e)
   open_if (winds retries m ms) is e = refl
   open_if compose is e = refl
-  open_if (round keys) is e = refl
+  open_if (round keys) is e = by (is_wanting s.sent) e
+    where
+      by : (b : Bool) → come_to b ≡ answer.Unanswered → not b ≡ true
+      by true e = absurd (cc)
+      by false e = refl
   open_if (act flow) is e = refl
 
-  open_so : (stage : Stage) → is_open stage ≡ true → (so_far stage s).answer ≡ answer.Unanswered
+  open_so : (stage : Stage) → is_open s.sent stage ≡ true → (so_far stage s).answer ≡ answer.Unanswered
   open_so (winds (answers given at) m ms) is = absurd (cc)
   open_so (winds retries m ms) is = refl
   open_so compose is = refl
-  open_so (round keys) is = refl
+  open_so (round keys) is = by (is_wanting s.sent) is
+    where
+      by : (b : Bool) → not b ≡ true → come_to b ≡ answer.Unanswered
+      by true is = absurd (cc)
+      by false is = refl
   open_so (act flow) is = refl
 
   first_exact : s.who.client ≡ client → 0 < length s.left → StageIs IsAnswer s.stage → IsExact client s (so_far s.stage s)

@@ -1,8 +1,9 @@
 -- The calls that an order of moves leaves undecided.
-use Rattle.std.specs.Prelude.{◌≡◌, ℕ, ◌+◌, ◌<◌, Bool, true, false, length}
+use Rattle.std.specs.Prelude.{◌≡◌, ℕ, ◌+◌, ◌<◌, Bool, true, false, not, List, length}
 use Rattle.inf_duty.specs.Outcome.{all_given_up}
 use Rattle.inf_duty.specs.World.{World}
-use Rattle.inf_flow_dir.specs.Client.{ClientState, Stage, answers, winds}
+use Rattle.inf_flow_dir.specs.Client.{ClientState, Sent, Stage, answers, round, winds}
+use Rattle.inf_flow_dir.specs.Turn.{is_wanting}
 use Rattle.inf_message.specs.declared.call_result.CallResult.{CallResult}
 use Rattle.inf_sched.specs.Scene.{Scene, client_in, is_gone}
 
@@ -16,9 +17,13 @@ abbrev pub standing_in : World → Scene → ℕ → ClientState
 standing_in world scene client = left_by (is_gone scene client) (client_in world scene client)
 
 -- no answer has come to the call under way, nor want of memory
-abbrev pub is_open : Stage → Bool
-is_open (winds (answers given place) m ms) = false
-is_open other_stage = true
+abbrev pub is_open : List Sent → Stage → Bool
+is_open sent (round keys) = not (is_wanting sent)
+is_open sent (winds (answers given place) m ms) = false
+is_open sent other_stage = true
+
+abbrev pub is_undecided : ClientState → Bool
+is_undecided s = is_open s.sent s.stage
 
 -- the result is of a call that its client has left, and that nothing has decided
 pub record IsLeftOpen (world : World) (scene : Scene) (result : CallResult) : Type 0 where
@@ -26,4 +31,4 @@ pub record IsLeftOpen (world : World) (scene : Scene) (result : CallResult) : Ty
   pub before : ℕ
   pub numbered : result.call.number ≡ (standing_in world scene result.call.client).number + before
   pub left : before < length (standing_in world scene result.call.client).left
-  pub undecided : before ≡ 0 → is_open (standing_in world scene result.call.client).stage ≡ true
+  pub undecided : before ≡ 0 → is_undecided (standing_in world scene result.call.client) ≡ true

@@ -5,7 +5,7 @@ use Rattle.inf_duty.specs.Start.{start}
 use Rattle.inf_core.specs.Core.{IsSameRun, Running}
 use Rattle.inf_laws_history.specs.Legal.{Legal, MayAsk, MayServe}
 use Rattle.inf_duty.specs.After.{client_after}
-use Rattle.inf_duty.specs.Outcome.{all_given_up, may_give_up, results_of}
+use Rattle.inf_duty.specs.Outcome.{all_given_up, may_pass, results_of}
 use Rattle.inf_duty.specs.World.{World}
 use Rattle.inf_message.specs.declared.ask.Ask.{Ask}
 use Rattle.inf_message.specs.declared.call_result.CallResult.{CallResult}
@@ -97,7 +97,7 @@ pub record HasGivenUp (world : World) (client : ℕ) (h after : List Event) (a b
   pub here : a.gone ≡ false
   pub asking : wants_to_ask world.digest a ≡ true
   pub between : a.state.sent ≡ []
-  pub free : may_give_up a.state ≡ true
+  pub free : may_pass a.state ≡ true
   pub same : after ≡ h
   pub gone : b.gone ≡ true
   pub asks : b.log.asks ≡ a.log.asks

@@ -7,7 +7,7 @@ pub use Rattle.inf_duty.specs.ClientStep.{is_ask}
 use Rattle.inf_duty.specs.Duty.{next_step}
 use Rattle.inf_laws_history.specs.Legal.{MayAsk, MayServe}
 use Rattle.inf_duty.specs.After.{client_after}
-use Rattle.inf_duty.specs.Outcome.{may_give_up}
+use Rattle.inf_duty.specs.Outcome.{may_pass}
 use Rattle.inf_duty.specs.World.{World}
 use Rattle.inf_message.specs.declared.ask.Ask.{Ask}
 use Rattle.inf_message.specs.declared.event.Event.{Event}
@@ -55,7 +55,7 @@ pub record MakesAsk (world : World) (client : ℕ) (old new : Scene) : Type 0 wh
 pub record GivesUp (world : World) (client : ℕ) (old new : Scene) : Type 0 where
   pub can : can_ask world old client ≡ true
   pub between : (client_in world old client).sent ≡ []
-  pub free : may_give_up (client_in world old client) ≡ true
+  pub free : may_pass (client_in world old client) ≡ true
   pub gone : new ≡ record { history = old.history; gone = slice_set old.gone client true }
 
 abbrev pub Asks : World → ℕ → Scene → Scene → Type 0

@@ -2,14 +2,14 @@
 
 ghost use Rattle.std.specs.Prelude.{ℕ, List, ◌≡◌, ◌≢◌, ◌+◌, ◌<◌, ◌^◌, [], is_some, true, false, Some, OnOk, OnErr};
 ghost use Rattle.inf_base.specs.declared.id.Id.{Id};
-ghost use Rattle.inf_duty.specs.Duty.{asked, at_call, begun, found_at, lifts};
-ghost use Rattle.inf_duty.specs.Messages.{is_compose, is_winding};
+ghost use Rattle.inf_duty.specs.Duty.{asked, at_call, begun, found_at, lifts, may_give_up};
+ghost use Rattle.inf_duty.specs.Messages.{is_compose};
 ghost use Rattle.inf_flow_dir.specs.Client.{placed};
 ghost use Rattle.inf_flow_dir.specs.Draft.{course_with};
 ghost use Rattle.inf_flow_dir.specs.Group.{composed, next_course};
 
 use super::ClientState;
-use crate::group::{is_acting, is_compose, is_round, is_winding};
+use crate::group::{is_compose, is_round};
 use crate::recording::make_rooms;
 use crate::standing::Standing;
 use inf_base::{NoMemory, Place};
@@ -66,24 +66,23 @@ impl ClientState {
         }
     }
 
-    /// Gives up the calls before the one of this number, up to one behind which something is to be cleaned up.
-    #[tactic(auto, using(crate::proofs::BegunFacts::gives_up, crate::proofs::BegunFacts::gives_up_less, crate::proofs::BegunFacts::given_sent, crate::proofs::BegunFacts::built_left))]
+    /// Gives up the calls before the one of this number, up to one that may not be given up, or that cleans up first.
+    #[tactic(auto, using(crate::proofs::BegunFacts::gives_up, crate::proofs::BegunFacts::gives_up_less, crate::proofs::BegunFacts::given_sent, crate::proofs::BegunFacts::may_left, crate::proofs::BegunFacts::may_goes))]
     fn pass_to(&mut self, number: u32, request: &Request)
         requires { self.old.sent ≡ [] }
         ensures way { (digest : List ℕ → Id) → at_call digest number request.now self.new.left self.new
             ≡ at_call digest number request.now self.old.left self.old }
         ensures between { self.new.sent ≡ [] }
-        ensures stopped { self.new.number ≢ number → is_some (next_course self.new.left) ≡ true
-            → is_winding self.new.stage ≡ true }
+        ensures stopped { self.new.number ≢ number → may_give_up self.new ≡ false }
     {
         let _ = request;
-        while self.number != number && self.is_built() && !is_winding(&self.stands) {
+        while self.number != number && self.may_give_up() {
             self.give_up_call();
         }
     }
 
     /// The ask finds the client at its call.
-    #[tactic(auto, using(crate::proofs::BegunFacts::found_lifts, crate::proofs::BegunFacts::found_idle, crate::proofs::BegunFacts::found_other, crate::proofs::BegunFacts::acting_goes))]
+    #[tactic(auto, using(crate::proofs::BegunFacts::found_lifts, crate::proofs::BegunFacts::found_idle, crate::proofs::BegunFacts::found_other, crate::proofs::BegunFacts::given_sent, crate::proofs::BegunFacts::may_left, crate::proofs::BegunFacts::may_goes))]
     fn find<R: IdRule>(
         &mut self,
         alloc: Global,
@@ -97,7 +96,7 @@ impl ClientState {
         if !lifts(request) {
             return self.take_up(alloc, rule);
         }
-        if is_acting(&self.stands) {
+        if self.may_give_up() {
             self.give_up_call();
         }
         Ok(())
@@ -118,7 +117,7 @@ impl ClientState {
             return Ok(());
         }
         self.pass_to(ask.from.number, &ask.request);
-        if self.left.is_empty() || self.number != ask.from.number {
+        if self.is_over() || self.number != ask.from.number {
             return Ok(());
         }
         self.find(alloc, rule, &ask.request)

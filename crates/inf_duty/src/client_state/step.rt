@@ -1,21 +1,22 @@
 //! A client that is driven: what it is to do next, and the steps that it takes.
 
-ghost use Rattle.std.specs.Prelude.{ℕ, List, ◌≡◌, ◌↔◌, ◌+◌, ◌<◌, ◌≤◌, ◌∷◌, ◌^◌, [], length, map, is_some, true, false, None, IfOk, IsTrue};
+ghost use Rattle.std.specs.Prelude.{ℕ, List, ◌≡◌, ◌↔◌, ◌+◌, ◌<◌, ◌≤◌, ◌∷◌, ◌^◌, [], length, map, true, false, None, IfOk, IsTrue};
 ghost use Rattle.inf_base.specs.declared.id.Id.{Id};
 ghost use Rattle.inf_duty.specs.ClientStep.{IsQuiet, is_ask, next_as};
-ghost use Rattle.inf_duty.specs.Duty.{asks, given_up, next_step};
+ghost use Rattle.inf_duty.specs.Duty.{asks, given_up, has_ask, may_give_up, next_step};
 ghost use Rattle.inf_duty.specs.Kept.{unserved};
 ghost use Rattle.inf_duty.specs.Messages.{is_compose, is_winding, post_of};
-ghost use Rattle.inf_duty.specs.Outcome.{results_of, so_far};
+ghost use Rattle.inf_duty.specs.Outcome.{come_to, results_of, so_far};
 ghost use Rattle.inf_flow_dir.specs.Client.{compose, placed, result_of};
-ghost use Rattle.inf_flow_dir.specs.Group.{composed, group, lookup_of, next_course};
+ghost use Rattle.inf_flow_dir.specs.Group.{composed, group, lookup_of};
+ghost use Rattle.inf_flow_dir.specs.Turn.{is_wanting};
 
 use super::ClientState;
 use crate::client_step::ClientStep;
-use crate::group::{is_round, is_winding};
+use crate::group::{has_message, is_round, is_winding};
 use crate::standing::Standing;
 use inf_base::{Answer, CallRef, LookKey, NoMemory, Place};
-use inf_flow_dir::{Ending, Sending, has_course};
+use inf_flow_dir::{Ending, Sending, has_course, is_one_wanting};
 use inf_message::{Ask, CallResult, Message};
 use std::alloc::Global;
 use std::mem;
@@ -48,18 +49,24 @@ impl ClientState {
         self.left.len()
     }
 
-    /// Whether the call under way is of a kind that is built. Between two groups there is an ask to make for it.
-    #[tactic(auto, using(crate::proofs::StepFacts::built_asks))]
-    pub fn is_built(&self) -> bool
-        ensures value { result ≡ is_some (next_course self.now.left) }
+    /// Whether there is an ask to make for the call under way, between two groups: its kind and its next message are built.
+    #[tactic(auto, using(crate::proofs::StepFacts::asks_there))]
+    pub fn has_ask(&self) -> bool
+        ensures value { result ≡ has_ask self.now }
         ensures asking { (digest : List ℕ → Id) → self.now.sent ≡ [] → result ≡ true
             → is_ask (next_step (composed digest self.now)) ≡ true }
     {
-        let _ = &self.stands;
         match self.first_call() {
-            Some(call) => has_course(call),
+            Some(call) => has_course(call) && has_message(&self.stands),
             None => false,
         }
+    }
+
+    /// Whether memory may be wanting for the next ask, and its call be given up then.
+    pub(super) fn may_give_up(&self) -> bool
+        ensures { result ≡ may_give_up self.now }
+    {
+        self.has_ask() && !is_winding(&self.stands)
     }
 
     /// Whether nothing is left of the call under way but the messages that wind it up.
@@ -131,12 +138,12 @@ impl ClientState {
     }
 
     /// What a client does next that has no ask to make.
-    #[tactic(auto, using(crate::proofs::StepFacts::over_next, crate::proofs::StepFacts::waits_inside, crate::proofs::StepFacts::waits_unbuilt))]
+    #[tactic(auto, using(crate::proofs::StepFacts::over_next, crate::proofs::StepFacts::waits_inside, crate::proofs::StepFacts::waits_askless))]
     pub fn rest(&self) -> ClientStep
         ensures quiet { IsQuiet result }
         ensures inside { length (group self.now.who self.now.stage) ≤ length self.now.sent
             → next_step self.now ≡ next_as result }
-        ensures unbuilt { (digest : List ℕ → Id) → is_some (next_course self.now.left) ≡ false
+        ensures askless { (digest : List ℕ → Id) → has_ask self.now ≡ false
             → next_step (composed digest self.now) ≡ next_as result }
     {
         if self.left.is_empty() {
@@ -184,16 +191,28 @@ impl ClientState {
         self.counts.forget_serves();
     }
 
+    /// What a round that is not over has come to.
+    fn round_so_far(&self) -> Answer
+        ensures { result ≡ come_to (is_wanting self.now.sent) }
+    {
+        if is_one_wanting(self.sent.as_slice()) {
+            Answer::NoMemory
+        } else {
+            Answer::Unanswered
+        }
+    }
+
     /// What the call under way has come to.
     fn take_so_far(&mut self) -> (Answer, Option<Place>)
         ensures so_far { so_far self.old.stage self.old
             ≡ result_of result.0 result.1 None self.old }
         ensures after { self.new ≡ record self.old { stage = compose; sent = [] } }
     {
+        let of_round = self.round_so_far();
         self.sent.clear();
         match mem::replace(&mut self.stands, Standing::Compose) {
             Standing::Compose => (Answer::Unanswered, None),
-            Standing::Round(_, _) => (Answer::Unanswered, None),
+            Standing::Round(_, _) => (of_round, None),
             Standing::Act(_) => (Answer::Unanswered, None),
             Standing::Winds(ending, _, _) => match ending {
                 Ending::Answers(answer, place) => (answer, place),
@@ -217,7 +236,7 @@ impl ClientState {
         self.end(answer, place);
     }
 
-    /// One result for each call; those that have no answer yet are unanswered.
+    /// One result for each call; those that nothing has ended yet are unanswered.
     #[tactic(auto, using(crate::proofs::ResultFacts::unserved_results, crate::proofs::ResultFacts::ended_next, crate::proofs::ResultFacts::all_results))]
     pub fn into_results(self) -> Vec<CallResult>
         ensures { result.items ≡ results_of self }

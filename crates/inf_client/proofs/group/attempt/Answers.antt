@@ -16,6 +16,6 @@ returns-then-is_winding-2-clause-found g c =
     let going : is_winding old.stage ≡ false = search rules in
     let winding : is_winding now.stage ≡ true = search rules in
     subst (IsFound digest group.ask old) (sym is)
-    (given_up_found digest old group.number group.ask going
+    (given_up_found digest old group.number group.ask c.requires.asks going
     (ap (λ (t : ClientState). is_winding t.stage) (sym is) ∙ winding)
     (ap next_step (sym is) ∙ c.winding_group-then-is_winding-2.ensures.next))

@@ -1,10 +1,10 @@
-use Rattle.std.proofs.Common.{◌≡◌, ◌≢◌, true, false, [], is_some, sym, ap, subst, ◌∙◌, rules}
+use Rattle.std.proofs.Common.{◌≡◌, ◌≢◌, true, false, [], sym, ap, subst, ◌∙◌, rules}
 use Rattle.inf_client.specs.Client.{AsksNext, Client, Steps, client_with}
 use Rattle.inf_client.specs.Group.{IsKept}
 use Rattle.inf_client.proofs.ClientFacts.{asks_inside, full, rests_given_up, rests_inside}
 use Rattle.inf_client.proofs.WayFacts.{was_free}
 use Rattle.inf_duty.specs.Outcome.{all_given_up}
-use Rattle.inf_flow_dir.specs.Group.{next_course}
+use Rattle.inf_duty.specs.Duty.{has_ask}
 use Rattle.inf_client.proofs.client.Client.step.Goals as goal
 
 pub returns-in-Some : goal.returns-in-Some
@@ -51,14 +51,14 @@ returns-in-None g c =
     let here : i.has_given_up ≡ false = c.if-self.false in
     let quiet : i.is_handed ≡ false = ap (λ (a : Client). a.handed) c.self.view_is ∙ c.requires in
     let between : s.sent ≡ [] = search rules in
-    let is_built : c.is_built.result ≡ true = search rules in
-    let built : is_some (next_course s.left) ≡ true = sym c.is_built.ensures.value ∙ is_built in
+    let has_one : c.has_ask.result ≡ true = search rules in
+    let asks : has_ask s ≡ true = sym c.has_ask.ensures.value ∙ has_one in
     let all : now ≡ all_given_up s.left s = search rules in
-    let unbuilt : is_some (next_course now.left) ≡ false = search rules in
+    let none : has_ask now ≡ false = search rules in
     let stays : now.sent ≡ [] = search rules in
     let same : log ≡ i.log = search rules in
-    let rests = rests_given_up digest s now i.log log told between (c.is_built.ensures.asking digest between is_built) (was_free s now built all unbuilt) all stays same
-    c.rest-in-None.ensures.quiet (c.rest-in-None.ensures.unbuilt digest unbuilt) in
+    let rests = rests_given_up digest s now i.log log told between (c.has_ask.ensures.asking digest between has_one) (was_free s now asks all none) all stays same
+    c.rest-in-None.ensures.quiet (c.rest-in-None.ensures.askless digest none) in
     subst (λ (a : Client). Steps digest a told (client_with now true log i.is_handed)) c.self.view_is
     (subst (λ gone. Steps digest (client_with s gone i.log i.is_handed) told (client_with now true log i.is_handed)) (sym here)
     (subst (λ handed. Steps digest (client_with s false i.log handed) told (client_with now true log handed)) (sym quiet) rests))
