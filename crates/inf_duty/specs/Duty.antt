@@ -39,8 +39,8 @@ abbrev pub has_message : Who → Stage → Bool
 has_message who compose = true
 has_message who settled = not (are_none (group who settled))
 
--- between two groups: there is an ask to make for the call under way. There is none where its kind, or its next message, is
--- not built
+-- between two groups: there is an ask to make for the call under way. There is none where its kind, or its next
+-- message, is not built
 abbrev pub has_ask : ClientState → Bool
 has_ask s = is_some (next_course s.left) && has_message s.who s.stage
 

@@ -96,6 +96,7 @@ wants_memory (Some told) = is_no_mem told.reply
     is_no_mem reply.NoMem = true
     is_no_mem any_reply = false
 
+-- one of the answers says so
 abbrev pub is_wanting : List Sent → Bool
 is_wanting sent = list_any (λ (x : Sent). wants_memory x.told) sent
 

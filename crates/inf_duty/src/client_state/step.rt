@@ -49,7 +49,8 @@ impl ClientState {
         self.left.len()
     }
 
-    /// Whether there is an ask to make for the call under way, between two groups: its kind and its next message are built.
+    /// Whether there is an ask to make for the call under way, between two groups: its kind and its next message are
+    /// built.
     #[tactic(auto, using(crate::proofs::StepFacts::asks_there))]
     pub fn has_ask(&self) -> bool
         ensures value { result ≡ has_ask self.now }
