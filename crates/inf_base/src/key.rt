@@ -6,6 +6,7 @@ use crate::directory::DirRef;
 use crate::id::Id;
 use crate::memory::{NoMemory, TryClone};
 use crate::name::Name;
+use crate::sequence::Sequence;
 use std::alloc::Global;
 
 /// The key of an access object: the root's, or a name in a directory.
@@ -21,6 +22,9 @@ pub enum LookKey {
     Top,
     At { dir: Id, name: Name },
 }
+
+/// Keys in the order of their asks.
+pub type LookKeys = Sequence<LookKey>;
 
 impl TryClone for Key {
     fn try_clone(&self, alloc: Global) -> Result<Self, NoMemory> {

@@ -28,9 +28,9 @@ pub use directory::{DirRef, Home};
 pub use entry::{Chain, Entry};
 pub use errno::Errno;
 pub use file::FileMeta;
-pub use id::{Id, Place};
+pub use id::{Id, Place, server_of};
 pub use item::{Item, Items, Kind};
-pub use key::{Key, LookKey};
+pub use key::{Key, LookKey, LookKeys};
 pub use limits::{
     MOST_CACHE, MOST_CALLS, MOST_CLIENTS, MOST_DIGEST_BYTES, MOST_MODE, MOST_NAME_BYTES,
     MOST_PATH_NAMES, MOST_SERVERS,

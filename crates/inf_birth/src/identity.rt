@@ -1,7 +1,7 @@
-//! The identifiers of directories, and their servers.
+//! The identifiers of directories.
 
-ghost use Rattle.std.specs.Prelude.{◌≡◌, ◌≤◌, IfOk};
-ghost use Rattle.inf_base.specs.Identity.{identity, server_of as the_server};
+ghost use Rattle.std.specs.Prelude.{◌≡◌, IfOk};
+ghost use Rattle.inf_base.specs.Identity.{identity};
 
 use crate::rule::IdRule;
 use inf_base::{Id, NoMemory, Triple};
@@ -27,14 +27,4 @@ pub fn identify<R: IdRule>(alloc: Global, rule: &R, triple: &Triple) -> Result<I
             Ok(rule.digest(message.as_slice()))
         }
     }
-}
-
-/// The server, of so many beside the coordinator, that keeps the directory of this identifier.
-pub fn server_of(id: &Id, servers: u32) -> u32
-    requires { 1 ≤ servers }
-    ensures { result ≡ the_server id.now servers }
-{
-    let [b0, b1, b2, b3, b4, b5, b6, b7, ..] = id.bytes;
-    let number = u64::from_be_bytes([b0, b1, b2, b3, b4, b5, b6, b7]);
-    (number % u64::from(servers)) as u32
 }

@@ -1,11 +1,12 @@
-//! Identifiers of directories: the digest of the place and the version that a directory is born with, and the server
-//! that keeps it.
+//! Identifiers of directories: the digest of the place and the version that a directory is born with.
 #![tactic(auto)]
 
+mod child;
 mod identity;
 mod rule;
 #[cfg(test)]
 mod tests;
 
-pub use identity::{identify, server_of};
+pub use child::identity_of;
+pub use identity::identify;
 pub use rule::{IdRule, ShaRule};

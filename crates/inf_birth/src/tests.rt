@@ -1,7 +1,7 @@
 //! The digests and servers of known messages.
 
 use super::*;
-use inf_base::{Id, Name, Triple};
+use inf_base::{Id, Name, Triple, server_of};
 use std::test::Fail;
 
 /// SHA-256 of the empty message, which is the root's identifier.

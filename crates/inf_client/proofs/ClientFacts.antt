@@ -14,8 +14,9 @@ use Rattle.inf_duty.specs.Duty.{asks, begun, has_ask, next_in, next_of, next_ste
 use Rattle.inf_duty.specs.Outcome.{all_given_up, may_pass}
 use Rattle.inf_duty.specs.declared.client_step.ClientStep.{ClientStep}
 use Rattle.inf_duty.specs.declared.client_step.ClientStep.TheVariants as step
-use Rattle.inf_flow_dir.specs.Client.{ClientState, Sent, call_ref, placed}
-use Rattle.inf_flow_dir.specs.Group.{composed, group}
+use Rattle.inf_duty.specs.ClientState.{ClientState, call_ref, placed}
+use Rattle.inf_duty.specs.Group.{composed, group}
+use Rattle.inf_message.specs.Sent.{Sent}
 use Rattle.inf_message.specs.declared.ask.Ask.{Ask}
 use Rattle.inf_message.specs.declared.step.Message.{Message}
 use Rattle.inf_message.specs.History.{Posted, posted_ask}

@@ -13,9 +13,15 @@ use Rattle.inf_duty.specs.ClientStep.{is_ask}
 use Rattle.inf_duty.specs.Duty.{Next, asks, found_at, given_up, given_up_in, has_ask, is_over, lifts, may_give_up, next_in, next_of, next_step, waits}
 use Rattle.inf_duty.specs.Messages.{are_none, is_winding, post_of}
 use Rattle.inf_duty.specs.Outcome.{is_free}
-use Rattle.inf_flow_dir.specs.Client.{ClientState, Stage, act, answers, call_ref, compose, round, winds, wound}
-use Rattle.inf_flow_dir.specs.Flow.{Flow, Who, clean_up, finishes, links, makes, message_of, reserves, seals, unlinks}
-use Rattle.inf_flow_dir.specs.Group.{Course, composed, composed_stage, group, keys_of, lookup_of, next_course}
+use Rattle.inf_flow_dir.specs.declared.dir_flow.DirFlow.TheVariants as dir_flow
+use Rattle.inf_message.specs.declared.ending.Ending.TheVariants as ending
+use Rattle.inf_flow_file.specs.declared.file_flow.FileFlow.TheVariants as file_flow
+use Rattle.inf_duty.specs.declared.flow.Flow.TheVariants as flow
+use Rattle.inf_duty.specs.ClientState.{ClientState, Stage, act, call_ref, compose, round, winds, wound}
+use Rattle.inf_duty.specs.Flow.{clean_up, message_of}
+use Rattle.inf_duty.specs.Group.{Course, composed, composed_stage, group, keys_of, next_course}
+use Rattle.inf_duty.specs.declared.flow.Flow.{Flow}
+use Rattle.inf_message.specs.Who.{Who, lookup_of}
 use Rattle.inf_message.specs.declared.ask.Ask.{Ask}
 use Rattle.inf_message.specs.declared.request.Request.{Request}
 use Rattle.inf_message.specs.declared.step.Message.{Message}
@@ -91,8 +97,8 @@ first_in s (call ∷ calls) (m ∷ messages) number ask others index all at firs
 within_two : (stage : Stage) → is_winding stage ≡ false → room_within stage ≤ 2
 within_two compose going = omega arith
 within_two (round keys) going = omega arith
-within_two (act flow) going = omega arith
-within_two (winds ending m ms) going = absurd (cc)
+within_two (act step) going = omega arith
+within_two (winds end m ms) going = absurd (cc)
 
 pub whole_readied : (s : ClientState) (posts kept others : List (ℕ × Ask)) (number : ℕ) (ask : Ask) (before log : AskLog)
     → s.sent ≡ [] → is_ask (next_step s) ≡ true → is_winding s.stage ≡ false → before.ready ≡ []
@@ -123,22 +129,22 @@ winding_group : (who : Who) (stage : Stage) (message : Message) → is_winding s
     → group who stage ≡ message ∷ []
 winding_group who compose message winding at = absurd (cc)
 winding_group who (round keys) message winding at = absurd (cc)
-winding_group who (act flow) message winding at = absurd (cc)
-winding_group who (winds ending m ms) message winding at =
+winding_group who (act step) message winding at = absurd (cc)
+winding_group who (winds end m ms) message winding at =
     let same : m ≡ message = cc in
     ap (λ one. one ∷ []) same
 
 winding_within : (who : Who) (stage : Stage) (room : ℕ) → is_winding stage ≡ true → room_between who stage ≤ room → room_within stage ≤ room - 1
 winding_within who compose room winding fits = absurd (cc)
 winding_within who (round keys) room winding fits = absurd (cc)
-winding_within who (act flow) room winding fits = absurd (cc)
-winding_within who (winds ending m ms) room winding fits = omega arith
+winding_within who (act step) room winding fits = absurd (cc)
+winding_within who (winds end m ms) room winding fits = omega arith
 
 pub winding_room : (who : Who) (stage : Stage) (room : ℕ) → is_winding stage ≡ true → room_between who stage ≤ room → 0 < room
 winding_room who compose room winding fits = absurd (cc)
 winding_room who (round keys) room winding fits = absurd (cc)
-winding_room who (act flow) room winding fits = absurd (cc)
-winding_room who (winds ending m ms) room winding fits = omega arith
+winding_room who (act step) room winding fits = absurd (cc)
+winding_room who (winds end m ms) room winding fits = omega arith
 
 winding_asks : (s : ClientState) (number : ℕ) (ask : Ask) → is_winding s.stage ≡ true → s.sent ≡ [] → next_step s ≡ asks number ask
     → group_asks s ≡ posted_ask number ask ∷ []
@@ -174,8 +180,8 @@ winding_readied s number number_kept ask ask_kept others before log winding betw
 same_winding : (digest : List ℕ → Id) (s : ClientState) (stage : Stage) (asked : Request) → s.stage ≡ stage → is_winding stage ≡ true → s ≡ found_at digest asked s
 same_winding digest s compose asked at winding = absurd (cc)
 same_winding digest s (round keys) asked at winding = absurd (cc)
-same_winding digest s (act flow) asked at winding = absurd (cc)
-same_winding digest s (winds ending m ms) asked at winding = by (lifts asked) (may_give_up s)
+same_winding digest s (act step) asked at winding = absurd (cc)
+same_winding digest s (winds end m ms) asked at winding = by (lifts asked) (may_give_up s)
   where
     by : (b c : Bool) → s ≡ cond b (cond c (given_up s) s) (composed digest s)
     by true true = rw at refl
@@ -196,22 +202,22 @@ keys_lift who (key ∷ keys) index message first at =
     let one : lookup_of who key ≡ message = cc in
     ap (λ (m : Message). lifts m.request) (sym one)
 
-flow_lifts : (who : Who) (flow : Flow) → lifts (message_of who flow).request ≡ false
-flow_lifts who (finishes chain asked) = refl
-flow_lifts who (reserves chain name mode) = refl
-flow_lifts who (makes chain name mode version id) = refl
-flow_lifts who (links chain name mode version dir) = refl
-flow_lifts who (seals chain) = refl
-flow_lifts who (unlinks chain) = refl
+flow_lifts : (who : Who) (step : Flow) → lifts (message_of who step).request ≡ false
+flow_lifts who (flow.File (file_flow.Finishes chain asked)) = refl
+flow_lifts who (flow.Dir (dir_flow.Reserves chain name mode)) = refl
+flow_lifts who (flow.Dir (dir_flow.Makes chain name mode version id)) = refl
+flow_lifts who (flow.Dir (dir_flow.Links chain name mode version dir)) = refl
+flow_lifts who (flow.Dir (dir_flow.Seals chain)) = refl
+flow_lifts who (flow.Dir (dir_flow.Unlinks chain)) = refl
 
 going_lifts : (who : Who) (stage : Stage) (message : Message) → is_winding stage ≡ false → slice_get (group who stage) 0 ≡ Some message
     → lifts message.request ≡ false
 going_lifts who compose message going at = absurd (cc)
 going_lifts who (round keys) message going at = keys_lift who keys 0 message refl at
-going_lifts who (act flow) message going at =
-    let one : message_of who flow ≡ message = cc in
-    ap (λ (m : Message). lifts m.request) (sym one) ∙ flow_lifts who flow
-going_lifts who (winds ending m ms) message going at = absurd (cc)
+going_lifts who (act step) message going at =
+    let one : message_of who step ≡ message = cc in
+    ap (λ (m : Message). lifts m.request) (sym one) ∙ flow_lifts who step
+going_lifts who (winds end m ms) message going at = absurd (cc)
 
 keys_go : (digest : List ℕ → Id) (who : Who) (course : Option Course) → is_winding (keys_of digest who course) ≡ false
 keys_go digest who None = refl
@@ -220,8 +226,8 @@ keys_go digest who (Some course) = refl
 composed_goes_in : (digest : List ℕ → Id) (s : ClientState) (stage : Stage) → is_winding stage ≡ false → is_winding (composed_stage digest s stage) ≡ false
 composed_goes_in digest s compose going = keys_go digest s.who (next_course s.left)
 composed_goes_in digest s (round keys) going = refl
-composed_goes_in digest s (act flow) going = refl
-composed_goes_in digest s (winds ending m ms) going = going
+composed_goes_in digest s (act step) going = refl
+composed_goes_in digest s (winds end m ms) going = going
 
 pub composed_goes : (digest : List ℕ → Id) (s : ClientState) → is_winding s.stage ≡ false → is_winding (composed digest s).stage ≡ false
 composed_goes digest s going = composed_goes_in digest s s.stage going
@@ -248,12 +254,12 @@ given_composed_in digest s compose at = by (next_course s.left)
     by None = refl
     by (Some course) = refl
 given_composed_in digest s (round keys) at = refl
-given_composed_in digest s (act flow) at = by (clean_up s.who flow)
+given_composed_in digest s (act step) at = by (clean_up s.who step)
   where
-    by : (messages : List Message) → wound (answers answer.NoMemory None) messages (composed digest s) ≡ wound (answers answer.NoMemory None) messages s
+    by : (messages : List Message) → wound (ending.Answers answer.NoMemory None) messages (composed digest s) ≡ wound (ending.Answers answer.NoMemory None) messages s
     by [] = refl
     by (m ∷ ms) = refl
-given_composed_in digest s (winds ending m ms) at = ap (λ stage. record s { stage = stage }) (rw at refl)
+given_composed_in digest s (winds end m ms) at = ap (λ stage. record s { stage = stage }) (rw at refl)
 
 -- what is settled does not matter where the call is given up
 pub given_composed : (digest : List ℕ → Id) (s : ClientState) → given_up (composed digest s) ≡ given_up s
@@ -263,12 +269,12 @@ given_room_in : (s : ClientState) (stage : Stage) → is_winding stage ≡ false
     → room_between (given_up_in s stage).who (given_up_in s stage).stage ≤ room_between s.who stage
 given_room_in s compose going = omega arith
 given_room_in s (round keys) going = omega arith
-given_room_in s (act flow) going = by (clean_up s.who flow)
+given_room_in s (act step) going = by (clean_up s.who step)
   where
-    by : (messages : List Message) → room_between (wound (answers answer.NoMemory None) messages s).who (wound (answers answer.NoMemory None) messages s).stage ≤ length messages
+    by : (messages : List Message) → room_between (wound (ending.Answers answer.NoMemory None) messages s).who (wound (ending.Answers answer.NoMemory None) messages s).stage ≤ length messages
     by [] = omega arith
     by (m ∷ ms) = omega arith
-given_room_in s (winds ending m ms) going = absurd (cc)
+given_room_in s (winds end m ms) going = absurd (cc)
 
 -- there is room for the clean-up
 pub given_room : (s now : ClientState) (room : ℕ) → is_winding s.stage ≡ false → now ≡ given_up s → room_between s.who s.stage ≤ room
@@ -280,12 +286,12 @@ given_room s now room going is fits =
 given_between_in : (s : ClientState) (stage : Stage) → is_winding stage ≡ false → (given_up_in s stage).sent ≡ []
 given_between_in s compose going = refl
 given_between_in s (round keys) going = refl
-given_between_in s (act flow) going = by (clean_up s.who flow)
+given_between_in s (act step) going = by (clean_up s.who step)
   where
-    by : (messages : List Message) → (wound (answers answer.NoMemory None) messages s).sent ≡ []
+    by : (messages : List Message) → (wound (ending.Answers answer.NoMemory None) messages s).sent ≡ []
     by [] = refl
     by (m ∷ ms) = refl
-given_between_in s (winds ending m ms) going = absurd (cc)
+given_between_in s (winds end m ms) going = absurd (cc)
 
 pub given_between : (s : ClientState) → is_winding s.stage ≡ false → (given_up s).sent ≡ []
 given_between s going = given_between_in s s.stage going
@@ -298,43 +304,43 @@ abbrev first_lifts : List Message → Bool
 first_lifts [] = true
 first_lifts (m ∷ messages) = lifts m.request
 
-clean_up_lifts : (who : Who) (flow : Flow) → first_lifts (clean_up who flow) ≡ true
-clean_up_lifts who (finishes chain asked) = refl
-clean_up_lifts who (reserves chain name mode) = refl
-clean_up_lifts who (makes chain name mode version id) = refl
-clean_up_lifts who (links chain name mode version dir) = refl
-clean_up_lifts who (seals chain) = refl
-clean_up_lifts who (unlinks chain) = refl
+clean_up_lifts : (who : Who) (step : Flow) → first_lifts (clean_up who step) ≡ true
+clean_up_lifts who (flow.File (file_flow.Finishes chain asked)) = refl
+clean_up_lifts who (flow.Dir (dir_flow.Reserves chain name mode)) = refl
+clean_up_lifts who (flow.Dir (dir_flow.Makes chain name mode version id)) = refl
+clean_up_lifts who (flow.Dir (dir_flow.Links chain name mode version dir)) = refl
+clean_up_lifts who (flow.Dir (dir_flow.Seals chain)) = refl
+clean_up_lifts who (flow.Dir (dir_flow.Unlinks chain)) = refl
 
-cleans : (who : Who) (flow : Flow) (m : Message) (ms : List Message) → clean_up who flow ≡ m ∷ ms → lifts m.request ≡ true
-cleans who flow m ms is = sym (ap first_lifts is) ∙ clean_up_lifts who flow
+cleans : (who : Who) (step : Flow) (m : Message) (ms : List Message) → clean_up who step ≡ m ∷ ms → lifts m.request ≡ true
+cleans who step m ms is = sym (ap first_lifts is) ∙ clean_up_lifts who step
 
 winds_in : (s : ClientState) (stage : Stage) (message : Message) → s.stage ≡ stage → is_winding stage ≡ false → is_winding (given_up_in s stage).stage ≡ true
     → slice_get (group s.who (given_up_in s stage).stage) 0 ≡ Some message → WindsUp s message.request
 winds_in s compose message at going winding there = absurd (cc)
 winds_in s (round keys) message at going winding there = absurd (cc)
-winds_in s (act flow) message at going winding there = by (clean_up s.who flow) refl winding there
+winds_in s (act step) message at going winding there = by (clean_up s.who step) refl winding there
   where
-    by : (messages : List Message) → clean_up s.who flow ≡ messages → is_winding (wound (answers answer.NoMemory None) messages s).stage ≡ true
-        → slice_get (group s.who (wound (answers answer.NoMemory None) messages s).stage) 0 ≡ Some message → WindsUp s message.request
+    by : (messages : List Message) → clean_up s.who step ≡ messages → is_winding (wound (ending.Answers answer.NoMemory None) messages s).stage ≡ true
+        → slice_get (group s.who (wound (ending.Answers answer.NoMemory None) messages s).stage) 0 ≡ Some message → WindsUp s message.request
     by [] is winding there = absurd (cc)
     by (m ∷ ms) is winding there =
         let same : m ≡ message = cc in
         record {
-          here = ap call_ref (ap (given_up_in s) at ∙ ap (λ messages. wound (answers answer.NoMemory None) messages s) is);
-          lifted = ap (λ (x : Message). lifts x.request) (sym same) ∙ cleans s.who flow m ms is;
+          here = ap call_ref (ap (given_up_in s) at ∙ ap (λ messages. wound (ending.Answers answer.NoMemory None) messages s) is);
+          lifted = ap (λ (x : Message). lifts x.request) (sym same) ∙ cleans s.who step m ms is;
         }
-winds_in s (winds ending m ms) message at going winding there = absurd (cc)
+winds_in s (winds end m ms) message at going winding there = absurd (cc)
 
 who_in : (s : ClientState) (stage : Stage) → (given_up_in s stage).who ≡ s.who
 who_in s compose = refl
 who_in s (round keys) = refl
-who_in s (act flow) = by (clean_up s.who flow)
+who_in s (act step) = by (clean_up s.who step)
   where
-    by : (messages : List Message) → (wound (answers answer.NoMemory None) messages s).who ≡ s.who
+    by : (messages : List Message) → (wound (ending.Answers answer.NoMemory None) messages s).who ≡ s.who
     by [] = refl
     by (m ∷ ms) = refl
-who_in s (winds ending m ms) = refl
+who_in s (winds end m ms) = refl
 
 may_so : (s : ClientState) → has_ask s ≡ true → is_winding s.stage ≡ false → may_give_up s ≡ true
 may_so s some going = by (has_ask s) (is_winding s.stage) some going
@@ -363,12 +369,12 @@ given_up_found digest s number ask some going winding next =
 passes_in : (s : ClientState) (stage : Stage) → s.stage ≡ stage → is_winding stage ≡ false → is_winding (given_up_in s stage).stage ≡ false → is_free s.who stage ≡ true
 passes_in s compose at going passed = refl
 passes_in s (round keys) at going passed = refl
-passes_in s (act flow) at going passed = by (clean_up s.who flow) passed
+passes_in s (act step) at going passed = by (clean_up s.who step) passed
   where
-    by : (messages : List Message) → is_winding (wound (answers answer.NoMemory None) messages s).stage ≡ false → are_none messages ≡ true
+    by : (messages : List Message) → is_winding (wound (ending.Answers answer.NoMemory None) messages s).stage ≡ false → are_none messages ≡ true
     by [] passed = refl
     by (m ∷ ms) passed = absurd (cc)
-passes_in s (winds ending m ms) at going passed = absurd (cc)
+passes_in s (winds end m ms) at going passed = absurd (cc)
 
 pub passed : (s now : ClientState) → is_winding s.stage ≡ false → has_ask s ≡ true → now ≡ given_up s → is_winding now.stage ≡ false
     → IsPassed s now

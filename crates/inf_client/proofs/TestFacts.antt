@@ -10,9 +10,11 @@ use Rattle.inf_client.proofs.LogTestFacts.{made_later, none_later}
 use Rattle.inf_duty.specs.Duty.{at_call, begun, found_at, given_up, given_up_in, lifts, may_give_up}
 use Rattle.inf_duty.specs.Start.{start, starting}
 use Rattle.inf_duty.specs.World.{World}
-use Rattle.inf_flow_dir.specs.Client.{ClientState, Sent, Stage, act, answers, compose, placed, round, winds, wound}
-use Rattle.inf_flow_dir.specs.Flow.{clean_up}
-use Rattle.inf_flow_dir.specs.Group.{composed}
+use Rattle.inf_message.specs.declared.ending.Ending.TheVariants as ending
+use Rattle.inf_duty.specs.ClientState.{ClientState, Stage, act, compose, placed, round, winds, wound}
+use Rattle.inf_duty.specs.Flow.{clean_up}
+use Rattle.inf_duty.specs.Group.{composed}
+use Rattle.inf_message.specs.Sent.{Sent}
 use Rattle.inf_message.specs.declared.ask.Ask.{Ask}
 use Rattle.inf_message.specs.declared.request.Request.{Request}
 use Rattle.inf_message.specs.declared.step.Message.{Message}
@@ -34,10 +36,10 @@ given_few s compose = omega arith
 given_few s (round keys) = omega arith
 given_few s (act flow) = by (clean_up s.who flow)
   where
-    by : (messages : List Message) → (wound (answers answer.NoMemory None) messages s).counts.messages ≤ s.counts.messages
+    by : (messages : List Message) → (wound (ending.Answers answer.NoMemory None) messages s).counts.messages ≤ s.counts.messages
     by [] = omega arith
     by (m ∷ ms) = omega arith
-given_few s (winds ending m ms) = omega arith
+given_few s (winds end m ms) = omega arith
 
 found_few : (digest : List ℕ → Id) (asked : Request) (s : ClientState) → (found_at digest asked s).counts.messages ≤ s.counts.messages
 found_few digest asked s = by (lifts asked) (may_give_up s)

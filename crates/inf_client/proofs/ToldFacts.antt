@@ -10,9 +10,10 @@ use Rattle.inf_client.specs.Group.{IsKept, not_handed}
 use Rattle.inf_client.specs.Room.{room_in, room_needed, room_within}
 use Rattle.inf_client.proofs.ClientFacts.{asks_length, between_in, inside_room, ready_inside}
 use Rattle.inf_client.proofs.TurnRoom.{next_fits, turned_between}
-use Rattle.inf_flow_dir.specs.Client.{ClientState, Sent, has_place, is_told, told_at}
-use Rattle.inf_flow_dir.specs.Group.{group}
-use Rattle.inf_flow_dir.specs.Turn.{after_record, is_complete, recorded, served, settled, turn_at, turned}
+use Rattle.inf_duty.specs.ClientState.{ClientState}
+use Rattle.inf_duty.specs.Group.{group}
+use Rattle.inf_duty.specs.Turn.{after_record, is_complete, recorded, served, settled, turn_at, turned}
+use Rattle.inf_message.specs.Sent.{Sent, has_place, is_told, told_at}
 use Rattle.inf_message.specs.declared.ask.Ask.{Ask}
 use Rattle.inf_message.specs.History.{Made, Own, Posted, Told, own_ask, served_at, unless_told}
 

@@ -11,8 +11,10 @@ use Rattle.inf_duty.specs.Duty.{at_call, begun, found_at, given_up, given_up_in,
 use Rattle.inf_duty.specs.Messages.{are_none, is_winding}
 use Rattle.inf_duty.specs.Outcome.{all_given_up, is_free, may_pass}
 use Rattle.inf_duty.proofs.BegunFacts.{ask_left, both}
-use Rattle.inf_flow_dir.specs.Client.{ClientState, Sent, Stage, act, answers, compose, ended, rest_of, round, winds, wound}
-use Rattle.inf_flow_dir.specs.Flow.{clean_up}
+use Rattle.inf_message.specs.declared.ending.Ending.TheVariants as ending
+use Rattle.inf_duty.specs.ClientState.{ClientState, Stage, act, compose, ended, rest_of, round, winds, wound}
+use Rattle.inf_duty.specs.Flow.{clean_up}
+use Rattle.inf_message.specs.Sent.{Sent}
 use Rattle.inf_message.specs.declared.ask.Ask.{Ask}
 use Rattle.inf_message.specs.declared.request.Request.{Request}
 use Rattle.inf_message.specs.declared.step.Message.{Message}
@@ -32,10 +34,10 @@ ended_in s compose free = refl
 ended_in s (round keys) free = refl
 ended_in s (act flow) free = by (clean_up s.who flow) free
   where
-    by : (messages : List Message) → are_none messages ≡ true → wound (answers answer.NoMemory None) messages s ≡ ended answer.NoMemory None s
+    by : (messages : List Message) → are_none messages ≡ true → wound (ending.Answers answer.NoMemory None) messages s ≡ ended answer.NoMemory None s
     by [] free = refl
     by (m ∷ ms) free = absurd (cc)
-ended_in s (winds ending m ms) free = absurd (cc)
+ended_in s (winds end m ms) free = absurd (cc)
 
 -- a call that is given up, and has nothing to clean up, has ended
 passed_ended : (s : ClientState) → may_pass s ≡ true → given_up s ≡ ended answer.NoMemory None s

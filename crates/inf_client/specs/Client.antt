@@ -6,8 +6,9 @@ use Rattle.inf_duty.specs.Duty.{Duty, at_call, begun, has_ask, is_over, next_ste
 use Rattle.inf_duty.specs.Outcome.{all_given_up, may_pass}
 use Rattle.inf_duty.specs.declared.client_step.ClientStep.{ClientStep}
 use Rattle.inf_duty.specs.declared.client_step.ClientStep.TheVariants as step
-use Rattle.inf_flow_dir.specs.Client.{ClientState, Sent, call_ref}
-use Rattle.inf_flow_dir.specs.Group.{group}
+use Rattle.inf_duty.specs.ClientState.{ClientState, call_ref}
+use Rattle.inf_duty.specs.Group.{group}
+use Rattle.inf_message.specs.Sent.{Sent}
 use Rattle.inf_message.specs.declared.ask.Ask.{Ask}
 use Rattle.inf_message.specs.declared.request.Request.{Request}
 use Rattle.inf_message.specs.declared.step.Message.{Message}

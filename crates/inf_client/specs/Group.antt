@@ -6,7 +6,7 @@ use Rattle.inf_client.specs.Client.{IsAtRest, IsInStep, group_asks}
 use Rattle.inf_client.specs.Room.{room_needed, room_within}
 use Rattle.inf_duty.specs.Duty.{asks, found_at, given_up, next_step}
 use Rattle.inf_duty.specs.Outcome.{may_pass}
-use Rattle.inf_flow_dir.specs.Client.{ClientState, call_ref}
+use Rattle.inf_duty.specs.ClientState.{ClientState, call_ref}
 use Rattle.inf_message.specs.declared.ask.Ask.{Ask}
 use Rattle.inf_message.specs.History.{Posted, posted_ask}
 

@@ -1,8 +1,9 @@
 -- A client that is let ask.
 use Rattle.std.specs.Prelude.{ℕ, List, [], ◌∷◌}
 use Rattle.inf_base.specs.declared.id.Id.{Id}
-use Rattle.inf_flow_dir.specs.Client.{ClientState, Sent}
-use Rattle.inf_flow_dir.specs.Group.{composed}
+use Rattle.inf_duty.specs.ClientState.{ClientState}
+use Rattle.inf_duty.specs.Group.{composed}
+use Rattle.inf_message.specs.Sent.{Sent}
 
 -- between two groups it settles what it asks for next; within a group it goes on with it
 abbrev pub planned_from : (List ℕ → Id) → List Sent → ClientState → ClientState

@@ -1,8 +1,10 @@
 -- For how many asks a client has to have room that it may come to make where memory is wanting:
 -- those that wind its call up.
 use Rattle.std.specs.Prelude.{ℕ, ◌+◌, Bool, false, List, [], length}
-use Rattle.inf_flow_dir.specs.Client.{ClientState, Sent, Stage, act, compose, round, winds}
-use Rattle.inf_flow_dir.specs.Flow.{Who, clean_up}
+use Rattle.inf_duty.specs.ClientState.{ClientState, Stage, act, compose, round, winds}
+use Rattle.inf_duty.specs.Flow.{clean_up}
+use Rattle.inf_message.specs.Sent.{Sent}
+use Rattle.inf_message.specs.Who.{Who}
 
 -- between two groups: for the clean-up of the next step, or for what the call is wound up by
 abbrev pub room_between : Who → Stage → ℕ

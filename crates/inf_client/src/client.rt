@@ -8,9 +8,9 @@ ghost use Rattle.inf_client.specs.Client.{Steps, client_with, trips_of_client};
 ghost use Rattle.inf_duty.specs.Outcome.{results_of};
 ghost use Rattle.inf_duty.specs.Start.{start};
 ghost use Rattle.inf_duty.specs.World.{world_by};
-ghost use Rattle.inf_flow_dir.specs.Client.{placed};
-ghost use Rattle.inf_flow_dir.specs.Heard.{heard};
-ghost use Rattle.inf_flow_dir.specs.Turn.{served};
+ghost use Rattle.inf_duty.specs.ClientState.{placed};
+ghost use Rattle.inf_duty.specs.Turn.{served};
+ghost use Rattle.inf_message.specs.Heard.{heard};
 ghost use Rattle.inf_message.specs.History.{told_reply};
 
 use crate::ask_log::AskLog;

@@ -7,7 +7,7 @@ ghost use Rattle.inf_duty.specs.ClientStep.{is_ask};
 ghost use Rattle.inf_duty.specs.Duty.{begun, given_up, has_ask, next_step};
 ghost use Rattle.inf_duty.specs.Messages.{is_winding};
 ghost use Rattle.inf_duty.specs.Outcome.{all_given_up};
-ghost use Rattle.inf_flow_dir.specs.Group.{composed};
+ghost use Rattle.inf_duty.specs.Group.{composed};
 
 use crate::ask_log::AskLog;
 use inf_base::NoMemory;

@@ -14,10 +14,18 @@ use Rattle.inf_base.specs.declared.triple.Triple.TheVariants as triple
 use Rattle.inf_base.specs.Path.{first_fault, is_absolute, is_reserved, name_fault, or_later, path_of, pieces_of, unless_at_fault}
 use Rattle.inf_base.specs.Same.{dir_of}
 use Rattle.inf_duty.specs.Duty.{asked}
-use Rattle.inf_flow_dir.specs.Client.{Stage, act, compose, round, winds}
-use Rattle.inf_flow_dir.specs.Flow.{Flow, Who, after_unlink, birth_of, clean_up, finishes, forget_in, last_dir, last_entry, last_id, lift, links, lives_at, makes, message_of, reserves, row_of, seals, to, unlinks, way_to}
-use Rattle.inf_flow_dir.specs.Group.{Course, course_at, course_in, next_course, rmdir_stop, split, text_of}
-use Rattle.inf_flow_dir.specs.Turn.{Turn, goes_on, winds_up}
+use Rattle.inf_flow_dir.specs.declared.dir_flow.DirFlow.TheVariants as dir_flow
+use Rattle.inf_flow_file.specs.declared.file_flow.FileFlow.TheVariants as file_flow
+use Rattle.inf_duty.specs.declared.flow.Flow.TheVariants as flow
+use Rattle.inf_message.specs.declared.turn.Turn.TheVariants as turn
+use Rattle.inf_duty.specs.ClientState.{Stage, act, compose, round, winds}
+use Rattle.inf_duty.specs.Flow.{clean_up, message_of}
+use Rattle.inf_duty.specs.Group.{Course, course_at, course_in, next_course, rmdir_stop, split, text_of}
+use Rattle.inf_duty.specs.declared.flow.Flow.{Flow}
+use Rattle.inf_flow_dir.specs.DirFlow.{after_unlink, forget_in, lives_at, row_of}
+use Rattle.inf_message.specs.Chain.{last_dir, last_entry, way_to}
+use Rattle.inf_message.specs.Who.{Who, birth_of, last_id, lift, to}
+use Rattle.inf_message.specs.declared.turn.Turn.{Turn}
 use Rattle.inf_duty.proofs.BegunKept.{if_both}
 use Rattle.inf_message.specs.declared.request.Request.{Request}
 use Rattle.inf_message.specs.declared.request.Request.TheVariants as request
@@ -59,23 +67,23 @@ one_chain chain short = search (rules, arith)
 -- ---- flows
 
 abbrev pub IsKnownFlow : Flow → Type 0
-IsKnownFlow (finishes chain what) = IsShort chain × (is_built_op what ≡ true)
-IsKnownFlow (reserves chain name mode) = IsShort chain
-IsKnownFlow (makes chain name mode version id) = IsShort chain
-IsKnownFlow (links chain name mode version dir) = IsShort chain
-IsKnownFlow (seals chain) = IsShort chain
-IsKnownFlow (unlinks chain) = IsShort chain
+IsKnownFlow (flow.File (file_flow.Finishes chain what)) = IsShort chain × (is_built_op what ≡ true)
+IsKnownFlow (flow.Dir (dir_flow.Reserves chain name mode)) = IsShort chain
+IsKnownFlow (flow.Dir (dir_flow.Makes chain name mode version id)) = IsShort chain
+IsKnownFlow (flow.Dir (dir_flow.Links chain name mode version dir)) = IsShort chain
+IsKnownFlow (flow.Dir (dir_flow.Seals chain)) = IsShort chain
+IsKnownFlow (flow.Dir (dir_flow.Unlinks chain)) = IsShort chain
 
 module _ (who : Who) where
-  pub flow_known : (flow : Flow) → IsKnownFlow flow → IsKnownMessage who.servers (message_of who flow)
-  flow_known (finishes chain with) is = known who (last_id who chain) (request.Finish chain with) is.1 (one_chain chain is.0)
-  flow_known (reserves chain name mode) is = known who (last_id who chain) (request.Reserve chain name) refl (one_chain chain is)
-  flow_known (makes chain name mode version id) is =
+  pub flow_known : (step : Flow) → IsKnownFlow step → IsKnownMessage who.servers (message_of who step)
+  flow_known (flow.File (file_flow.Finishes chain with)) is = known who (last_id who chain) (request.Finish chain with) is.1 (one_chain chain is.0)
+  flow_known (flow.Dir (dir_flow.Reserves chain name mode)) is = known who (last_id who chain) (request.Reserve chain name) refl (one_chain chain is)
+  flow_known (flow.Dir (dir_flow.Makes chain name mode version id)) is =
       known who id (request.Make (birth_of who chain name version)) refl no_chain
-  flow_known (links chain name mode version dir) is =
+  flow_known (flow.Dir (dir_flow.Links chain name mode version dir)) is =
       known who (last_id who chain) (request.Link chain name dir mode) refl (one_chain chain is)
-  flow_known (seals chain) is = known who (last_id who chain) (request.Seal chain) refl (one_chain chain is)
-  flow_known (unlinks chain) is = known who (last_id who (way_to chain)) (request.Unlink chain) refl (one_chain chain is)
+  flow_known (flow.Dir (dir_flow.Seals chain)) is = known who (last_id who chain) (request.Seal chain) refl (one_chain chain is)
+  flow_known (flow.Dir (dir_flow.Unlinks chain)) is = known who (last_id who (way_to chain)) (request.Unlink chain) refl (one_chain chain is)
 
   cancel_known : (dir : DirRef) → IsKnownMessage who.servers (lift who dir request.Cancel)
   cancel_known dir = known who dir.id (request.Cancel dir) refl no_chain
@@ -86,13 +94,13 @@ module _ (who : Who) where
   unseal_known : (dir : DirRef) → IsKnownMessage who.servers (lift who dir request.Unseal)
   unseal_known dir = known who dir.id (request.Unseal dir) refl no_chain
 
-  pub clean_up_known : (flow : Flow) → AreKnown who.servers (clean_up who flow)
-  clean_up_known (finishes chain with) = tt
-  clean_up_known (reserves chain name mode) = tt
-  clean_up_known (makes chain name mode version id) = (cancel_known (last_dir chain), tt)
-  clean_up_known (links chain name mode version dir) = (drop_known dir, (cancel_known (last_dir chain), tt))
-  clean_up_known (seals chain) = tt
-  clean_up_known (unlinks chain) = (unseal_known (last_dir chain), tt)
+  pub clean_up_known : (step : Flow) → AreKnown who.servers (clean_up who step)
+  clean_up_known (flow.File (file_flow.Finishes chain with)) = tt
+  clean_up_known (flow.Dir (dir_flow.Reserves chain name mode)) = tt
+  clean_up_known (flow.Dir (dir_flow.Makes chain name mode version id)) = (cancel_known (last_dir chain), tt)
+  clean_up_known (flow.Dir (dir_flow.Links chain name mode version dir)) = (drop_known dir, (cancel_known (last_dir chain), tt))
+  clean_up_known (flow.Dir (dir_flow.Seals chain)) = tt
+  clean_up_known (flow.Dir (dir_flow.Unlinks chain)) = (unseal_known (last_dir chain), tt)
 
   forget_known : (dir : DirRef) (birth : Triple) → AreKnown who.servers (forget_in who dir birth)
   forget_known dir triple.Root = tt
@@ -111,12 +119,12 @@ module _ (who : Who) where
 abbrev pub IsKnownStage : ℕ → Stage → Type 0
 IsKnownStage servers compose = Unit {0}
 IsKnownStage servers (round keys) = Unit {0}
-IsKnownStage servers (act flow) = IsKnownFlow flow
+IsKnownStage servers (act step) = IsKnownFlow step
 IsKnownStage servers (winds ending m ms) = IsKnownMessage servers m × AreKnown servers ms
 
-abbrev pub IsKnownTurn : ℕ → Turn → Type 0
-IsKnownTurn servers (goes_on next) = IsKnownStage servers next
-IsKnownTurn servers (winds_up ending more) = AreKnown servers more
+abbrev pub IsKnownTurn : ℕ → Turn Flow → Type 0
+IsKnownTurn servers (turn.GoesOn next) = IsKnownStage servers (act next)
+IsKnownTurn servers (turn.WindsUp ending more) = AreKnown servers more
 
 -- ---- courses
 

@@ -7,16 +7,26 @@ use Rattle.inf_base.specs.declared.id.Id.{Id}
 use Rattle.inf_base.specs.declared.key.LookKey.{LookKey}
 use Rattle.inf_base.specs.declared.limits.TheConstants.{MOST_PATH_NAMES}
 use Rattle.inf_base.specs.declared.setup.ClientLine.{ClientLine}
-use Rattle.inf_base.specs.declared.triple.Triple.{Triple}
 use Rattle.inf_duty.specs.After.{client_after}
 use Rattle.inf_duty.specs.Duty.{asked, asks, begun, given_up_in, next_in, next_of}
 use Rattle.inf_duty.specs.Start.{starting}
 use Rattle.inf_duty.specs.World.{World}
-use Rattle.inf_flow_dir.specs.Client.{ClientState, Ending, Sent, Stage, act, answers, compose, finished, retries, round, winds, wound}
-use Rattle.inf_flow_dir.specs.Flow.{Flow, Who, birth_of, clean_up, finishes, links, makes, reserves, seals, unlinks}
-use Rattle.inf_flow_dir.specs.Group.{Course, asked_id, composed_stage, group, keys_of, lookup_of, next_course}
-use Rattle.inf_flow_dir.specs.Heard.{heard}
-use Rattle.inf_flow_dir.specs.Turn.{Next, Turn, act_turn, after_act, after_make, after_round, by_next, fails, follow, from_root, goes_on, is_busy, next_entry, recorded, served, steps, stops, told_entry, turn_at, turned, winds_up}
+use Rattle.inf_flow_dir.specs.declared.dir_flow.DirFlow.TheVariants as dir_flow
+use Rattle.inf_message.specs.declared.ending.Ending.TheVariants as ending
+use Rattle.inf_flow_file.specs.declared.file_flow.FileFlow.TheVariants as file_flow
+use Rattle.inf_duty.specs.declared.flow.Flow.TheVariants as flow
+use Rattle.inf_message.specs.declared.turn.Turn.TheVariants as turn
+use Rattle.inf_duty.specs.ClientState.{ClientState, Stage, act, compose, finished, round, winds, wound}
+use Rattle.inf_duty.specs.Flow.{after_act, clean_up}
+use Rattle.inf_duty.specs.Group.{Course, composed_stage, group, keys_of, next_course}
+use Rattle.inf_duty.specs.Turn.{Next, act_turn, after_round, by_next, follow, from_root, is_busy, next_entry, recorded, served, steps, stops, told_entry, turn_at, turned}
+use Rattle.inf_duty.specs.declared.flow.Flow.{Flow}
+use Rattle.inf_message.specs.Heard.{heard}
+use Rattle.inf_message.specs.Sent.{Sent}
+use Rattle.inf_message.specs.Turn.{fails, turn_as}
+use Rattle.inf_message.specs.Who.{Who, asked_id, lookup_of}
+use Rattle.inf_message.specs.declared.ending.Ending.{Ending}
+use Rattle.inf_message.specs.declared.turn.Turn.{Turn}
 use Rattle.inf_laws_history.specs.Legal.{Legal, MayAsk}
 use Rattle.inf_duty.proofs.BegunKept.{IsKept, if_both, kept_begun}
 use Rattle.inf_laws_history.proofs.ClientSteps.{by_answer}
@@ -36,7 +46,7 @@ use Rattle.inf_core.proofs.KnownFlows.{AreKnown, IfKnown, IsKnown, IsKnownCourse
 -- ---- after a round
 
 module _ (servers : ℕ) (course : Course) (is : IsKnownCourse course) where
-  by_next_known : (chain : List Entry) (name : List ℕ) (names : List (List ℕ)) (go : Entry → Turn) (next : Next) → IsShort chain
+  by_next_known : (chain : List Entry) (name : List ℕ) (names : List (List ℕ)) (go : Entry → Turn Flow) (next : Next) → IsShort chain
       → ((e : Entry) → IsKnownTurn servers (go e)) → IsKnownTurn servers (by_next course chain name names go next)
   by_next_known chain name names go (steps e) short goes = goes e
   by_next_known chain name names go stops short goes = (short, is.stops_at name names)
@@ -58,9 +68,9 @@ module _ (servers : ℕ) (course : Course) (is : IsKnownCourse course) where
   root_known xs told any_reply = tt
 
   first_known : (place : ℕ) (told : Option Told) (xs : List Sent) → IsKnownTurn servers (after_round (Some course) (record { place = place; told = told } ∷ xs))
-  first_known place None xs = if_both (IsKnownTurn servers) _ (winds_up (answers answer.NoMemory None) []) (winds_up retries []) tt tt
+  first_known place None xs = if_both (IsKnownTurn servers) _ (turn.WindsUp (ending.Answers answer.NoMemory None) []) (turn.WindsUp ending.Retries []) tt tt
   first_known place (Some told) xs =
-      if_both (IsKnownTurn servers) _ (winds_up (answers answer.NoMemory None) []) (from_root course xs told told.reply) tt (root_known xs told told.reply)
+      if_both (IsKnownTurn servers) _ (turn.WindsUp (ending.Answers answer.NoMemory None) []) (from_root course xs told told.reply) tt (root_known xs told told.reply)
 
 round_known : (servers : ℕ) (found : Option Course) (sent : List Sent) → IfKnown found → IsKnownTurn servers (after_round found sent)
 round_known servers None sent is = tt
@@ -70,43 +80,40 @@ round_known servers (Some course) (x ∷ xs) is = first_known servers course is 
 -- ---- after a message of a flow
 
 module _ (who : Who) where
-  fails_known : (flow : Flow) (place : ℕ) (given : Reply) → IsKnownTurn who.servers (fails who flow place given)
-  fails_known flow place (reply.Busy by at born) = clean_up_known who flow
-  fails_known flow place (reply.Refused error) = clean_up_known who flow
-  fails_known flow place reply.NoMem = clean_up_known who flow
-  fails_known flow place any_reply = clean_up_known who flow
-
-  make_known : (flow : Flow) (own : Triple) (place : ℕ) (given : Reply) → IsKnownTurn who.servers (after_make who flow own place given)
-  make_known flow own place (reply.Clash kept) = clean_up_known who flow
-  make_known flow own place any_reply = fails_known flow place any_reply
+  fails_known : {F : Type 0} (wrap : F → Flow) (step : Flow) (place : ℕ) (given : Reply) → IsKnownTurn who.servers (turn_as wrap (fails (clean_up who step) place given))
+  fails_known wrap step place (reply.Busy by at born) = clean_up_known who step
+  fails_known wrap step place (reply.Refused error) = clean_up_known who step
+  fails_known wrap step place reply.NoMem = clean_up_known who step
+  fails_known wrap step place any_reply = clean_up_known who step
 
 module _ (digest : List ℕ → Id) (who : Who) where
-  act_known : (flow : Flow) (asked place : ℕ) (given : Reply) → IsKnownFlow flow → IsKnownTurn who.servers (after_act digest who flow asked place given)
-  act_known (finishes chain (op.Create name mode)) asked place reply.Fine is = tt
-  act_known (finishes chain (op.Stat name)) asked place (reply.Stat kind meta) is = tt
-  act_known (reserves chain name mode) asked place (reply.Reserved version) is = is
-  act_known (makes chain name mode version id) asked place reply.Fine is = is
-  act_known (makes chain name mode version id) asked place given is =
-      make_known who (makes chain name mode version id) (birth_of who chain name version) place given
-  act_known (links chain name mode version dir) asked place reply.Fine is = tt
-  act_known (seals chain) asked place reply.Fine is = is
-  act_known (unlinks chain) asked place reply.Fine is = after_unlink_known who chain
-  act_known flow asked place given is = fails_known who flow place given
+  act_known : (step : Flow) (asked place : ℕ) (given : Reply) → IsKnownFlow step → IsKnownTurn who.servers (after_act digest who step asked place given)
+  act_known (flow.File (file_flow.Finishes chain (op.Create name mode))) asked place reply.Fine is = tt
+  act_known (flow.File (file_flow.Finishes chain (op.Stat name))) asked place (reply.Stat kind meta) is = tt
+  act_known (flow.Dir (dir_flow.Reserves chain name mode)) asked place (reply.Reserved version) is = is
+  act_known (flow.Dir (dir_flow.Makes chain name mode version id)) asked place reply.Fine is = is
+  act_known (flow.Dir (dir_flow.Makes chain name mode version id)) asked place (reply.Clash kept) is =
+      clean_up_known who (flow.Dir (dir_flow.Makes chain name mode version id))
+  act_known (flow.Dir (dir_flow.Links chain name mode version dir)) asked place reply.Fine is = tt
+  act_known (flow.Dir (dir_flow.Seals chain)) asked place reply.Fine is = is
+  act_known (flow.Dir (dir_flow.Unlinks chain)) asked place reply.Fine is = after_unlink_known who chain
+  act_known (flow.File step) asked place given is = fails_known who flow.File (flow.File step) place given
+  act_known (flow.Dir step) asked place given is = fails_known who flow.Dir (flow.Dir step) place given
 
-  told_known : (flow : Flow) (place : ℕ) (told : Option Told) (xs : List Sent) → IsKnownFlow flow
-      → IsKnownTurn who.servers (act_turn digest who flow (record { place = place; told = told } ∷ xs))
-  told_known flow place None xs is = tt
-  told_known flow place (Some told) xs is = act_known flow place told.serve_place told.reply is
+  told_known : (step : Flow) (place : ℕ) (told : Option Told) (xs : List Sent) → IsKnownFlow step
+      → IsKnownTurn who.servers (act_turn digest who step (record { place = place; told = told } ∷ xs))
+  told_known step place None xs is = tt
+  told_known step place (Some told) xs is = act_known step place told.serve_place told.reply is
 
-  act_turn_known : (flow : Flow) (sent : List Sent) → IsKnownFlow flow → IsKnownTurn who.servers (act_turn digest who flow sent)
-  act_turn_known flow [] is = tt
-  act_turn_known flow (x ∷ xs) is = told_known flow x.place x.told xs is
+  act_turn_known : (step : Flow) (sent : List Sent) → IsKnownFlow step → IsKnownTurn who.servers (act_turn digest who step sent)
+  act_turn_known step [] is = tt
+  act_turn_known step (x ∷ xs) is = told_known step x.place x.told xs is
 
 turn_known : (digest : List ℕ → Id) (s : ClientState) (stage : Stage) → IsKnownStage s.who.servers stage → IsKnownTurn s.who.servers (turn_at digest s stage)
 turn_known digest s compose is = tt
 turn_known digest s (round keys) is = round_known s.who.servers (next_course s.left) s.sent (next_known s.left)
-turn_known digest s (act flow) is = act_turn_known digest s.who flow s.sent is
-turn_known digest s (winds ending m ms) is = is.1
+turn_known digest s (act step) is = act_turn_known digest s.who step s.sent is
+turn_known digest s (winds end m ms) is = is.1
 
 -- ---- what a client asks for next
 
@@ -122,25 +129,25 @@ keys_known digest servers who (Some course) = tt
 composed_known : (digest : List ℕ → Id) (servers : ℕ) (s : ClientState) (stage : Stage) → IsKnownStage servers stage → IsKnownStage servers (composed_stage digest s stage)
 composed_known digest servers s compose is = keys_known digest servers s.who (next_course s.left)
 composed_known digest servers s (round keys) is = is
-composed_known digest servers s (act flow) is = is
-composed_known digest servers s (winds ending m ms) is = is
+composed_known digest servers s (act step) is = is
+composed_known digest servers s (winds end m ms) is = is
 
 module _ (world : World) where
-  finished_knows : (ending : Ending) (s : ClientState) → Knows world s → Knows world (finished ending s)
-  finished_knows (answers given place) s knows = record { servers = knows.servers; stage = tt }
-  finished_knows retries s knows = record { servers = knows.servers; stage = tt }
+  finished_knows : (end : Ending) (s : ClientState) → Knows world s → Knows world (finished end s)
+  finished_knows (ending.Answers given place) s knows = record { servers = knows.servers; stage = tt }
+  finished_knows ending.Retries s knows = record { servers = knows.servers; stage = tt }
 
-  wound_knows : (ending : Ending) (more : List Message) (s : ClientState) → AreKnown s.who.servers more → Knows world s → Knows world (wound ending more s)
-  wound_knows ending [] s are knows = finished_knows ending s knows
-  wound_knows ending (m ∷ ms) s are knows = record { servers = knows.servers; stage = are }
+  wound_knows : (end : Ending) (more : List Message) (s : ClientState) → AreKnown s.who.servers more → Knows world s → Knows world (wound end more s)
+  wound_knows end [] s are knows = finished_knows end s knows
+  wound_knows end (m ∷ ms) s are knows = record { servers = knows.servers; stage = are }
 
-  turned_knows : (turn : Turn) (s : ClientState) → IsKnownTurn s.who.servers turn → Knows world s → Knows world (turned turn s)
-  turned_knows (goes_on next) s is knows = record { servers = knows.servers; stage = is }
-  turned_knows (winds_up ending more) s is knows = wound_knows ending more s is knows
+  turned_knows : (t : Turn Flow) (s : ClientState) → IsKnownTurn s.who.servers t → Knows world s → Knows world (turned t s)
+  turned_knows (turn.GoesOn next) s is knows = record { servers = knows.servers; stage = is }
+  turned_knows (turn.WindsUp end more) s is knows = wound_knows end more s is knows
 
   given_up_at : (s : ClientState) (stage : Stage) → Knows world s → Knows world (given_up_in s stage)
-  given_up_at s (act flow) knows = wound_knows (answers answer.NoMemory None) (clean_up s.who flow) s (clean_up_known s.who flow) knows
-  given_up_at s (winds ending m ms) knows = knows
+  given_up_at s (act step) knows = wound_knows (ending.Answers answer.NoMemory None) (clean_up s.who step) s (clean_up_known s.who step) knows
+  given_up_at s (winds end m ms) knows = knows
   given_up_at s compose knows = record { servers = knows.servers; stage = tt }
   given_up_at s (round keys) knows = record { servers = knows.servers; stage = tt }
 
@@ -189,8 +196,8 @@ lookups_known who (k ∷ keys) = (known who (asked_id who k) (request.Lookup k) 
 group_known : (who : Who) (stage : Stage) → IsKnownStage who.servers stage → AreKnown who.servers (group who stage)
 group_known who compose is = tt
 group_known who (round keys) is = lookups_known who keys
-group_known who (act flow) is = (flow_known who flow is, tt)
-group_known who (winds ending m ms) is = (is.0, tt)
+group_known who (act step) is = (flow_known who step is, tt)
+group_known who (winds end m ms) is = (is.0, tt)
 
 message_known : (servers index : ℕ) (messages : List Message) (message : Message) → AreKnown servers messages → slice_get messages index ≡ Some message → IsKnownMessage servers message
 message_known servers index [] message are found = absurd (cc)

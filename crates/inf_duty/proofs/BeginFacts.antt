@@ -3,7 +3,7 @@ use Rattle.std.proofs.Common.{List, ◌≡◌, ◌≢◌, ◌↔◌, ℕ, Bool, 
 use Rattle.inf_base.specs.declared.id.Id.{Id}
 use Rattle.inf_duty.specs.Duty.{Duty, asks, at_call, begun, given_up, may_give_up, next_step}
 use Rattle.inf_duty.proofs.BegunFacts.{at_nothing, begun_between, gives_up, stays_at}
-use Rattle.inf_flow_dir.specs.Client.{ClientState}
+use Rattle.inf_duty.specs.ClientState.{ClientState}
 use Rattle.inf_message.specs.declared.ask.Ask.{Ask}
 use Rattle.inf_message.specs.declared.request.Request.{Request}
 

@@ -4,8 +4,9 @@ use Rattle.inf_base.specs.declared.call.Call.{Call}
 use Rattle.inf_base.specs.declared.id.Id.{Id}
 use Rattle.inf_duty.specs.Duty.{at_call, begun, found_at, given_up, lifts, may_give_up}
 use Rattle.inf_duty.specs.Outcome.{all_given_up, may_pass}
-use Rattle.inf_flow_dir.specs.Client.{ClientState, Sent}
-use Rattle.inf_flow_dir.specs.Group.{composed}
+use Rattle.inf_duty.specs.ClientState.{ClientState}
+use Rattle.inf_duty.specs.Group.{composed}
+use Rattle.inf_message.specs.Sent.{Sent}
 use Rattle.inf_message.specs.declared.ask.Ask.{Ask}
 use Rattle.inf_message.specs.declared.request.Request.{Request}
 

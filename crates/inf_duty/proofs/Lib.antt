@@ -8,3 +8,5 @@ pub mod OwnFacts
 pub mod RecordFacts
 pub mod AnswerFacts
 pub mod BeginFacts
+pub mod DraftFacts
+pub mod WalkFacts

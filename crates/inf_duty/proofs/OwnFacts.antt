@@ -7,29 +7,35 @@ use Rattle.inf_duty.specs.Duty.{asked, begun, given_up_in}
 use Rattle.inf_duty.specs.Own.{after_answer, after_own}
 use Rattle.inf_duty.specs.declared.own.OwnAsk.{OwnAsk}
 use Rattle.inf_duty.proofs.BegunKept.{IsKept, if_both, kept_begun}
-use Rattle.inf_flow_dir.specs.Client.{ClientState, Ending, Stage, act, answers, compose, has_place, retries, round, winds, wound}
-use Rattle.inf_flow_dir.specs.Flow.{clean_up}
-use Rattle.inf_flow_dir.specs.Heard.{heard}
-use Rattle.inf_flow_dir.specs.Turn.{Turn, after_record, goes_on, is_complete, recorded, served, settled, turn_at, turned, winds_up}
+use Rattle.inf_message.specs.declared.ending.Ending.TheVariants as ending
+use Rattle.inf_message.specs.declared.turn.Turn.TheVariants as turn
+use Rattle.inf_duty.specs.ClientState.{ClientState, Stage, act, compose, round, winds, wound}
+use Rattle.inf_duty.specs.Flow.{clean_up}
+use Rattle.inf_duty.specs.Turn.{after_record, is_complete, recorded, served, settled, turn_at, turned}
+use Rattle.inf_message.specs.Heard.{heard}
+use Rattle.inf_message.specs.Sent.{has_place}
+use Rattle.inf_message.specs.declared.ending.Ending.{Ending}
+use Rattle.inf_message.specs.declared.turn.Turn.{Turn}
 use Rattle.inf_message.specs.declared.ask.Ask.{Ask}
 use Rattle.inf_message.specs.declared.reply.Reply.{Reply}
 use Rattle.inf_message.specs.declared.step.Message.{Message}
 use Rattle.inf_message.specs.History.{Told, told_reply}
+use Rattle.inf_duty.specs.declared.flow.Flow.{Flow}
 
 -- its call has taken at most so many messages
 abbrev TookAtMost : ℕ → ClientState → Type 0
 TookAtMost count s = s.counts.messages ≤ count
 
-wound_took : (count : ℕ) (ending : Ending) (ms : List Message) (s : ClientState) → TookAtMost count s → TookAtMost count (wound ending ms s)
-wound_took count (answers given place) [] s took = omega arith
-wound_took count retries [] s took = took
-wound_took count ending (m ∷ ms) s took = took
+wound_took : (count : ℕ) (end : Ending) (ms : List Message) (s : ClientState) → TookAtMost count s → TookAtMost count (wound end ms s)
+wound_took count (ending.Answers given place) [] s took = omega arith
+wound_took count ending.Retries [] s took = took
+wound_took count end (m ∷ ms) s took = took
 
 given_took_in : (count : ℕ) (s : ClientState) (x : Stage) → TookAtMost count s → TookAtMost count (given_up_in s x)
 given_took_in count s compose took = omega arith
 given_took_in count s (round keys) took = omega arith
-given_took_in count s (act flow) took = wound_took count (answers answer.NoMemory None) (clean_up s.who flow) s took
-given_took_in count s (winds ending m ms) took = took
+given_took_in count s (act flow) took = wound_took count (ending.Answers answer.NoMemory None) (clean_up s.who flow) s took
+given_took_in count s (winds end m ms) took = took
 
 took_kept : (digest : List ℕ → Id) (count : ℕ) → IsKept digest (TookAtMost count)
 took_kept digest count = record { composing = λ s took. took; giving_up = λ s took. given_took_in count s s.stage took }
@@ -41,9 +47,9 @@ begun_took digest count ask s took = kept_begun digest (TookAtMost count) (took_
 asked_took : (digest : List ℕ → Id) (count at : ℕ) (ask : Ask) (s : ClientState) → TookAtMost count s → TookAtMost (count + 1) (asked digest at ask s)
 asked_took digest count at ask s took = let before = begun_took digest count ask s took in omega arith
 
-turned_took : (count : ℕ) (t : Turn) (s : ClientState) → TookAtMost count s → TookAtMost count (turned t s)
-turned_took count (goes_on next) s took = took
-turned_took count (winds_up ending more) s took = wound_took count ending more s took
+turned_took : (count : ℕ) (t : Turn Flow) (s : ClientState) → TookAtMost count s → TookAtMost count (turned t s)
+turned_took count (turn.GoesOn next) s took = took
+turned_took count (turn.WindsUp end more) s took = wound_took count end more s took
 
 settled_took : (digest : List ℕ → Id) (count : ℕ) (complete : Bool) (s : ClientState) → TookAtMost count s → TookAtMost count (settled digest complete s)
 settled_took digest count true s took = turned_took count (turn_at digest s s.stage) s took

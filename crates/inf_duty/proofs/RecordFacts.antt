@@ -1,8 +1,13 @@
 -- One answer among the Asks of a group.
-use Rattle.std.proofs.Common.{◌≡◌, ℕ, zero, suc, ◌+◌, ◌<◌, ◌≤◌, Bool, true, false, List, [], ◌∷◌, length, get_or, map, refl, sym, ap, ◌∙◌, arith}
+use Rattle.std.proofs.Common.{◌≡◌, ℕ, zero, suc, ◌+◌, ◌<◌, ◌≤◌, ◌&&◌, eqb, Bool, true, false, List, [], ◌∷◌, length, get_or, map, refl, sym, ap, ◌∙◌, arith}
 use Rattle.std.proofs.Math.ListN.{set}
-use Rattle.inf_duty.specs.Kept.{told_count}
-use Rattle.inf_flow_dir.specs.Client.{Sent, is_told, one_if, told_at}
+use Rattle.inf_duty.specs.Kept.{AloneOrFits, RoomsFit, told_count}
+use Rattle.inf_duty.specs.Messages.{has_one_message}
+use Rattle.inf_duty.specs.Standing.{stage_of}
+use Rattle.inf_duty.specs.declared.standing.Standing.{Standing}
+use Rattle.inf_duty.specs.declared.standing.Standing.TheVariants as standing
+use Rattle.inf_duty.specs.ClientState.{one_if}
+use Rattle.inf_message.specs.Sent.{Sent, is_told, told_at}
 use Rattle.inf_message.specs.History.{Told}
 
 -- the first so many changed
@@ -91,3 +96,20 @@ keeps_more place told before now rooms_before rooms next_rooms i x kept within i
       same = rw one (ap (λ xs. set xs i (f x)) kept.same ∙ changed_more_at f before i x within (is ∙ ap (λ xs. get_or xs i x) kept.same));
       rooms_left = omega (arith, count, took, kept.rooms_left);
     }
+
+-- where more than one answer is kept, an answer takes the room that was made for it
+alone_or_fits : (rooms less : ℕ) (sent told : List Sent) → length told ≡ length sent → less + told_count told ≡ rooms + told_count sent → eqb (length sent) 1 ≡ false
+    → AloneOrFits rooms sent → AloneOrFits less told
+alone_or_fits rooms less [] [] same taken apart fits = tt
+alone_or_fits rooms less [] (y ∷ told) same taken apart fits = absurd (omega (arith, same))
+alone_or_fits rooms less (x ∷ []) told same taken apart fits = absurd cc
+alone_or_fits rooms less (x ∷ x2 ∷ sent) [] same taken apart fits = absurd (omega (arith, same))
+alone_or_fits rooms less (x ∷ x2 ∷ sent) (y ∷ []) same taken apart fits = absurd (omega (arith, same))
+alone_or_fits rooms less (x ∷ x2 ∷ sent) (y ∷ y2 ∷ told) same taken apart fits = omega (arith, same, taken, fits)
+
+pub fits_recorded : (stands : Standing) (rooms less : ℕ) (sent told : List Sent) → length told ≡ length sent → less + told_count told ≡ rooms + told_count sent
+    → (has_one_message (stage_of stands) && eqb (length sent) 1) ≡ false → RoomsFit stands rooms sent → RoomsFit stands less told
+fits_recorded standing.Compose rooms less sent told same taken apart fits = omega (arith, same, taken, fits)
+fits_recorded (standing.Round keys draft) rooms less sent told same taken apart fits = (omega (arith, taken, fits.0), omega (arith, same, taken, fits.1))
+fits_recorded (standing.Act step) rooms less sent told same taken apart fits = alone_or_fits rooms less sent told same taken apart fits
+fits_recorded (standing.Winds end first rest) rooms less sent told same taken apart fits = alone_or_fits rooms less sent told same taken apart fits

@@ -6,15 +6,16 @@ use Rattle.inf_base.specs.declared.answer.Answer.TheVariants as answer
 use Rattle.inf_base.specs.declared.call.Call.{Call}
 use Rattle.inf_duty.specs.Kept.{unserved}
 use Rattle.inf_duty.specs.Outcome.{results_of, so_far, unanswered}
-use Rattle.inf_flow_dir.specs.Client.{ClientState, Stage, act, answers, compose, ended, rest_of, result_of, retries, round, winds}
+use Rattle.inf_message.specs.declared.ending.Ending.TheVariants as ending
+use Rattle.inf_duty.specs.ClientState.{ClientState, Stage, act, compose, ended, rest_of, result_of, round, winds}
 use Rattle.inf_message.specs.declared.call_result.CallResult.{CallResult}
 
 so_far_apart : (x : Stage) (s : ClientState) (results : List CallResult) → so_far x (record s { results = results }) ≡ so_far x s
 so_far_apart compose s results = refl
 so_far_apart (round keys) s results = refl
 so_far_apart (act flow) s results = refl
-so_far_apart (winds (answers given place) m ms) s results = refl
-so_far_apart (winds retries m ms) s results = refl
+so_far_apart (winds (ending.Answers given place) m ms) s results = refl
+so_far_apart (winds ending.Retries m ms) s results = refl
 
 -- they rest on no result that there is already
 unanswered_apart : (calls : List Call) (s : ClientState) (results : List CallResult) → unanswered calls (record s { results = results }) ≡ unanswered calls s
@@ -28,8 +29,8 @@ so_far_unserved : (x : Stage) (s : ClientState) → so_far x (unserved s) ≡ so
 so_far_unserved compose s = refl
 so_far_unserved (round keys) s = refl
 so_far_unserved (act flow) s = refl
-so_far_unserved (winds (answers given place) m ms) s = refl
-so_far_unserved (winds retries m ms) s = refl
+so_far_unserved (winds (ending.Answers given place) m ms) s = refl
+so_far_unserved (winds ending.Retries m ms) s = refl
 
 unanswered_unserved : (calls : List Call) (s : ClientState) → unanswered calls (unserved s) ≡ unanswered calls s
 unanswered_unserved [] s = refl

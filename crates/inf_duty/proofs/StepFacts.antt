@@ -13,10 +13,10 @@ use Rattle.inf_duty.specs.Standing.{stage_of}
 use Rattle.inf_duty.specs.declared.standing.Standing.{Standing}
 use Rattle.inf_duty.specs.declared.standing.Standing.TheVariants as standing
 use Rattle.inf_duty.proofs.BegunFacts.{ask_left, both}
-use Rattle.inf_flow_dir.specs.Client.{ClientState, Stage, act, compose, round, winds}
-use Rattle.inf_flow_dir.specs.Draft.{Drafted, course_with}
-use Rattle.inf_flow_dir.specs.Flow.{Who}
-use Rattle.inf_flow_dir.specs.Group.{Course, composed, composed_stage, group, keys_of, lookup_of, next_course}
+use Rattle.inf_duty.specs.ClientState.{ClientState, Stage, act, compose, round, winds}
+use Rattle.inf_duty.specs.Draft.{course_with}
+use Rattle.inf_duty.specs.Group.{Course, composed, composed_stage, group, keys_of, next_course}
+use Rattle.inf_message.specs.Who.{Who, lookup_of}
 use Rattle.inf_message.specs.declared.ask.Ask.{Ask}
 use Rattle.inf_message.specs.declared.step.Message.{Message}
 

@@ -7,81 +7,89 @@ use Rattle.inf_base.specs.declared.id.Id.{Id}
 use Rattle.inf_duty.specs.Kept.{AloneOrFits}
 use Rattle.inf_duty.specs.Messages.{has_one_message}
 use Rattle.inf_duty.specs.Tally.{with_serve}
-use Rattle.inf_flow_dir.specs.Client.{ClientState, Ending, Sent, Stage, act, answers, compose, has_place, is_round, is_told, retries, round, told_at, winds}
-use Rattle.inf_flow_dir.specs.Flow.{Flow, Who, finishes, links, makes, reserves, seals, unlinks}
-use Rattle.inf_flow_dir.specs.Group.{group}
-use Rattle.inf_flow_dir.specs.Heard.{heard}
-use Rattle.inf_flow_dir.specs.Turn.{Turn, act_turn, after_act, goes_on, is_complete, recorded, served, settled, turn_at, turned, winds_up}
+use Rattle.inf_flow_dir.specs.declared.dir_flow.DirFlow.TheVariants as dir_flow
+use Rattle.inf_message.specs.declared.ending.Ending.TheVariants as ending
+use Rattle.inf_flow_file.specs.declared.file_flow.FileFlow.TheVariants as file_flow
+use Rattle.inf_duty.specs.declared.flow.Flow.TheVariants as flow
+use Rattle.inf_message.specs.declared.turn.Turn.TheVariants as turn
+use Rattle.inf_duty.specs.ClientState.{ClientState, Stage, act, compose, is_round, round, winds}
+use Rattle.inf_duty.specs.Flow.{after_act}
+use Rattle.inf_duty.specs.Group.{group}
+use Rattle.inf_duty.specs.Turn.{act_turn, is_complete, recorded, served, settled, turn_at, turned}
+use Rattle.inf_duty.specs.declared.flow.Flow.{Flow}
+use Rattle.inf_message.specs.Heard.{heard}
+use Rattle.inf_message.specs.Sent.{Sent, has_place, is_told, told_at}
+use Rattle.inf_message.specs.Who.{Who}
+use Rattle.inf_message.specs.declared.turn.Turn.{Turn}
 use Rattle.inf_base.specs.declared.item.Item.{Item}
 use Rattle.inf_message.specs.declared.op.Op.TheVariants as op
 use Rattle.inf_message.specs.declared.reply.Reply.{Reply}
 use Rattle.inf_message.specs.declared.reply.Reply.TheVariants as reply
-use Rattle.inf_message.specs.declared.step.Message.{Message}
 use Rattle.inf_message.specs.History.{Told, or_told}
 
 -- what a turn leaves does not rest on the group that is over
-pub turned_afresh : (t : Turn) (s : ClientState) (x y : Stage) (xs ys : List Sent)
+pub turned_afresh : (t : Turn Flow) (s : ClientState) (x y : Stage) (xs ys : List Sent)
     → turned t (record s { stage = x; sent = xs }) ≡ turned t (record s { stage = y; sent = ys })
-turned_afresh (goes_on next) s x y xs ys = refl
-turned_afresh (winds_up (answers given place) []) s x y xs ys = refl
-turned_afresh (winds_up retries []) s x y xs ys = refl
-turned_afresh (winds_up ending (m ∷ ms)) s x y xs ys = refl
+turned_afresh (turn.GoesOn next) s x y xs ys = refl
+turned_afresh (turn.WindsUp (ending.Answers given place) []) s x y xs ys = refl
+turned_afresh (turn.WindsUp ending.Retries []) s x y xs ys = refl
+turned_afresh (turn.WindsUp end (m ∷ ms)) s x y xs ys = refl
 
 -- a listing is answered as any reply that was not asked for
-listing_act : (digest : List ℕ → Id) (who : Who) (flow : Flow) (asked place : ℕ) (items : List Item) → after_act digest who flow asked place reply.Other ≡ after_act digest who flow asked place (reply.Listing items)
-listing_act digest who (finishes chain (op.Refuse error)) asked place items = refl
-listing_act digest who (finishes chain op.StatTop) asked place items = refl
-listing_act digest who (finishes chain (op.Walk name)) asked place items = refl
-listing_act digest who (finishes chain (op.Create name mode)) asked place items = refl
-listing_act digest who (finishes chain (op.Stat name)) asked place items = refl
-listing_act digest who (finishes chain (op.Unlink name)) asked place items = refl
-listing_act digest who (finishes chain (op.Truncate name size)) asked place items = refl
-listing_act digest who (finishes chain (op.Chmod name mode)) asked place items = refl
-listing_act digest who (finishes chain (op.Move old new)) asked place items = refl
-listing_act digest who (finishes chain (op.ListName name)) asked place items = refl
-listing_act digest who (finishes chain (op.RmdirName name)) asked place items = refl
-listing_act digest who (finishes chain op.List) asked place items = refl
-listing_act digest who (reserves chain name mode) asked place items = refl
-listing_act digest who (makes chain name mode version id) asked place items = refl
-listing_act digest who (links chain name mode version dir) asked place items = refl
-listing_act digest who (seals chain) asked place items = refl
-listing_act digest who (unlinks chain) asked place items = refl
+listing_act : (digest : List ℕ → Id) (who : Who) (step : Flow) (asked place : ℕ) (items : List Item) → after_act digest who step asked place reply.Other ≡ after_act digest who step asked place (reply.Listing items)
+listing_act digest who (flow.File (file_flow.Finishes chain (op.Refuse error))) asked place items = refl
+listing_act digest who (flow.File (file_flow.Finishes chain op.StatTop)) asked place items = refl
+listing_act digest who (flow.File (file_flow.Finishes chain (op.Walk name))) asked place items = refl
+listing_act digest who (flow.File (file_flow.Finishes chain (op.Create name mode))) asked place items = refl
+listing_act digest who (flow.File (file_flow.Finishes chain (op.Stat name))) asked place items = refl
+listing_act digest who (flow.File (file_flow.Finishes chain (op.Unlink name))) asked place items = refl
+listing_act digest who (flow.File (file_flow.Finishes chain (op.Truncate name size))) asked place items = refl
+listing_act digest who (flow.File (file_flow.Finishes chain (op.Chmod name mode))) asked place items = refl
+listing_act digest who (flow.File (file_flow.Finishes chain (op.Move old new))) asked place items = refl
+listing_act digest who (flow.File (file_flow.Finishes chain (op.ListName name))) asked place items = refl
+listing_act digest who (flow.File (file_flow.Finishes chain (op.RmdirName name))) asked place items = refl
+listing_act digest who (flow.File (file_flow.Finishes chain op.List)) asked place items = refl
+listing_act digest who (flow.Dir (dir_flow.Reserves chain name mode)) asked place items = refl
+listing_act digest who (flow.Dir (dir_flow.Makes chain name mode version id)) asked place items = refl
+listing_act digest who (flow.Dir (dir_flow.Links chain name mode version dir)) asked place items = refl
+listing_act digest who (flow.Dir (dir_flow.Seals chain)) asked place items = refl
+listing_act digest who (flow.Dir (dir_flow.Unlinks chain)) asked place items = refl
 
-pub heard_act : (digest : List ℕ → Id) (who : Who) (flow : Flow) (asked place : ℕ) (given : Reply) → after_act digest who flow asked place (heard given) ≡ after_act digest who flow asked place given
-heard_act digest who flow asked place (reply.Listing items) = listing_act digest who flow asked place items
-heard_act digest who flow asked place (reply.Found key access) = refl
-heard_act digest who flow asked place (reply.Absent born) = refl
-heard_act digest who flow asked place (reply.IsFile born) = refl
-heard_act digest who flow asked place reply.NoDir = refl
-heard_act digest who flow asked place reply.Gone = refl
-heard_act digest who flow asked place (reply.Stale hits) = refl
-heard_act digest who flow asked place (reply.Busy by where_at born) = refl
-heard_act digest who flow asked place reply.Other = refl
-heard_act digest who flow asked place reply.NoMem = refl
-heard_act digest who flow asked place (reply.Reserved version) = refl
-heard_act digest who flow asked place (reply.Held meta) = refl
-heard_act digest who flow asked place (reply.Clash kept) = refl
-heard_act digest who flow asked place reply.Fine = refl
-heard_act digest who flow asked place (reply.Refused error) = refl
-heard_act digest who flow asked place (reply.Stat kind meta) = refl
+pub heard_act : (digest : List ℕ → Id) (who : Who) (step : Flow) (asked place : ℕ) (given : Reply) → after_act digest who step asked place (heard given) ≡ after_act digest who step asked place given
+heard_act digest who step asked place (reply.Listing items) = listing_act digest who step asked place items
+heard_act digest who step asked place (reply.Found key access) = refl
+heard_act digest who step asked place (reply.Absent born) = refl
+heard_act digest who step asked place (reply.IsFile born) = refl
+heard_act digest who step asked place reply.NoDir = refl
+heard_act digest who step asked place reply.Gone = refl
+heard_act digest who step asked place (reply.Stale hits) = refl
+heard_act digest who step asked place (reply.Busy by where_at born) = refl
+heard_act digest who step asked place reply.Other = refl
+heard_act digest who step asked place reply.NoMem = refl
+heard_act digest who step asked place (reply.Reserved version) = refl
+heard_act digest who step asked place (reply.Held meta) = refl
+heard_act digest who step asked place (reply.Clash kept) = refl
+heard_act digest who step asked place reply.Fine = refl
+heard_act digest who step asked place (reply.Refused error) = refl
+heard_act digest who step asked place (reply.Stat kind meta) = refl
 
 -- ---- a group of one message
 
-turn_at_one : (digest : List ℕ → Id) (who : Who) (flow : Flow) (p place : ℕ) (told : Told) (b : Bool) → eqb p place ≡ b → b || false ≡ true
-    → act_turn digest who flow (cond b (record { place = p; told = Some told }) (record { place = p; told = None }) ∷ []) ≡ after_act digest who flow place told.serve_place told.reply
-turn_at_one digest who flow p place told true same here =
+turn_at_one : (digest : List ℕ → Id) (who : Who) (step : Flow) (p place : ℕ) (told : Told) (b : Bool) → eqb p place ≡ b → b || false ≡ true
+    → act_turn digest who step (cond b (record { place = p; told = Some told }) (record { place = p; told = None }) ∷ []) ≡ after_act digest who step place told.serve_place told.reply
+turn_at_one digest who step p place told true same here =
     let is : p ≡ place = grind (arith, nat_tests) in
-    ap (λ at. after_act digest who flow at told.serve_place told.reply) is
-turn_at_one digest who flow p place told false same here = absurd (cc)
+    ap (λ at. after_act digest who step at told.serve_place told.reply) is
+turn_at_one digest who step p place told false same here = absurd (cc)
 
 -- its one answer decides
-pub alone_turn : (digest : List ℕ → Id) (who : Who) (flow : Flow) (place rooms : ℕ) (told : Told) (sent : List Sent) → length sent ≡ 1 → has_place place sent ≡ true → AloneOrFits rooms sent
-    → act_turn digest who flow (map (told_at place told) sent) ≡ after_act digest who flow place told.serve_place told.reply
-alone_turn digest who flow place rooms told [] one here fits = absurd (omega arith)
-alone_turn digest who flow place rooms told (x ∷ []) one here fits =
-    subst (λ t. act_turn digest who flow ((if eqb x.place place then record { place = x.place; told = Some (or_told t told) } else record { place = x.place; told = t }) ∷ []) ≡ after_act digest who flow place told.serve_place told.reply)
-    (sym fits) (turn_at_one digest who flow x.place place told (eqb x.place place) refl here)
-alone_turn digest who flow place rooms told (x ∷ y ∷ sent) one here fits = absurd (omega arith)
+pub alone_turn : (digest : List ℕ → Id) (who : Who) (step : Flow) (place rooms : ℕ) (told : Told) (sent : List Sent) → length sent ≡ 1 → has_place place sent ≡ true → AloneOrFits rooms sent
+    → act_turn digest who step (map (told_at place told) sent) ≡ after_act digest who step place told.serve_place told.reply
+alone_turn digest who step place rooms told [] one here fits = absurd (omega arith)
+alone_turn digest who step place rooms told (x ∷ []) one here fits =
+    subst (λ t. act_turn digest who step ((if eqb x.place place then record { place = x.place; told = Some (or_told t told) } else record { place = x.place; told = t }) ∷ []) ≡ after_act digest who step place told.serve_place told.reply)
+    (sym fits) (turn_at_one digest who step x.place place told (eqb x.place place) refl here)
+alone_turn digest who step place rooms told (x ∷ y ∷ sent) one here fits = absurd (omega arith)
 
 told_one : (x : Sent) (place : ℕ) (told : Told) (b : Bool) → b || false ≡ true → is_told (cond b (record x { told = Some (or_told x.told told) }) x) ≡ true
 told_one x place told true here = refl
@@ -95,8 +103,8 @@ one_told place told (x ∷ y ∷ sent) one here = absurd (omega arith)
 size_one : (who : Who) (next : Stage) → has_one_message next ≡ true → length (group who next) ≡ 1
 size_one who compose one = absurd (cc)
 size_one who (round keys) one = absurd (cc)
-size_one who (act flow) one = refl
-size_one who (winds ending m ms) one = refl
+size_one who (act step) one = refl
+size_one who (winds end m ms) one = refl
 
 both : (a b : Bool) → a ≡ true → b ≡ true → a && b ≡ true
 both a b first second = rw (first, second) refl
@@ -117,13 +125,13 @@ served_alone digest place told s alone here one =
     ap (λ b. if b then settled digest (is_complete (recorded place told s)) (recorded place told s) else s) here
     ∙ ap (λ b. settled digest b (recorded place told s)) (alone_complete place told s alone here one)
 
-pub alone_ends : (digest : List ℕ → Id) (s mid new : ClientState) (t : Turn) (place : ℕ) (told : Told) → length s.sent ≡ 1 → has_place place s.sent ≡ true → has_one_message s.stage ≡ true
+pub alone_ends : (digest : List ℕ → Id) (s mid new : ClientState) (t : Turn Flow) (place : ℕ) (told : Told) → length s.sent ≡ 1 → has_place place s.sent ≡ true → has_one_message s.stage ≡ true
     → t ≡ turn_at digest (recorded place told s) s.stage → mid ≡ record s { stage = compose; sent = []; counts = with_serve told.serve_place s.counts }
     → new ≡ turned t mid → new ≡ served digest place told s
-alone_ends digest s mid new t place told alone here one turn between after =
+alone_ends digest s mid new t place told alone here one comes between after =
     after ∙ ap (turned t) between
     ∙ turned_afresh t (record s { counts = with_serve told.serve_place s.counts }) compose s.stage [] (map (told_at place told) s.sent)
-    ∙ ap (λ (u : Turn). turned u (recorded place told s)) turn
+    ∙ ap (λ (u : Turn Flow). turned u (recorded place told s)) comes
     ∙ sym (served_alone digest place told s alone here one)
 
 -- ---- a round
@@ -142,8 +150,8 @@ complete_round s complete some more = by s.stage (first_of (eqb (length s.sent) 
     by : (next : Stage) → eqb (length s.sent) (length (group s.who next)) ≡ true → (has_one_message next && eqb (length s.sent) 1) ≡ false → is_round next ≡ true
     by compose is alone = absurd (no_group s.sent some is)
     by (round keys) is alone = refl
-    by (act flow) is alone = absurd (cc)
-    by (winds ending m ms) is alone = absurd (cc)
+    by (act step) is alone = absurd (cc)
+    by (winds end m ms) is alone = absurd (cc)
 
 pub some_sent : (place : ℕ) (sent : List Sent) → has_place place sent ≡ true → 0 < length sent
 some_sent place [] here = absurd (cc)

@@ -7,9 +7,12 @@ use Rattle.inf_message.specs.declared.ask.Ask.{Ask}
 use Rattle.inf_message.specs.declared.request.Request.{Request}
 use Rattle.inf_message.specs.declared.request.Request.TheVariants as request
 use Rattle.inf_message.specs.declared.step.Message.{Message}
-use Rattle.inf_flow_dir.specs.Client.{ClientState, Sent, Stage, act, answers, call_ref, compose, ended, placed, winds, wound}
-use Rattle.inf_flow_dir.specs.Flow.{Who, clean_up}
-use Rattle.inf_flow_dir.specs.Group.{composed, group, next_course}
+use Rattle.inf_message.specs.declared.ending.Ending.TheVariants as ending
+use Rattle.inf_duty.specs.ClientState.{ClientState, Stage, act, call_ref, compose, ended, placed, winds, wound}
+use Rattle.inf_duty.specs.Flow.{clean_up}
+use Rattle.inf_duty.specs.Group.{composed, group, next_course}
+use Rattle.inf_message.specs.Sent.{Sent}
+use Rattle.inf_message.specs.Who.{Who}
 use Rattle.inf_duty.specs.Messages.{are_none, is_winding}
 
 pub data Next : Type 0 where
@@ -21,7 +24,8 @@ pub data Next : Type 0 where
   is_over : Next
 
 abbrev pub next_of : ClientState → Option Message → Next
-next_of s (Some message) = asks message.number (record { from = call_ref s; caller = s.who.caller; request = message.request })
+next_of s (Some message) =
+    asks message.number (record { from = call_ref s; caller = s.who.caller; request = message.request })
 next_of s None = waits
 
 abbrev pub next_in : ClientState → List Call → Next
@@ -50,8 +54,8 @@ may_give_up s = has_ask s && not (is_winding s.stage)
 
 -- a client that wants memory between two groups takes the clean-up of its next step, and gives its call up
 abbrev pub given_up_in : ClientState → Stage → ClientState
-given_up_in s (act flow) = wound (answers answer.NoMemory None) (clean_up s.who flow) s
-given_up_in s (winds ending m ms) = s
+given_up_in s (act flow) = wound (ending.Answers answer.NoMemory None) (clean_up s.who flow) s
+given_up_in s (winds end m ms) = s
 given_up_in s other = ended answer.NoMemory None s
 
 abbrev pub given_up : ClientState → ClientState
@@ -68,8 +72,8 @@ lifts other = false
 abbrev pub found_at : (List ℕ → Id) → Request → ClientState → ClientState
 found_at digest asked s = if lifts asked then (if may_give_up s then given_up s else s) else composed digest s
 
--- the client at the call of this number, where it gives up those before it; one that has something to clean up does that
--- first, and one that may not give up its call stays there
+-- the client at the call of this number, where it gives up those before it; one that has something to clean up does
+-- that first, and one that may not give up its call stays there
 abbrev pub at_call : (List ℕ → Id) → ℕ → Request → List Call → ClientState → ClientState
 at_call digest number asked [] s = s
 at_call digest number asked (call ∷ calls) s =

@@ -1,6 +1,6 @@
 -- Words for stages and messages that the code asks about.
 use Rattle.std.specs.Prelude.{ℕ, Bool, true, false, List, [], ◌∷◌}
-use Rattle.inf_flow_dir.specs.Client.{ClientState, Stage, act, call_ref, compose, round, winds}
+use Rattle.inf_duty.specs.ClientState.{ClientState, Stage, act, call_ref, compose, winds}
 use Rattle.inf_message.specs.declared.ask.Ask.{Ask}
 use Rattle.inf_message.specs.declared.step.Message.{Message}
 

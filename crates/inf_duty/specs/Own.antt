@@ -5,9 +5,9 @@ use Rattle.inf_duty.specs.Duty.{asked}
 use Rattle.inf_duty.specs.Start.{start}
 use Rattle.inf_duty.specs.World.{World}
 use Rattle.inf_duty.specs.declared.own.OwnAsk.{OwnAsk}
-use Rattle.inf_flow_dir.specs.Client.{ClientState}
-use Rattle.inf_flow_dir.specs.Heard.{heard}
-use Rattle.inf_flow_dir.specs.Turn.{served}
+use Rattle.inf_duty.specs.ClientState.{ClientState}
+use Rattle.inf_duty.specs.Turn.{served}
+use Rattle.inf_message.specs.Heard.{heard}
 use Rattle.inf_message.specs.declared.reply.Reply.{Reply}
 use Rattle.inf_message.specs.declared.event.Event.{Event}
 use Rattle.inf_message.specs.History.{Own, Told, asks_of, told_reply}
@@ -38,7 +38,8 @@ told_pair None = None
 told_pair (Some told) = Some (told.serve_place, told.reply)
 
 abbrev pub own_of : Own → OwnAsk
-own_of own = record { number = own.made.number; ask = own.made.ask; ask_place = own.made.ask_place; told = told_pair own.told }
+own_of own =
+    record { number = own.made.number; ask = own.made.ask; ask_place = own.made.ask_place; told = told_pair own.told }
 
 -- the Asks of a client in a history, the oldest first
 abbrev pub own_asks : ℕ → List Event → List OwnAsk

@@ -1,7 +1,5 @@
 -- Where a client in code stands.
-use Rattle.std.specs.Prelude.{List}
-use Rattle.inf_flow_dir.specs.Client.{Stage, act, compose, round, winds}
-use Rattle.inf_flow_dir.specs.Ending.{ending_of}
+use Rattle.inf_duty.specs.ClientState.{Stage, act, compose, round, winds}
 use Rattle.inf_duty.specs.declared.standing.Standing.{Standing}
 use Rattle.inf_duty.specs.declared.standing.Standing.TheVariants as standing
 
@@ -9,4 +7,4 @@ abbrev pub stage_of : Standing → Stage
 stage_of standing.Compose = compose
 stage_of (standing.Round keys draft) = round keys
 stage_of (standing.Act flow) = act flow
-stage_of (standing.Winds ending first rest) = winds (ending_of ending) first rest
+stage_of (standing.Winds ending first rest) = winds ending first rest

@@ -3,11 +3,12 @@ use Rattle.std.specs.Prelude.{ℕ, [], Option, Some, None, slice_get}
 use Rattle.inf_base.specs.declared.caller.Caller.{Caller}
 use Rattle.inf_base.specs.declared.setup.ClientLine.{ClientLine}
 use Rattle.inf_duty.specs.World.{World, root_of}
-use Rattle.inf_flow_dir.specs.Client.{ClientState, idle}
-use Rattle.inf_flow_dir.specs.Flow.{Who}
+use Rattle.inf_duty.specs.ClientState.{ClientState, idle}
+use Rattle.inf_message.specs.Who.{Who}
 
 abbrev pub who_in : World → ℕ → Caller → Who
-who_in world client caller = record { client = client; caller = caller; servers = world.setup.servers; root = root_of world }
+who_in world client caller =
+    record { client = client; caller = caller; servers = world.setup.servers; root = root_of world }
 
 -- whom a client calls for that the setup does not have
 abbrev pub nobody : Caller

@@ -1,7 +1,7 @@
 -- How the counts of a call change.
 use Rattle.std.specs.Prelude.{ℕ, ◌+◌, Bool, true, false, not, None}
-use Rattle.inf_flow_dir.specs.Client.{Counts, first_place, one_if}
-use Rattle.inf_flow_dir.specs.Turn.{later_place}
+use Rattle.inf_duty.specs.ClientState.{Counts, first_place, one_if}
+use Rattle.inf_duty.specs.Turn.{later_place}
 
 -- an Ask more
 abbrev pub with_ask : ℕ → Bool → Counts → Counts

@@ -7,7 +7,7 @@ ghost use Rattle.inf_base.specs.Setup.{call_count};
 ghost use Rattle.inf_duty.specs.Kept.{ended_result};
 ghost use Rattle.inf_duty.specs.Start.{start};
 ghost use Rattle.inf_duty.specs.World.{world_by};
-ghost use Rattle.inf_flow_dir.specs.Client.{ended, idle};
+ghost use Rattle.inf_duty.specs.ClientState.{ended, idle};
 
 mod allowing;
 mod asking;
@@ -18,8 +18,7 @@ use crate::standing::Standing;
 use crate::tally::Tally;
 use inf_base::{Answer, Call, CallRef, Caller, ClientLine, NoMemory, Place, Setup, TryClone};
 use inf_birth::IdRule;
-use inf_flow_dir::{ReplyRoom, Sending, Who};
-use inf_message::CallResult;
+use inf_message::{CallResult, NameRoom, ReplyRoom, Sending, Who};
 use std::alloc::Global;
 use std::collections::VecDeque;
 use std::marker::Model;
@@ -35,15 +34,17 @@ pub struct ClientState {
     sent: Vec<Sending>,
     /// For the answers that are still to come.
     rooms: Vec<ReplyRoom>,
+    /// For the triple that a clash names.
+    clash_room: Option<NameRoom>,
     counts: Tally,
     results: Vec<CallResult>,
 }
 
 impl Model for ClientState {
-    ghost use Rattle.std.specs.Prelude.{vec_len, vec_capacity};
+    ghost use Rattle.std.specs.Prelude.{is_some, vec_len, vec_capacity};
     ghost use Rattle.inf_duty.specs.Kept.{IsKept};
     ghost use Rattle.inf_duty.specs.Standing.{stage_of};
-    ghost use Rattle.inf_flow_dir.specs.Client.{ClientState};
+    ghost use Rattle.inf_duty.specs.ClientState.{ClientState};
 
     ghost Value = { ClientState };
 
@@ -58,7 +59,7 @@ impl Model for ClientState {
     } };
 
     ghost invariant = { λ c. IsKept c.number c.left.items c.stands c.sent.items
-        (vec_capacity c.sent) (vec_len c.rooms) (vec_len c.results) (vec_capacity c.results) };
+        (vec_capacity c.sent) (vec_len c.rooms) (is_some c.clash_room) (vec_len c.results) (vec_capacity c.results) };
 }
 
 impl ClientState {
@@ -74,13 +75,15 @@ impl ClientState {
         ensures { IfOk result (λ made.
             made ≡ start (world_by (R.digest_of rule.now) setup.now) client) }
     {
+        // The root's identifier is the digest of the empty message.
+        let root = rule.digest(&[]);
         match line_of(setup, client) {
             Some(line) => ClientState::idle(
                 alloc,
-                Who::new(rule, client, line.caller, setup.servers),
+                Who::new(client, line.caller, setup.servers, root),
                 line.calls.as_slice(),
             ),
-            None => ClientState::idle(alloc, Who::new(rule, client, NOBODY, setup.servers), &[]),
+            None => ClientState::idle(alloc, Who::new(client, NOBODY, setup.servers, root), &[]),
         }
     }
 
@@ -98,6 +101,7 @@ impl ClientState {
             stands: Standing::Compose,
             sent,
             rooms: Vec::new(alloc),
+            clash_room: None,
             counts: Tally::new(),
             results,
         })

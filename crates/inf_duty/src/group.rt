@@ -4,9 +4,9 @@ ghost use Rattle.std.specs.Prelude.{◌≡◌, length};
 ghost use Rattle.inf_duty.specs.Duty.{has_message};
 ghost use Rattle.inf_duty.specs.Messages.{has_one_message, is_compose, is_winding};
 ghost use Rattle.inf_duty.specs.Standing.{stage_of};
-ghost use Rattle.inf_flow_dir.specs.Client.{is_round};
-ghost use Rattle.inf_flow_dir.specs.Flow.{Who};
-ghost use Rattle.inf_flow_dir.specs.Group.{group};
+ghost use Rattle.inf_duty.specs.ClientState.{is_round};
+ghost use Rattle.inf_duty.specs.Group.{group};
+ghost use Rattle.inf_message.specs.Who.{Who};
 
 use crate::standing::Standing;
 

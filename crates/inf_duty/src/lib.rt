@@ -1,20 +1,28 @@
 //! What a client may send, and what its calls came to: its duty as a definition, and a client in code.
 #![tactic(auto)]
 
+mod aim;
 mod allow;
 #[cfg(test)]
 mod allow_tests;
 mod client_state;
 mod client_step;
+mod draft;
+#[cfg(test)]
+mod draft_tests;
+mod flow;
 mod group;
+mod next;
 mod outcome;
 mod own;
 mod recording;
+mod round;
 mod standing;
 mod tally;
 
 pub use allow::{allowed, are_in_order};
 pub use client_state::ClientState;
 pub use client_step::ClientStep;
+pub use flow::Flow;
 pub use outcome::{Outcome, Results};
 pub use own::OwnAsk;

@@ -1,14 +1,14 @@
 //! The answers to the Asks of a group, each kept in room of its own.
 
-ghost use Rattle.std.specs.Prelude.{◌≡◌, ◌+◌, ◌<◌, ◌≤◌, false, length, map, vec_len, vec_capacity, IfOk};
+ghost use Rattle.std.specs.Prelude.{◌≡◌, ◌+◌, ◌<◌, ◌≤◌, true, false, is_some, length, map, vec_len, vec_capacity, IfOk, OnOk};
 ghost use Rattle.inf_duty.specs.Kept.{told_count};
-ghost use Rattle.inf_flow_dir.specs.Client.{is_told, one_if, told_at};
-ghost use Rattle.inf_flow_dir.specs.Heard.{heard};
+ghost use Rattle.inf_duty.specs.ClientState.{one_if};
+ghost use Rattle.inf_message.specs.Heard.{heard};
+ghost use Rattle.inf_message.specs.Sent.{is_told, told_at};
 ghost use Rattle.inf_message.specs.History.{told_reply};
 
 use inf_base::{NoMemory, Place};
-use inf_flow_dir::{ReplyRoom, Sending, Telling};
-use inf_message::Reply;
+use inf_message::{NameRoom, Reply, ReplyRoom, Sending, Telling};
 use std::alloc::Global;
 
 /// Sees that there are so many rooms.
@@ -18,6 +18,17 @@ pub fn make_rooms(alloc: Global, rooms: &mut Vec<ReplyRoom>, count: usize) -> Re
 {
     while rooms.len() < count {
         rooms.push(ReplyRoom::new(alloc)?)?;
+    }
+    Ok(())
+}
+
+/// Sees that there is room for the triple of a clash.
+pub fn make_clash_room(alloc: Global, room: &mut Option<NameRoom>) -> Result<(), NoMemory>
+    ensures there { OnOk result (is_some room.new ≡ true) }
+    ensures no_less { is_some room.old ≡ true → is_some room.new ≡ true }
+{
+    if room.is_none() {
+        *room = Some(NameRoom::new(alloc)?);
     }
     Ok(())
 }
@@ -32,7 +43,8 @@ fn answer(
 )
     requires { is_told sending.old ≡ false → 0 < vec_len rooms.old }
     ensures told { sending.new ≡ told_at ask_place (told_reply serve_place (heard reply.now)) sending.old }
-    ensures rooms { vec_len rooms.new + one_if (is_told sending.new) ≡ vec_len rooms.old + one_if (is_told sending.old) }
+    ensures rooms { vec_len rooms.new + one_if (is_told sending.new)
+        ≡ vec_len rooms.old + one_if (is_told sending.old) }
 {
     if !sending.is_at(ask_place) {
         return;

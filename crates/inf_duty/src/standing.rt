@@ -1,6 +1,9 @@
 //! Where a client stands in the attempt of a call.
 
-use inf_flow_dir::{CleanUp, CleanUps, DirFlow, Draft, Ending, LookKeys};
+use crate::draft::Draft;
+use crate::flow::Flow;
+use inf_base::LookKeys;
+use inf_message::{CleanUp, CleanUps, Ending};
 
 /// Where a client stands in the attempt of a call: between two groups, what it asks for next.
 #[derive(Drop)]
@@ -10,7 +13,7 @@ pub enum Standing {
     /// Lookups of these keys, and what follows them.
     Round(LookKeys, Draft),
     /// A message of a flow.
-    Act(DirFlow),
+    Act(Flow),
     /// Messages whose replies do not matter, one after another, and then the end.
     Winds(Ending, CleanUp, CleanUps),
 }

@@ -1,7 +1,7 @@
 //! What a call takes.
 
 ghost use Rattle.std.specs.Prelude.{◌≡◌, ◌+◌, ◌<◌, ◌≤◌, ◌^◌};
-ghost use Rattle.inf_flow_dir.specs.Client.{no_counts};
+ghost use Rattle.inf_duty.specs.ClientState.{no_counts};
 ghost use Rattle.inf_duty.specs.Tally.{at_new_attempt, with_ask, with_serve, without_serves};
 
 use inf_base::Place;
@@ -20,7 +20,7 @@ pub struct Tally {
 
 impl Model for Tally {
     ghost use Rattle.std.specs.Prelude.{◌≤◌};
-    ghost use Rattle.inf_flow_dir.specs.Client.{Counts};
+    ghost use Rattle.inf_duty.specs.ClientState.{Counts};
 
     ghost Value = { Counts };
 

@@ -1,13 +1,1 @@
-pub mod CleanUp
-pub mod Client
 pub mod DirFlow
-pub mod Draft
-pub mod Ending
-pub mod Flow
-pub mod Group
-pub mod Heard
-pub mod Path
-pub mod Round
-pub mod Sending
-pub mod Turn
-pub mod TurnOf

@@ -1,37 +1,37 @@
 //! A flow under way: its messages one after another, and what is cleaned up where one does not succeed.
 
-ghost use Rattle.std.specs.Prelude.{◌≡◌};
-ghost use Rattle.inf_flow_dir.specs.DirFlow.{HasWay, flow_of};
-
-use crate::phase::Phase;
-use std::marker::Model;
-
 mod cleaning;
 mod messages;
 mod replies;
 
-/// A flow under way.
+use inf_base::{Chain, DirRef, Id, Name};
+
+/// The message that is next, or waited for.
 #[derive(Drop)]
-pub struct DirFlow {
-    phase: Phase,
-}
-
-impl Model for DirFlow {
-    ghost use Rattle.inf_flow_dir.specs.DirFlow.{HasWay, flow_of};
-    ghost use Rattle.inf_flow_dir.specs.Flow.{Flow};
-
-    ghost Value = { Flow };
-
-    ghost view = { λ f. flow_of f.phase };
-
-    ghost invariant = { λ f. HasWay (flow_of f.phase) };
-}
-
-impl DirFlow {
-    pub(crate) fn new(phase: Phase) -> Self
-        requires { HasWay (flow_of phase) }
-        ensures { result ≡ flow_of phase }
-    {
-        DirFlow { phase }
-    }
+pub enum DirFlow {
+    /// A directory is made at the end of the chain: the name is kept.
+    Reserves {
+        chain: Chain,
+        name: Name,
+        mode: u16,
+    },
+    /// With the version of the directory to come, and its identifier.
+    Makes {
+        chain: Chain,
+        name: Name,
+        mode: u16,
+        version: u64,
+        id: Id,
+    },
+    /// With the directory's version, and the directory that was born.
+    Links {
+        chain: Chain,
+        name: Name,
+        mode: u16,
+        version: u64,
+        dir: DirRef,
+    },
+    /// The directory at the end of the chain is removed: other calls are kept out of it.
+    Seals(Chain),
+    Unlinks(Chain),
 }

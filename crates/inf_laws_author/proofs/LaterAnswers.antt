@@ -12,10 +12,11 @@ use Rattle.inf_duty.specs.Own.{after_answer, after_own, client_of, rises_from}
 use Rattle.inf_duty.specs.Start.{start}
 use Rattle.inf_duty.specs.World.{World}
 use Rattle.inf_duty.specs.declared.own.OwnAsk.{OwnAsk}
-use Rattle.inf_flow_dir.specs.Client.{ClientState, Sent, is_first, is_round, is_told, one_if, placed, told_at}
-use Rattle.inf_flow_dir.specs.Group.{group}
-use Rattle.inf_flow_dir.specs.Heard.{heard}
-use Rattle.inf_flow_dir.specs.Turn.{recorded, served}
+use Rattle.inf_duty.specs.ClientState.{ClientState, is_round, one_if, placed}
+use Rattle.inf_duty.specs.Group.{group}
+use Rattle.inf_duty.specs.Turn.{recorded, served}
+use Rattle.inf_message.specs.Heard.{heard}
+use Rattle.inf_message.specs.Sent.{Sent, is_first, is_told, told_at}
 use Rattle.inf_laws_author.proofs.Tests.{and_false, both_true}
 use Rattle.inf_laws_author.specs.LessTold.{HasWaiting, IsSameAsk, LessTold}
 use Rattle.inf_laws_history.proofs.ClientSteps.{by_answer}

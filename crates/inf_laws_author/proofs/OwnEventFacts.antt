@@ -5,9 +5,10 @@ use Rattle.inf_duty.specs.After.{client_after}
 use Rattle.inf_duty.specs.Duty.{asked}
 use Rattle.inf_duty.specs.Start.{start}
 use Rattle.inf_duty.specs.World.{World}
-use Rattle.inf_flow_dir.specs.Client.{ClientState, has_place}
-use Rattle.inf_flow_dir.specs.Heard.{heard}
-use Rattle.inf_flow_dir.specs.Turn.{served}
+use Rattle.inf_duty.specs.ClientState.{ClientState}
+use Rattle.inf_duty.specs.Turn.{served}
+use Rattle.inf_message.specs.Heard.{heard}
+use Rattle.inf_message.specs.Sent.{has_place}
 use Rattle.inf_laws_author.proofs.Tests.{unless_true}
 use Rattle.inf_laws_author.specs.OwnEvents.{is_by, own_events}
 use Rattle.inf_laws_history.proofs.ClientSteps.{IsAskedBy, served_apart, waits_for_own}

@@ -2,7 +2,8 @@
 use Rattle.std.specs.Prelude.{◌≡◌, ◌⊎◌, false, List, [], ◌∷◌, None}
 use Rattle.std.specs.List.{list_all}
 use Rattle.inf_duty.specs.declared.own.OwnAsk.{OwnAsk}
-use Rattle.inf_flow_dir.specs.Client.{ClientState, is_told}
+use Rattle.inf_duty.specs.ClientState.{ClientState}
+use Rattle.inf_message.specs.Sent.{is_told}
 
 -- one Ask, at its place; it was told the same before, or nothing yet
 pub record IsSameAsk (before now : OwnAsk) : Type 0 where

@@ -13,15 +13,22 @@ use Rattle.inf_message.specs.declared.request.Request.TheVariants as request
 use Rattle.inf_message.specs.declared.step.Message.{Message}
 use Rattle.inf_message.specs.History.{Told, or_told}
 use Rattle.inf_laws_client.specs.Asked.{AnswersAsked, AreAskedFor, AsksItsGroup}
-use Rattle.inf_flow_dir.specs.Client.{ClientState, Ending, Sent, Stage, act, answers, compose, has_place, idle, placed, retries, round, told_at, winds, wound}
+use Rattle.inf_message.specs.declared.ending.Ending.TheVariants as ending
+use Rattle.inf_message.specs.declared.turn.Turn.TheVariants as turn
+use Rattle.inf_duty.specs.ClientState.{ClientState, Stage, act, compose, idle, placed, round, winds, wound}
+use Rattle.inf_duty.specs.Flow.{clean_up}
+use Rattle.inf_duty.specs.Group.{Course, composed, composed_stage, group, keys_along, keys_of, next_course}
+use Rattle.inf_duty.specs.Turn.{is_complete, recorded, served, settled, turn_at, turned}
+use Rattle.inf_message.specs.Sent.{Sent, has_place, told_at}
+use Rattle.inf_message.specs.Who.{Who, lookup_of}
+use Rattle.inf_message.specs.declared.ending.Ending.{Ending}
+use Rattle.inf_message.specs.declared.turn.Turn.{Turn}
 use Rattle.inf_duty.specs.Duty.{asks, begun, given_up, given_up_in, next_step}
-use Rattle.inf_flow_dir.specs.Flow.{Who, clean_up}
-use Rattle.inf_flow_dir.specs.Group.{Course, composed, composed_stage, group, keys_along, keys_of, lookup_of, next_course}
 use Rattle.inf_laws_client.specs.Paths.{AnswersKeys, AnswersLookup, IsToldFor, KeepsToPath, StandsOnPath}
 use Rattle.inf_laws_client.specs.Told.{AnswersTop, IfFirst, IsOfTop}
-use Rattle.inf_flow_dir.specs.Turn.{Turn, goes_on, is_complete, recorded, served, settled, turn_at, turned, winds_up}
 use Rattle.inf_duty.proofs.BegunKept.{if_both, kept_begun}
 use Rattle.inf_laws_client.proofs.KnowsFacts.{asks_next, is_sent}
+use Rattle.inf_duty.specs.declared.flow.Flow.{Flow}
 
 -- what is told of the root's lookup is of the root
 of_top : (given : Reply) → IsToldFor look.Top given → IsOfTop given
@@ -45,7 +52,7 @@ top_at : (digest : List ℕ → Id) (who : Who) (calls : List Call) (stage : Sta
 top_at digest who calls (round keys) sent place given stands told = top_of digest who (next_course calls) keys sent place given stands.0 told
 top_at digest who calls compose sent place given stands told = tt
 top_at digest who calls (act flow) sent place given stands told = tt
-top_at digest who calls (winds ending m ms) sent place given stands told = tt
+top_at digest who calls (winds end m ms) sent place given stands told = tt
 
 pub answers_top : (digest : List ℕ → Id) (place : ℕ) (given : Reply) (s : ClientState) → KeepsToPath digest s → AnswersLookup s.stage s.sent place given → AnswersTop s.stage s.sent place given
 answers_top digest place given s keeps told = top_at digest s.who s.left s.stage s.sent place given keeps.stands told
@@ -54,22 +61,22 @@ module _ (A : ℕ → Request → Type 0) where
   pub idle_asks : (who : Who) (calls : List Call) → AsksItsGroup A (idle who calls)
   idle_asks who calls = record { asked = tt }
 
-  wound_asks : (ending : Ending) (more : List Message) (s : ClientState) → AsksItsGroup A (wound ending more s)
-  wound_asks (answers given place) [] s = record { asked = tt }
-  wound_asks retries [] s = record { asked = tt }
-  wound_asks ending (m ∷ ms) s = record { asked = tt }
+  wound_asks : (end : Ending) (more : List Message) (s : ClientState) → AsksItsGroup A (wound end more s)
+  wound_asks (ending.Answers given place) [] s = record { asked = tt }
+  wound_asks ending.Retries [] s = record { asked = tt }
+  wound_asks end (m ∷ ms) s = record { asked = tt }
 
-  turned_asks : (t : Turn) (s : ClientState) → AsksItsGroup A (turned t s)
-  turned_asks (goes_on next) s = record { asked = tt }
-  turned_asks (winds_up ending more) s = wound_asks ending more s
+  turned_asks : (t : Turn Flow) (s : ClientState) → AsksItsGroup A (turned t s)
+  turned_asks (turn.GoesOn next) s = record { asked = tt }
+  turned_asks (turn.WindsUp end more) s = wound_asks end more s
 
   none_asked : (ms : List Message) (sent : List Sent) → AreAskedFor A [] sent → AreAskedFor A ms sent
   none_asked ms [] asked = tt
   none_asked ms (x ∷ xs) asked = absurd asked
 
   given_up_at : (s : ClientState) (stage : Stage) → AsksItsGroup A s → AsksItsGroup A (given_up_in s stage)
-  given_up_at s (act flow) asks_its = wound_asks (answers answer.NoMemory None) (clean_up s.who flow) s
-  given_up_at s (winds ending m ms) asks_its = asks_its
+  given_up_at s (act flow) asks_its = wound_asks (ending.Answers answer.NoMemory None) (clean_up s.who flow) s
+  given_up_at s (winds end m ms) asks_its = asks_its
   given_up_at s compose asks_its = record { asked = tt }
   given_up_at s (round keys) asks_its = record { asked = tt }
 
@@ -123,7 +130,7 @@ module _ (A : ℕ → Request → Type 0) where
   lookup_answered who (round keys) sent place given asked told = keys_answered who keys sent place given asked told
   lookup_answered who compose sent place given asked told = tt
   lookup_answered who (act flow) sent place given asked told = tt
-  lookup_answered who (winds ending m ms) sent place given asked told = tt
+  lookup_answered who (winds end m ms) sent place given asked told = tt
 
   pub answers_lookup : (place : ℕ) (given : Reply) (s : ClientState) → AsksItsGroup A s → AnswersAsked A place given → AnswersLookup s.stage s.sent place given
   answers_lookup place given s asks_its told = lookup_answered s.who s.stage s.sent place given asks_its.asked told
@@ -133,7 +140,7 @@ module _ (digest : List ℕ → Id) (A : ℕ → Request → Type 0) where
   composed_at s compose asked = record { asked = none_asked A (group s.who (keys_of digest s.who (next_course s.left))) s.sent asked }
   composed_at s (round keys) asked = record { asked = asked }
   composed_at s (act flow) asked = record { asked = asked }
-  composed_at s (winds ending m ms) asked = record { asked = asked }
+  composed_at s (winds end m ms) asked = record { asked = asked }
 
   pub composed_asks : (s : ClientState) → AsksItsGroup A s → AsksItsGroup A (composed digest s)
   composed_asks s asks_its = composed_at s s.stage asks_its.asked

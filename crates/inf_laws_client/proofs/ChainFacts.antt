@@ -1,5 +1,5 @@
 -- Chains that a client makes of what it was told, whatever is true of that.
-use Rattle.std.proofs.Common.{◌≡◌, ℕ, ◌==◌, Bool, true, false, if◌then◌else◌, ◌&&◌, List, [], ◌∷◌, ◌++◌, Option, Some, None, Result, Ok, refl, sym, ap, ◌∙◌, subst, append_assoc}
+use Rattle.std.proofs.Common.{◌≡◌, ℕ, ◌==◌, Bool, true, false, if◌then◌else◌, ◌&&◌, List, [], ◌∷◌, ◌++◌, Option, Some, None, Result, Ok, refl, sym, ◌∙◌, subst, append_assoc}
 use Rattle.std.proofs.lemmas.List.{append-nil}
 use Rattle.inf_base.specs.declared.access.Access.{Access}
 use Rattle.inf_base.specs.declared.answer.Answer.TheVariants as answer
@@ -20,11 +20,23 @@ use Rattle.inf_message.specs.declared.op.Op.TheVariants as op
 use Rattle.inf_message.specs.declared.reply.Reply.{Reply}
 use Rattle.inf_message.specs.declared.reply.Reply.TheVariants as reply
 use Rattle.inf_message.specs.History.{Told}
-use Rattle.inf_flow_dir.specs.Client.{ClientState, Sent, Stage, act, answers, compose, retries, round, winds}
-use Rattle.inf_flow_dir.specs.Flow.{Flow, Who, birth_of, clean_up, finishes, forget_in, last_entry, last_id, links, lives_at, makes, reserves, row_of, seals, unlinks, way_to}
-use Rattle.inf_flow_dir.specs.Group.{Course, course_at, course_in, next_course, split, text_of}
+use Rattle.inf_flow_dir.specs.declared.dir_flow.DirFlow.TheVariants as dir_flow
+use Rattle.inf_message.specs.declared.ending.Ending.TheVariants as ending
+use Rattle.inf_flow_file.specs.declared.file_flow.FileFlow.TheVariants as file_flow
+use Rattle.inf_duty.specs.declared.flow.Flow.TheVariants as flow
+use Rattle.inf_message.specs.declared.turn.Turn.TheVariants as turn
+use Rattle.inf_duty.specs.ClientState.{ClientState, Stage, act, compose, round, winds}
+use Rattle.inf_duty.specs.Flow.{after_act, clean_up}
+use Rattle.inf_duty.specs.Group.{Course, course_at, course_in, next_course, split, text_of}
+use Rattle.inf_duty.specs.Turn.{Next, act_turn, after_round, by_next, follow, from_root, is_busy, links_to, next_entry, steps, stops, told_entry, turn_at}
+use Rattle.inf_duty.specs.declared.flow.Flow.{Flow}
+use Rattle.inf_flow_dir.specs.DirFlow.{forget_in, lives_at, row_of}
+use Rattle.inf_message.specs.Chain.{last_entry, way_to}
+use Rattle.inf_message.specs.Sent.{Sent}
+use Rattle.inf_message.specs.Turn.{fails, turn_as}
+use Rattle.inf_message.specs.Who.{Who, last_id}
+use Rattle.inf_message.specs.declared.turn.Turn.{Turn}
 use Rattle.inf_laws_client.specs.Told.{AllTell, ArePlain, BeginsAtTop, CarriesOnly, FirstIsTop, IfTold, IsChainOf, IsIn, IsOfTop, LinksFrom, StandsOn, TellsOnly, chain_of}
-use Rattle.inf_flow_dir.specs.Turn.{Next, Turn, act_turn, after_act, after_make, after_round, by_next, fails, follow, from_root, goes_on, is_busy, links_to, next_entry, steps, stops, told_entry, turn_at, winds_up}
 
 is_in : (dir : DirRef) (k : Key) → links_to dir k ≡ true → IsIn dir k
 is_in dir key.Top is = absurd cc
@@ -67,18 +79,18 @@ plain_row : (who : Who) (parent : Id) (last : Option Entry) → ArePlain (row_of
 plain_row who parent None = tt
 plain_row who parent (Some entry) = plain_in who (dir_of entry.access) entry.access.birth (lives_at parent entry.key entry.access.birth)
 
-pub plain_clean_up : (who : Who) (flow : Flow) → ArePlain (clean_up who flow)
-plain_clean_up who (finishes chain asked) = tt
-plain_clean_up who (reserves chain name mode) = tt
-plain_clean_up who (makes chain name mode version id) = (refl, tt)
-plain_clean_up who (links chain name mode version dir) = (refl, (refl, tt))
-plain_clean_up who (seals chain) = tt
-plain_clean_up who (unlinks chain) = (refl, tt)
+pub plain_clean_up : (who : Who) (step : Flow) → ArePlain (clean_up who step)
+plain_clean_up who (flow.File (file_flow.Finishes chain asked)) = tt
+plain_clean_up who (flow.Dir (dir_flow.Reserves chain name mode)) = tt
+plain_clean_up who (flow.Dir (dir_flow.Makes chain name mode version id)) = (refl, tt)
+plain_clean_up who (flow.Dir (dir_flow.Links chain name mode version dir)) = (refl, (refl, tt))
+plain_clean_up who (flow.Dir (dir_flow.Seals chain)) = tt
+plain_clean_up who (flow.Dir (dir_flow.Unlinks chain)) = (refl, tt)
 
 module _ (T : Key → Access → Type 0) where
-  abbrev pub TurnStands : Turn → Type 0
-  TurnStands (goes_on next) = StandsOn T next × BeginsAtTop next []
-  TurnStands (winds_up ending more) = ArePlain more
+  abbrev pub TurnStands : Turn Flow → Type 0
+  TurnStands (turn.GoesOn next) = StandsOn T (act next) × BeginsAtTop (act next) []
+  TurnStands (turn.WindsUp end more) = ArePlain more
 
   -- ---- after a round
 
@@ -116,7 +128,7 @@ module _ (T : Key → Access → Type 0) where
         subst (λ (es : List Entry). IsChainOf T es) (sym (append_assoc chain (e ∷ []) more)) (goes.on (e ∷ more) (next.0, carries) (next.1, linked));
   }
 
-  by_next_stands : (course : Course) (chain : List Entry) (before : Entry) (name : List ℕ) (names : List (List ℕ)) (go : Entry → Turn) (next : Next)
+  by_next_stands : (course : Course) (chain : List Entry) (before : Entry) (name : List ℕ) (names : List (List ℕ)) (go : Entry → Turn Flow) (next : Next)
       → IsChainOf T chain → NextStands before next → ((e : Entry) → NextStands before (steps e) → TurnStands (go e))
       → TurnStands (by_next course chain name names go next)
   by_next_stands course chain before name names go (steps e) is next goes = goes e next
@@ -142,15 +154,15 @@ module _ (T : Key → Access → Type 0) where
   from_root_stands course xs told (reply.Busy by at born) arrive tells top more = tt
   from_root_stands course xs told any_reply arrive tells top more = tt
 
-  turn_if : (b : Bool) (first second : Turn) → TurnStands first → TurnStands second → TurnStands (if b then first else second)
+  turn_if : (b : Bool) (first second : Turn Flow) → TurnStands first → TurnStands second → TurnStands (if b then first else second)
   turn_if true first second one other = one
   turn_if false first second one other = other
 
   first_stands : (course : Course) (place : ℕ) (told : Option Told) (xs : List Sent) → Arrives course → IfTold (TellsOnly T) told → IfTold IsOfTop told → AllTell T xs
       → TurnStands (after_round (Some course) (record { place = place; told = told } ∷ xs))
-  first_stands course place None xs arrive tells top more = turn_if _ (winds_up (answers answer.NoMemory None) []) (winds_up retries []) tt tt
+  first_stands course place None xs arrive tells top more = turn_if _ (turn.WindsUp (ending.Answers answer.NoMemory None) []) (turn.WindsUp ending.Retries []) tt tt
   first_stands course place (Some told) xs arrive tells top more =
-      turn_if _ (winds_up (answers answer.NoMemory None) []) (from_root course xs told told.reply) tt
+      turn_if _ (turn.WindsUp (ending.Answers answer.NoMemory None) []) (from_root course xs told told.reply) tt
       (from_root_stands course xs told told.reply arrive tells top more)
 
   round_stands : (found : Option Course) (sent : List Sent) → IfArrives found → AllTell T sent → FirstIsTop sent → TurnStands (after_round found sent)
@@ -160,40 +172,37 @@ module _ (T : Key → Access → Type 0) where
 
   -- ---- after a message of a flow
 
-  fails_stands : (who : Who) (flow : Flow) (place : ℕ) (given : Reply) → TurnStands (fails who flow place given)
-  fails_stands who flow place (reply.Busy by at born) = plain_clean_up who flow
-  fails_stands who flow place (reply.Refused error) = plain_clean_up who flow
-  fails_stands who flow place reply.NoMem = plain_clean_up who flow
-  fails_stands who flow place any_reply = plain_clean_up who flow
-
-  make_stands : (who : Who) (flow : Flow) (own : Triple) (place : ℕ) (given : Reply) → TurnStands (after_make who flow own place given)
-  make_stands who flow own place (reply.Clash kept) = plain_clean_up who flow
-  make_stands who flow own place any_reply = fails_stands who flow place any_reply
+  fails_stands : {F : Type 0} (wrap : F → Flow) (who : Who) (step : Flow) (place : ℕ) (given : Reply) → TurnStands (turn_as wrap (fails (clean_up who step) place given))
+  fails_stands wrap who step place (reply.Busy by at born) = plain_clean_up who step
+  fails_stands wrap who step place (reply.Refused error) = plain_clean_up who step
+  fails_stands wrap who step place reply.NoMem = plain_clean_up who step
+  fails_stands wrap who step place any_reply = plain_clean_up who step
 
 module _ (digest : List ℕ → Id) (T : Key → Access → Type 0) where
-  act_stands : (who : Who) (flow : Flow) (asked place : ℕ) (given : Reply) → IsChainOf T (chain_of flow) → TurnStands T (after_act digest who flow asked place given)
-  act_stands who (finishes chain (op.Create name mode)) asked place reply.Fine is = tt
-  act_stands who (finishes chain (op.Stat name)) asked place (reply.Stat kind meta) is = tt
-  act_stands who (reserves chain name mode) asked place (reply.Reserved version) is = (is, tt)
-  act_stands who (makes chain name mode version id) asked place reply.Fine is = (is, tt)
-  act_stands who (makes chain name mode version id) asked place given is =
-      make_stands T who (makes chain name mode version id) (birth_of who chain name version) place given
-  act_stands who (links chain name mode version dir) asked place reply.Fine is = tt
-  act_stands who (seals chain) asked place reply.Fine is = (is, tt)
-  act_stands who (unlinks chain) asked place reply.Fine is = (refl, plain_row who (last_id who (way_to chain)) (last_entry chain))
-  act_stands who flow asked place given is = fails_stands T who flow place given
+  act_stands : (who : Who) (step : Flow) (asked place : ℕ) (given : Reply) → IsChainOf T (chain_of step) → TurnStands T (after_act digest who step asked place given)
+  act_stands who (flow.File (file_flow.Finishes chain (op.Create name mode))) asked place reply.Fine is = tt
+  act_stands who (flow.File (file_flow.Finishes chain (op.Stat name))) asked place (reply.Stat kind meta) is = tt
+  act_stands who (flow.Dir (dir_flow.Reserves chain name mode)) asked place (reply.Reserved version) is = (is, tt)
+  act_stands who (flow.Dir (dir_flow.Makes chain name mode version id)) asked place reply.Fine is = (is, tt)
+  act_stands who (flow.Dir (dir_flow.Makes chain name mode version id)) asked place (reply.Clash kept) is =
+      plain_clean_up who (flow.Dir (dir_flow.Makes chain name mode version id))
+  act_stands who (flow.Dir (dir_flow.Links chain name mode version dir)) asked place reply.Fine is = tt
+  act_stands who (flow.Dir (dir_flow.Seals chain)) asked place reply.Fine is = (is, tt)
+  act_stands who (flow.Dir (dir_flow.Unlinks chain)) asked place reply.Fine is = (refl, plain_row who (last_id who (way_to chain)) (last_entry chain))
+  act_stands who (flow.File step) asked place given is = fails_stands T flow.File who (flow.File step) place given
+  act_stands who (flow.Dir step) asked place given is = fails_stands T flow.Dir who (flow.Dir step) place given
 
-  told_stands : (who : Who) (flow : Flow) (place : ℕ) (told : Option Told) (xs : List Sent) → IsChainOf T (chain_of flow)
-      → TurnStands T (act_turn digest who flow (record { place = place; told = told } ∷ xs))
-  told_stands who flow place None xs is = tt
-  told_stands who flow place (Some told) xs is = act_stands who flow place told.serve_place told.reply is
+  told_stands : (who : Who) (step : Flow) (place : ℕ) (told : Option Told) (xs : List Sent) → IsChainOf T (chain_of step)
+      → TurnStands T (act_turn digest who step (record { place = place; told = told } ∷ xs))
+  told_stands who step place None xs is = tt
+  told_stands who step place (Some told) xs is = act_stands who step place told.serve_place told.reply is
 
-  flow_stands : (who : Who) (flow : Flow) (sent : List Sent) → IsChainOf T (chain_of flow) → TurnStands T (act_turn digest who flow sent)
-  flow_stands who flow [] is = tt
-  flow_stands who flow (x ∷ xs) is = told_stands who flow x.place x.told xs is
+  flow_stands : (who : Who) (step : Flow) (sent : List Sent) → IsChainOf T (chain_of step) → TurnStands T (act_turn digest who step sent)
+  flow_stands who step [] is = tt
+  flow_stands who step (x ∷ xs) is = told_stands who step x.place x.told xs is
 
   pub turn_stands : (s : ClientState) (stage : Stage) → AllTell T s.sent → BeginsAtTop stage s.sent → StandsOn T stage → TurnStands T (turn_at digest s stage)
   turn_stands s compose told begins stands = tt
   turn_stands s (round keys) told begins stands = round_stands T (next_course s.left) s.sent (arrives s.left) told begins
-  turn_stands s (act flow) told begins stands = flow_stands s.who flow s.sent stands
-  turn_stands s (winds ending m ms) told begins stands = stands.1
+  turn_stands s (act step) told begins stands = flow_stands s.who step s.sent stands
+  turn_stands s (winds end m ms) told begins stands = stands.1

@@ -16,12 +16,22 @@ use Rattle.inf_message.specs.declared.request.Request.{Request}
 use Rattle.inf_message.specs.declared.step.Message.{Message}
 use Rattle.inf_message.specs.History.{Told, or_told}
 use Rattle.inf_server.specs.Chains.{chains_of}
-use Rattle.inf_flow_dir.specs.Client.{ClientState, Ending, Sent, Stage, act, answers, compose, has_place, idle, placed, retries, round, told_at, winds, wound}
+use Rattle.inf_flow_dir.specs.declared.dir_flow.DirFlow.TheVariants as dir_flow
+use Rattle.inf_message.specs.declared.ending.Ending.TheVariants as ending
+use Rattle.inf_flow_file.specs.declared.file_flow.FileFlow.TheVariants as file_flow
+use Rattle.inf_duty.specs.declared.flow.Flow.TheVariants as flow
+use Rattle.inf_message.specs.declared.turn.Turn.TheVariants as turn
+use Rattle.inf_duty.specs.ClientState.{ClientState, Stage, act, compose, idle, placed, round, winds, wound}
+use Rattle.inf_duty.specs.Flow.{clean_up, message_of}
+use Rattle.inf_duty.specs.Group.{Course, composed, composed_stage, group, keys_of, next_course}
+use Rattle.inf_duty.specs.Turn.{is_complete, recorded, served, settled, turn_at, turned}
+use Rattle.inf_duty.specs.declared.flow.Flow.{Flow}
+use Rattle.inf_message.specs.Sent.{Sent, has_place, told_at}
+use Rattle.inf_message.specs.Who.{Who, lookup_of}
+use Rattle.inf_message.specs.declared.ending.Ending.{Ending}
+use Rattle.inf_message.specs.declared.turn.Turn.{Turn}
 use Rattle.inf_duty.specs.Duty.{asks, begun, given_up, given_up_in, next_in, next_of, next_step}
-use Rattle.inf_flow_dir.specs.Flow.{Flow, Who, clean_up, finishes, links, makes, message_of, reserves, seals, unlinks}
-use Rattle.inf_flow_dir.specs.Group.{Course, composed, composed_stage, group, keys_of, lookup_of, next_course}
 use Rattle.inf_laws_client.specs.Told.{AllTell, AnswersTop, ArePlain, BeginsAtTop, CarriesOnly, FirstIsTop, IfFirst, IfTold, IsChainOf, IsOfTop, KnowsOnly, StandsOn, TellsOnly, chain_of}
-use Rattle.inf_flow_dir.specs.Turn.{Turn, goes_on, is_complete, recorded, served, settled, turn_at, turned, winds_up}
 use Rattle.inf_duty.proofs.BegunKept.{if_both, kept_begun}
 use Rattle.inf_laws_client.proofs.ChainFacts.{TurnStands, plain_clean_up, turn_stands}
 
@@ -45,8 +55,8 @@ told_begins : (place : ℕ) (told : Told) (stage : Stage) (sent : List Sent) →
     → BeginsAtTop stage (map (told_at place told) sent)
 told_begins place told compose sent now before = ap (map (told_at place told)) before
 told_begins place told (round keys) sent now before = told_first place told sent now before
-told_begins place told (act flow) sent now before = tt
-told_begins place told (winds ending m ms) sent now before = tt
+told_begins place told (act step) sent now before = tt
+told_begins place told (winds end m ms) sent now before = tt
 
 -- ---- an Ask more
 
@@ -55,8 +65,8 @@ begins_more : (s : ClientState) (number : ℕ) (ask : Ask) (x : Sent) (stage : S
 begins_more s number ask x compose sent is none begins = absurd cc
 begins_more s number ask x (round keys) [] is none begins = subst (λ (told : Option Told). IfTold IsOfTop told) (sym none) tt
 begins_more s number ask x (round keys) (first ∷ sent) is none begins = begins
-begins_more s number ask x (act flow) sent is none begins = tt
-begins_more s number ask x (winds ending m ms) sent is none begins = tt
+begins_more s number ask x (act step) sent is none begins = tt
+begins_more s number ask x (winds end m ms) sent is none begins = tt
 
 pub asks_next : (s : ClientState) (number : ℕ) (ask : Ask) (calls : List Call) → next_in s calls ≡ asks number ask
     → next_of s (slice_get (group s.who s.stage) (length s.sent)) ≡ asks number ask
@@ -101,20 +111,20 @@ module _ (T : Key → Access → Type 0) where
   pub idle_knows : (who : Who) (calls : List Call) → KnowsOnly T (idle who calls)
   idle_knows who calls = record { answers = tt; begins = refl; stands = tt }
 
-  wound_knows : (ending : Ending) (more : List Message) (s : ClientState) → ArePlain more → KnowsOnly T (wound ending more s)
-  wound_knows (answers given place) [] s plain = record { answers = tt; begins = refl; stands = tt }
-  wound_knows retries [] s plain = record { answers = tt; begins = refl; stands = tt }
-  wound_knows ending (m ∷ ms) s plain = record { answers = tt; begins = tt; stands = plain }
+  wound_knows : (end : Ending) (more : List Message) (s : ClientState) → ArePlain more → KnowsOnly T (wound end more s)
+  wound_knows (ending.Answers given place) [] s plain = record { answers = tt; begins = refl; stands = tt }
+  wound_knows ending.Retries [] s plain = record { answers = tt; begins = refl; stands = tt }
+  wound_knows end (m ∷ ms) s plain = record { answers = tt; begins = tt; stands = plain }
 
-  turned_knows : (t : Turn) (s : ClientState) → TurnStands T t → KnowsOnly T (turned t s)
-  turned_knows (goes_on next) s stands = record { answers = tt; begins = stands.1; stands = stands.0 }
-  turned_knows (winds_up ending more) s stands = wound_knows ending more s stands
+  turned_knows : (t : Turn Flow) (s : ClientState) → TurnStands T t → KnowsOnly T (turned t s)
+  turned_knows (turn.GoesOn next) s stands = record { answers = tt; begins = stands.1; stands = stands.0 }
+  turned_knows (turn.WindsUp end more) s stands = wound_knows end more s stands
 
   -- ---- before a group
 
   given_up_at : (s : ClientState) (stage : Stage) → KnowsOnly T s → KnowsOnly T (given_up_in s stage)
-  given_up_at s (act flow) knows = wound_knows (answers answer.NoMemory None) (clean_up s.who flow) s (plain_clean_up s.who flow)
-  given_up_at s (winds ending m ms) knows = knows
+  given_up_at s (act step) knows = wound_knows (ending.Answers answer.NoMemory None) (clean_up s.who step) s (plain_clean_up s.who step)
+  given_up_at s (winds end m ms) knows = knows
   given_up_at s compose knows = record { answers = tt; begins = refl; stands = tt }
   given_up_at s (round keys) knows = record { answers = tt; begins = refl; stands = tt }
 
@@ -151,20 +161,20 @@ module _ (T : Key → Access → Type 0) where
   no_chain : (chains : List (List Entry)) → chains ≡ [] → AreChains chains
   no_chain chains none = subst (λ (all : List (List Entry)). AreChains all) (sym none) (All-nil (λ (es : List Entry). IsChainOf T es))
 
-  flow_sends : (who : Who) (flow : Flow) → IsChainOf T (chain_of flow) → AreChains (chains_of (message_of who flow).request)
-  flow_sends who (finishes chain asked) is = one_chain chain is
-  flow_sends who (reserves chain name mode) is = one_chain chain is
-  flow_sends who (makes chain name mode version id) is = no_chain [] refl
-  flow_sends who (links chain name mode version dir) is = one_chain chain is
-  flow_sends who (seals chain) is = one_chain chain is
-  flow_sends who (unlinks chain) is = one_chain chain is
+  flow_sends : (who : Who) (step : Flow) → IsChainOf T (chain_of step) → AreChains (chains_of (message_of who step).request)
+  flow_sends who (flow.File (file_flow.Finishes chain asked)) is = one_chain chain is
+  flow_sends who (flow.Dir (dir_flow.Reserves chain name mode)) is = one_chain chain is
+  flow_sends who (flow.Dir (dir_flow.Makes chain name mode version id)) is = no_chain [] refl
+  flow_sends who (flow.Dir (dir_flow.Links chain name mode version dir)) is = one_chain chain is
+  flow_sends who (flow.Dir (dir_flow.Seals chain)) is = one_chain chain is
+  flow_sends who (flow.Dir (dir_flow.Unlinks chain)) is = one_chain chain is
 
   stage_sends : (who : Who) (stage : Stage) (n : ℕ) (m : Message) → StandsOn T stage → slice_get (group who stage) n ≡ Some m → AreChains (chains_of m.request)
   stage_sends who compose n m stands is = absurd cc
   stage_sends who (round keys) n m stands is = no_chain (chains_of m.request) (look_plain who keys n m is)
-  stage_sends who (act flow) n m stands is =
-      subst (λ (message : Message). AreChains (chains_of message.request)) (only_one (message_of who flow) n m is) (flow_sends who flow stands)
-  stage_sends who (winds ending first ms) n m stands is =
+  stage_sends who (act step) n m stands is =
+      subst (λ (message : Message). AreChains (chains_of message.request)) (only_one (message_of who step) n m is) (flow_sends who step stands)
+  stage_sends who (winds end first ms) n m stands is =
       subst (λ (message : Message). AreChains (chains_of message.request)) (only_one first n m is) (no_chain (chains_of first.request) stands.0)
 
   pub sends : (number : ℕ) (ask : Ask) (s : ClientState) → KnowsOnly T s → next_step s ≡ asks number ask → AreChains (chains_of ask.request)
@@ -186,8 +196,8 @@ module _ (digest : List ℕ → Id) (T : Key → Access → Type 0) where
     stands = keys_stand s.who (next_course s.left);
   }
   composed_at s (round keys) told begins stands = record { answers = told; begins = begins; stands = stands }
-  composed_at s (act flow) told begins stands = record { answers = told; begins = begins; stands = stands }
-  composed_at s (winds ending m ms) told begins stands = record { answers = told; begins = begins; stands = stands }
+  composed_at s (act step) told begins stands = record { answers = told; begins = begins; stands = stands }
+  composed_at s (winds end m ms) told begins stands = record { answers = told; begins = begins; stands = stands }
 
   pub composed_knows : (s : ClientState) → KnowsOnly T s → KnowsOnly T (composed digest s)
   composed_knows s knows = composed_at s s.stage knows.answers knows.begins knows.stands
@@ -225,8 +235,8 @@ module _ (T U : Key → Access → Type 0) (weaker : (k : Key) (access : Access)
   weaker_stage : (stage : Stage) → StandsOn T stage → StandsOn U stage
   weaker_stage compose stands = tt
   weaker_stage (round keys) stands = tt
-  weaker_stage (act flow) stands = record { carries = weaker_chain (chain_of flow) stands.carries; links_up = stands.links_up }
-  weaker_stage (winds ending m ms) stands = stands
+  weaker_stage (act step) stands = record { carries = weaker_chain (chain_of step) stands.carries; links_up = stands.links_up }
+  weaker_stage (winds end m ms) stands = stands
 
   pub weaker_knows : (s : ClientState) → KnowsOnly T s → KnowsOnly U s
   weaker_knows s knows = record { answers = weaker_sent s.sent knows.answers; begins = knows.begins; stands = weaker_stage s.stage knows.stands }

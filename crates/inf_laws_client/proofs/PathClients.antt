@@ -9,32 +9,39 @@ use Rattle.inf_base.specs.declared.key.LookKey.TheVariants as look
 use Rattle.inf_message.specs.declared.ask.Ask.{Ask}
 use Rattle.inf_message.specs.declared.step.Message.{Message}
 use Rattle.inf_message.specs.History.{Told}
-use Rattle.inf_flow_dir.specs.Client.{ClientState, Ending, Sent, Stage, act, answers, compose, has_place, idle, placed, retries, round, told_at, winds, wound}
+use Rattle.inf_message.specs.declared.ending.Ending.TheVariants as ending
+use Rattle.inf_message.specs.declared.turn.Turn.TheVariants as turn
+use Rattle.inf_duty.specs.ClientState.{ClientState, Stage, act, compose, idle, placed, round, winds, wound}
+use Rattle.inf_duty.specs.Flow.{after_act, clean_up}
+use Rattle.inf_duty.specs.Group.{Course, composed, composed_stage, course_of, group, keys_along, keys_of, next_course}
+use Rattle.inf_duty.specs.Turn.{act_turn, after_round, is_complete, recorded, served, settled, turn_at, turned}
+use Rattle.inf_duty.specs.declared.flow.Flow.{Flow}
+use Rattle.inf_message.specs.Sent.{Sent, has_place, told_at}
+use Rattle.inf_message.specs.Who.{Who}
+use Rattle.inf_message.specs.declared.ending.Ending.{Ending}
+use Rattle.inf_message.specs.declared.turn.Turn.{Turn}
 use Rattle.inf_duty.specs.Duty.{asks, begun, given_up, given_up_in, next_of, next_step}
-use Rattle.inf_flow_dir.specs.Flow.{Flow, Who, clean_up}
-use Rattle.inf_flow_dir.specs.Group.{Course, composed, composed_stage, course_of, group, keys_along, keys_of, next_course}
 use Rattle.inf_laws_client.specs.Paths.{AnswersKeys, AnswersLookup, AreToldFor, FlowFollows, Follows, IsToldFor, KeepsToPath, StandsOnPath, TurnFollows}
 use Rattle.inf_laws_client.specs.Told.{IfTold}
-use Rattle.inf_flow_dir.specs.Turn.{Turn, act_turn, after_act, after_round, goes_on, is_complete, recorded, served, settled, turn_at, turned, winds_up}
 use Rattle.inf_duty.proofs.BegunKept.{if_both, kept_begun}
 use Rattle.inf_laws_client.proofs.KnowsFacts.{asks_next, told_one}
 use Rattle.inf_laws_client.proofs.PathFacts.{after_act_follows, after_round_follows}
 
-abbrev TurnKeeps : (List ℕ → Id) → Who → List Call → Turn → Type 0
-TurnKeeps digest who calls (goes_on next) = StandsOnPath digest who calls next []
-TurnKeeps digest who calls (winds_up ending more) = Unit {0}
+abbrev TurnKeeps : (List ℕ → Id) → Who → List Call → Turn Flow → Type 0
+TurnKeeps digest who calls (turn.GoesOn next) = StandsOnPath digest who calls (act next) []
+TurnKeeps digest who calls (turn.WindsUp end more) = Unit {0}
 
 pub idle_keeps : (digest : List ℕ → Id) (who : Who) (calls : List Call) → KeepsToPath digest (idle who calls)
 idle_keeps digest who calls = record { stands = refl }
 
-wound_keeps : (digest : List ℕ → Id) (ending : Ending) (more : List Message) (s : ClientState) → KeepsToPath digest (wound ending more s)
-wound_keeps digest (answers given place) [] s = record { stands = refl }
-wound_keeps digest retries [] s = record { stands = refl }
-wound_keeps digest ending (m ∷ ms) s = record { stands = tt }
+wound_keeps : (digest : List ℕ → Id) (end : Ending) (more : List Message) (s : ClientState) → KeepsToPath digest (wound end more s)
+wound_keeps digest (ending.Answers given place) [] s = record { stands = refl }
+wound_keeps digest ending.Retries [] s = record { stands = refl }
+wound_keeps digest end (m ∷ ms) s = record { stands = tt }
 
-turned_keeps : (digest : List ℕ → Id) (t : Turn) (s : ClientState) → TurnKeeps digest s.who s.left t → KeepsToPath digest (turned t s)
-turned_keeps digest (goes_on next) s keeps = record { stands = keeps }
-turned_keeps digest (winds_up ending more) s keeps = wound_keeps digest ending more s
+turned_keeps : (digest : List ℕ → Id) (t : Turn Flow) (s : ClientState) → TurnKeeps digest s.who s.left t → KeepsToPath digest (turned t s)
+turned_keeps digest (turn.GoesOn next) s keeps = record { stands = keeps }
+turned_keeps digest (turn.WindsUp end more) s keeps = wound_keeps digest end more s
 
 -- ---- before a group
 
@@ -48,14 +55,14 @@ composed_at : (digest : List ℕ → Id) (s : ClientState) (stage : Stage) → S
 composed_at digest s compose stands = record { stands = composed_stands digest s.who s.left (next_course s.left) s.sent refl stands }
 composed_at digest s (round keys) stands = record { stands = stands }
 composed_at digest s (act flow) stands = record { stands = stands }
-composed_at digest s (winds ending m ms) stands = record { stands = tt }
+composed_at digest s (winds end m ms) stands = record { stands = tt }
 
 pub composed_keeps : (digest : List ℕ → Id) (s : ClientState) → KeepsToPath digest s → KeepsToPath digest (composed digest s)
 composed_keeps digest s keeps = composed_at digest s s.stage keeps.stands
 
 given_up_at : (digest : List ℕ → Id) (s : ClientState) (stage : Stage) → KeepsToPath digest s → KeepsToPath digest (given_up_in s stage)
-given_up_at digest s (act flow) keeps = wound_keeps digest (answers answer.NoMemory None) (clean_up s.who flow) s
-given_up_at digest s (winds ending m ms) keeps = keeps
+given_up_at digest s (act flow) keeps = wound_keeps digest (ending.Answers answer.NoMemory None) (clean_up s.who flow) s
+given_up_at digest s (winds end m ms) keeps = keeps
 given_up_at digest s compose keeps = record { stands = refl }
 given_up_at digest s (round keys) keeps = record { stands = refl }
 
@@ -80,7 +87,7 @@ more_stands : (digest : List ℕ → Id) (s : ClientState) (number : ℕ) (ask :
 more_stands digest s number ask x compose sent is none stands = absurd cc
 more_stands digest s number ask x (round keys) sent is none stands = (stands.0, told_more keys sent x none stands.1)
 more_stands digest s number ask x (act flow) sent is none stands = stands
-more_stands digest s number ask x (winds ending m ms) sent is none stands = tt
+more_stands digest s number ask x (winds end m ms) sent is none stands = tt
 
 pub placed_keeps : (digest : List ℕ → Id) (place number : ℕ) (ask : Ask) (s : ClientState) → KeepsToPath digest s → next_step s ≡ asks number ask → KeepsToPath digest (placed place s)
 placed_keeps digest place number ask s keeps is =
@@ -104,12 +111,11 @@ told_stands : (digest : List ℕ → Id) (who : Who) (calls : List Call) (place 
 told_stands digest who calls place told compose sent now before = ap (map (told_at place told)) before
 told_stands digest who calls place told (round keys) sent now before = (before.0, told_keys place told keys sent now before.1)
 told_stands digest who calls place told (act flow) sent now before = before
-told_stands digest who calls place told (winds ending m ms) sent now before = tt
+told_stands digest who calls place told (winds end m ms) sent now before = tt
 
-keeps_turn : (digest : List ℕ → Id) (who : Who) (asked : Call) (calls : List Call) (t : Turn) → TurnFollows asked t → TurnKeeps digest who (asked ∷ calls) t
-keeps_turn digest who asked calls (goes_on (act flow)) follows = follows
-keeps_turn digest who asked calls (goes_on other) follows = absurd follows
-keeps_turn digest who asked calls (winds_up ending more) follows = tt
+keeps_turn : (digest : List ℕ → Id) (who : Who) (asked : Call) (calls : List Call) (t : Turn Flow) → TurnFollows asked t → TurnKeeps digest who (asked ∷ calls) t
+keeps_turn digest who asked calls (turn.GoesOn step) follows = follows
+keeps_turn digest who asked calls (turn.WindsUp end more) follows = tt
 
 round_follows : (digest : List ℕ → Id) (who : Who) (asked : Call) (found : Option Course) (keys : List LookKey) (sent : List Sent) → course_of asked ≡ found
     → keys_of digest who found ≡ round keys → AreToldFor keys sent → TurnFollows asked (after_round found sent)
@@ -140,7 +146,7 @@ turn_keeps : (digest : List ℕ → Id) (s : ClientState) (stage : Stage) → St
 turn_keeps digest s compose stands = tt
 turn_keeps digest s (round keys) stands = round_keeps digest s.who s.left keys s.sent stands.0 stands.1
 turn_keeps digest s (act flow) stands = act_keeps digest s.who s.left flow s.sent stands
-turn_keeps digest s (winds ending m ms) stands = tt
+turn_keeps digest s (winds end m ms) stands = tt
 
 settled_keeps : (digest : List ℕ → Id) (b : Bool) (s : ClientState) → KeepsToPath digest s → KeepsToPath digest (settled digest b s)
 settled_keeps digest true s keeps = turned_keeps digest (turn_at digest s s.stage) s (turn_keeps digest s s.stage keeps.stands)

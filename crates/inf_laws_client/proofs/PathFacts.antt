@@ -8,19 +8,27 @@ use Rattle.inf_base.specs.declared.entry.Entry.{Entry}
 use Rattle.inf_base.specs.declared.errno.Errno.{Errno}
 use Rattle.inf_base.specs.declared.id.Id.{Id}
 use Rattle.inf_base.specs.declared.key.LookKey.TheVariants as look
-use Rattle.inf_base.specs.declared.triple.Triple.{Triple}
 use Rattle.inf_base.specs.Path.{path_of}
 use Rattle.inf_base.specs.Same.{dir_of}
 use Rattle.inf_message.specs.declared.op.Op.TheVariants as op
 use Rattle.inf_message.specs.declared.reply.Reply.{Reply}
 use Rattle.inf_message.specs.declared.reply.Reply.TheVariants as reply
 use Rattle.inf_message.specs.History.{Told}
-use Rattle.inf_flow_dir.specs.Client.{Sent, answers, retries}
-use Rattle.inf_flow_dir.specs.Flow.{Flow, Who, birth_of, finishes, links, makes, reserves, seals, unlinks}
-use Rattle.inf_flow_dir.specs.Group.{Course, course_at, course_in, course_of, keys_along, rmdir_stop, split, text_of}
+use Rattle.inf_flow_dir.specs.declared.dir_flow.DirFlow.TheVariants as dir_flow
+use Rattle.inf_message.specs.declared.ending.Ending.TheVariants as ending
+use Rattle.inf_flow_file.specs.declared.file_flow.FileFlow.TheVariants as file_flow
+use Rattle.inf_duty.specs.declared.flow.Flow.TheVariants as flow
+use Rattle.inf_message.specs.declared.turn.Turn.TheVariants as turn
+use Rattle.inf_duty.specs.Flow.{after_act, clean_up}
+use Rattle.inf_duty.specs.Group.{Course, course_at, course_in, course_of, keys_along, rmdir_stop, split, text_of}
+use Rattle.inf_duty.specs.Turn.{Next, after_round, by_next, follow, from_root, is_busy, links_to, next_entry, steps, stops, told_entry}
+use Rattle.inf_duty.specs.declared.flow.Flow.{Flow}
+use Rattle.inf_message.specs.Sent.{Sent}
+use Rattle.inf_message.specs.Turn.{fails, turn_as}
+use Rattle.inf_message.specs.Who.{Who}
+use Rattle.inf_message.specs.declared.turn.Turn.{Turn}
 use Rattle.inf_laws_client.specs.Paths.{AreToldFor, Follows, IsToldFor, StopsBefore, TurnFollows, name_of, names_in, names_of}
 use Rattle.inf_laws_client.specs.Told.{IfTold}
-use Rattle.inf_flow_dir.specs.Turn.{Next, Turn, after_act, after_make, after_round, by_next, fails, follow, from_root, is_busy, links_to, next_entry, steps, stops, told_entry, winds_up}
 
 abbrev ok : List (List ℕ) → Result (List (List ℕ)) Errno
 ok names = Ok names
@@ -30,7 +38,7 @@ ok names = Ok names
 record IsCourse (asked : Call) (course : Course) : Type 0 where
   arrives : (chain : List Entry) → names_of chain ≡ course.looked → Follows asked (course.arrive chain)
   stops_at : (chain : List Entry) (name : List ℕ) (rest : List (List ℕ)) → names_of chain ++ name ∷ rest ≡ course.looked
-      → Follows asked (finishes chain (course.stop name rest))
+      → Follows asked (flow.File (file_flow.Finishes chain (course.stop name rest)))
 
 abbrev IfCourse : Call → Option Course → Type 0
 IfCourse asked None = Unit {0}
@@ -73,7 +81,7 @@ course_in_is (call.Mkdir path mode) (way, name) is = record {
 course_in_is other names is = tt
 
 rmdir_stops : (path : List ℕ) (chain : List Entry) (name : List ℕ) (rest names : List (List ℕ)) → path_of path ≡ ok names
-    → names_of chain ++ name ∷ rest ≡ names → Follows (call.Rmdir path) (finishes chain (rmdir_stop name rest))
+    → names_of chain ++ name ∷ rest ≡ names → Follows (call.Rmdir path) (flow.File (file_flow.Finishes chain (rmdir_stop name rest)))
 rmdir_stops path chain name [] names is along = record { text = path; is = refl; names = is ∙ ap ok (sym along) }
 rmdir_stops path chain name (next ∷ rest) names is along = record { next = next; rest = rest; names = is ∙ ap ok (sym along) }
 
@@ -115,7 +123,7 @@ names_more [] e names = refl
 names_more (first ∷ more) e names = ap (λ (later : List (List ℕ)). name_of first.key ∷ later) (names_more more e names)
 
 module _ (asked : Call) (course : Course) (is : IsCourse asked course) where
-  by_next_follows : (chain : List Entry) (name : List ℕ) (names : List (List ℕ)) (go : Entry → Turn) (next : Next)
+  by_next_follows : (chain : List Entry) (name : List ℕ) (names : List (List ℕ)) (go : Entry → Turn Flow) (next : Next)
       → names_of chain ++ name ∷ names ≡ course.looked → NextNamed name next → ((e : Entry) → name_of e.key ≡ name → TurnFollows asked (go e))
       → TurnFollows asked (by_next course chain name names go next)
   by_next_follows chain name names go (steps e) along named goes = goes e named
@@ -140,15 +148,15 @@ module _ (asked : Call) (course : Course) (is : IsCourse asked course) where
   root_follows digest root xs told (reply.Busy by at born) more = tt
   root_follows digest root xs told any_reply more = tt
 
-  follows_if : (b : Bool) (first second : Turn) → TurnFollows asked first → TurnFollows asked second → TurnFollows asked (if b then first else second)
+  follows_if : (b : Bool) (first second : Turn Flow) → TurnFollows asked first → TurnFollows asked second → TurnFollows asked (if b then first else second)
   follows_if true first second one other = one
   follows_if false first second one other = other
 
   first_follows : (digest : List ℕ → Id) (root : Id) (place : ℕ) (told : Option Told) (xs : List Sent) → AreToldFor (keys_along digest root course.looked) xs
       → TurnFollows asked (after_round (Some course) (record { place = place; told = told } ∷ xs))
-  first_follows digest root place None xs more = follows_if _ (winds_up (answers answer.NoMemory None) []) (winds_up retries []) tt tt
+  first_follows digest root place None xs more = follows_if _ (turn.WindsUp (ending.Answers answer.NoMemory None) []) (turn.WindsUp ending.Retries []) tt tt
   first_follows digest root place (Some told) xs more =
-      follows_if _ (winds_up (answers answer.NoMemory None) []) (from_root course xs told told.reply) tt (root_follows digest root xs told told.reply more)
+      follows_if _ (turn.WindsUp (ending.Answers answer.NoMemory None) []) (from_root course xs told told.reply) tt (root_follows digest root xs told told.reply more)
 
   round_follows : (digest : List ℕ → Id) (root : Id) (sent : List Sent) → AreToldFor (look.Top ∷ keys_along digest root course.looked) sent
       → TurnFollows asked (after_round (Some course) sent)
@@ -162,25 +170,22 @@ after_round_follows digest root asked course sent found told =
 
 -- ---- after a message of a flow
 
-fails_follows : (asked : Call) (who : Who) (flow : Flow) (place : ℕ) (given : Reply) → TurnFollows asked (fails who flow place given)
-fails_follows asked who flow place (reply.Busy by at born) = tt
-fails_follows asked who flow place (reply.Refused error) = tt
-fails_follows asked who flow place reply.NoMem = tt
-fails_follows asked who flow place any_reply = tt
+fails_follows : {F : Type 0} (wrap : F → Flow) (asked : Call) (who : Who) (step : Flow) (place : ℕ) (given : Reply) → TurnFollows asked (turn_as wrap (fails (clean_up who step) place given))
+fails_follows wrap asked who step place (reply.Busy by at born) = tt
+fails_follows wrap asked who step place (reply.Refused error) = tt
+fails_follows wrap asked who step place reply.NoMem = tt
+fails_follows wrap asked who step place any_reply = tt
 
-make_follows : (asked : Call) (who : Who) (flow : Flow) (own : Triple) (place : ℕ) (given : Reply) → TurnFollows asked (after_make who flow own place given)
-make_follows asked who flow own place (reply.Clash kept) = tt
-make_follows asked who flow own place any_reply = fails_follows asked who flow place any_reply
-
-pub after_act_follows : (digest : List ℕ → Id) (asked : Call) (who : Who) (flow : Flow) (ask_place place : ℕ) (given : Reply) → Follows asked flow
-    → TurnFollows asked (after_act digest who flow ask_place place given)
-after_act_follows digest asked who (finishes chain (op.Create name mode)) ask_place place reply.Fine is = tt
-after_act_follows digest asked who (finishes chain (op.Stat name)) ask_place place (reply.Stat kind meta) is = tt
-after_act_follows digest asked who (reserves chain name mode) ask_place place (reply.Reserved version) is = is
-after_act_follows digest asked who (makes chain name mode version id) ask_place place reply.Fine is = is
-after_act_follows digest asked who (makes chain name mode version id) ask_place place given is =
-    make_follows asked who (makes chain name mode version id) (birth_of who chain name version) place given
-after_act_follows digest asked who (links chain name mode version dir) ask_place place reply.Fine is = tt
-after_act_follows digest asked who (seals chain) ask_place place reply.Fine is = is
-after_act_follows digest asked who (unlinks chain) ask_place place reply.Fine is = tt
-after_act_follows digest asked who flow ask_place place given is = fails_follows asked who flow place given
+pub after_act_follows : (digest : List ℕ → Id) (asked : Call) (who : Who) (step : Flow) (ask_place place : ℕ) (given : Reply) → Follows asked step
+    → TurnFollows asked (after_act digest who step ask_place place given)
+after_act_follows digest asked who (flow.File (file_flow.Finishes chain (op.Create name mode))) ask_place place reply.Fine is = tt
+after_act_follows digest asked who (flow.File (file_flow.Finishes chain (op.Stat name))) ask_place place (reply.Stat kind meta) is = tt
+after_act_follows digest asked who (flow.Dir (dir_flow.Reserves chain name mode)) ask_place place (reply.Reserved version) is = is
+after_act_follows digest asked who (flow.Dir (dir_flow.Makes chain name mode version id)) ask_place place reply.Fine is = is
+after_act_follows digest asked who (flow.Dir (dir_flow.Makes chain name mode version id)) ask_place place (reply.Clash kept) is =
+    tt
+after_act_follows digest asked who (flow.Dir (dir_flow.Links chain name mode version dir)) ask_place place reply.Fine is = tt
+after_act_follows digest asked who (flow.Dir (dir_flow.Seals chain)) ask_place place reply.Fine is = is
+after_act_follows digest asked who (flow.Dir (dir_flow.Unlinks chain)) ask_place place reply.Fine is = tt
+after_act_follows digest asked who (flow.File step) ask_place place given is = fails_follows flow.File asked who (flow.File step) place given
+after_act_follows digest asked who (flow.Dir step) ask_place place given is = fails_follows flow.Dir asked who (flow.Dir step) place given

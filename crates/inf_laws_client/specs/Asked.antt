@@ -6,8 +6,9 @@ use Rattle.inf_message.specs.declared.reply.Reply.{Reply}
 use Rattle.inf_message.specs.declared.request.Request.{Request}
 use Rattle.inf_message.specs.declared.request.Request.TheVariants as request
 use Rattle.inf_message.specs.declared.step.Message.{Message}
-use Rattle.inf_flow_dir.specs.Client.{ClientState, Sent}
-use Rattle.inf_flow_dir.specs.Group.{group}
+use Rattle.inf_duty.specs.ClientState.{ClientState}
+use Rattle.inf_duty.specs.Group.{group}
+use Rattle.inf_message.specs.Sent.{Sent}
 use Rattle.inf_laws_client.specs.Paths.{IsToldFor}
 
 -- the Asks of a group are of its messages, in their order

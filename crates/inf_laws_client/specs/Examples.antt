@@ -20,11 +20,18 @@ use Rattle.inf_message.specs.declared.request.Request.{Request}
 use Rattle.inf_message.specs.declared.request.Request.TheVariants as request
 use Rattle.inf_message.specs.declared.step.Message.{Message}
 use Rattle.inf_message.specs.History.{told_reply}
-use Rattle.inf_flow_dir.specs.Client.{ClientState, Sent, act, answers, idle}
-use Rattle.inf_flow_dir.specs.Flow.{Flow, Who, finishes, links, makes, unlinks}
-use Rattle.inf_flow_dir.specs.Group.{Course, course_of}
+use Rattle.inf_flow_dir.specs.declared.dir_flow.DirFlow.TheVariants as dir_flow
+use Rattle.inf_message.specs.declared.ending.Ending.TheVariants as ending
+use Rattle.inf_flow_file.specs.declared.file_flow.FileFlow.TheVariants as file_flow
+use Rattle.inf_duty.specs.declared.flow.Flow.TheVariants as flow
+use Rattle.inf_message.specs.declared.turn.Turn.TheVariants as turn
+use Rattle.inf_duty.specs.ClientState.{ClientState, act, idle}
+use Rattle.inf_duty.specs.Group.{Course, course_of}
+use Rattle.inf_duty.specs.declared.flow.Flow.{Flow}
+use Rattle.inf_message.specs.Sent.{Sent}
+use Rattle.inf_message.specs.Who.{Who}
+use Rattle.inf_message.specs.declared.turn.Turn.{Turn}
 use Rattle.inf_laws_client.specs.Run.{digest, who, zero_id}
-use Rattle.inf_flow_dir.specs.Turn.{Turn, goes_on, winds_up}
 
 abbrev pub the_client : Who
 the_client = who 1 0
@@ -57,13 +64,13 @@ abbrev pub chain_to_a_from_b : List Entry
 chain_to_a_from_b = root_entry ∷ a_entry birth_as_b ∷ []
 
 abbrev pub make_a : Flow
-make_a = makes (root_entry ∷ []) (codes "a") 0o755 0 a_dir.id
+make_a = flow.Dir (dir_flow.Makes (root_entry ∷ []) (codes "a") 0o755 0 a_dir.id)
 
 abbrev pub link_a : Flow
-link_a = links (root_entry ∷ []) (codes "a") 0o755 0 a_dir
+link_a = flow.Dir (dir_flow.Links (root_entry ∷ []) (codes "a") 0o755 0 a_dir)
 
 abbrev pub unlink_a : Flow
-unlink_a = unlinks chain_to_a
+unlink_a = flow.Dir (dir_flow.Unlinks chain_to_a)
 
 abbrev pub at_0 : Request → Message
 at_0 asked = record { number = 0; request = asked }
@@ -119,8 +126,8 @@ abbrev pub busy : ℕ → ℕ → ℕ → Sent
 busy place serve_place born = answered place serve_place (reply.Busy another spot.Slot born)
 
 -- the path stops at `a`
-abbrev pub stopped_at_a : Turn
-stopped_at_a = goes_on (act (finishes (root_told ∷ []) (op.Walk (codes "a"))))
+abbrev pub stopped_at_a : Turn Flow
+stopped_at_a = turn.GoesOn (flow.File (file_flow.Finishes (root_told ∷ []) (op.Walk (codes "a"))))
 
-abbrev pub out_of_memory : Turn
-out_of_memory = winds_up (answers answer.NoMemory None) []
+abbrev pub out_of_memory : Turn Flow
+out_of_memory = turn.WindsUp (ending.Answers answer.NoMemory None) []

@@ -13,11 +13,17 @@ use Rattle.inf_message.specs.declared.op.Op.{Op}
 use Rattle.inf_message.specs.declared.op.Op.TheVariants as op
 use Rattle.inf_message.specs.declared.reply.Reply.{Reply}
 use Rattle.inf_message.specs.declared.reply.Reply.TheVariants as reply
-use Rattle.inf_flow_dir.specs.Client.{ClientState, Sent, Stage, act, compose, round, winds}
-use Rattle.inf_flow_dir.specs.Flow.{Flow, Who, finishes, links, makes, reserves, seals, unlinks}
-use Rattle.inf_flow_dir.specs.Group.{keys_of, next_course, text_of}
+use Rattle.inf_flow_dir.specs.declared.dir_flow.DirFlow.TheVariants as dir_flow
+use Rattle.inf_flow_file.specs.declared.file_flow.FileFlow.TheVariants as file_flow
+use Rattle.inf_duty.specs.declared.flow.Flow.TheVariants as flow
+use Rattle.inf_message.specs.declared.turn.Turn.TheVariants as turn
+use Rattle.inf_duty.specs.ClientState.{ClientState, Stage, act, compose, round, winds}
+use Rattle.inf_duty.specs.Group.{keys_of, next_course, text_of}
+use Rattle.inf_duty.specs.declared.flow.Flow.{Flow}
+use Rattle.inf_message.specs.Sent.{Sent}
+use Rattle.inf_message.specs.Who.{Who}
+use Rattle.inf_message.specs.declared.turn.Turn.{Turn}
 use Rattle.inf_laws_client.specs.Told.{IfTold}
-use Rattle.inf_flow_dir.specs.Turn.{Turn, goes_on, winds_up}
 
 abbrev pub name_of : Key → List ℕ
 name_of key.Top = []
@@ -60,21 +66,23 @@ OpFollows asked chain (op.Walk name) = StopsBefore asked chain name
 OpFollows asked chain any_op = ⊥
 
 abbrev pub Follows : Call → Flow → Type 0
-Follows asked (finishes chain what) = OpFollows asked chain what
-Follows asked (reserves chain name mode) = NamesLast asked (λ text. call.Mkdir text mode) chain name
-Follows asked (makes chain name mode version id) = NamesLast asked (λ text. call.Mkdir text mode) chain name
-Follows asked (links chain name mode version dir) = NamesLast asked (λ text. call.Mkdir text mode) chain name
-Follows asked (seals chain) = NamesAll asked call.Rmdir chain
-Follows asked (unlinks chain) = NamesAll asked call.Rmdir chain
+Follows asked (flow.File (file_flow.Finishes chain what)) = OpFollows asked chain what
+Follows asked (flow.Dir (dir_flow.Reserves chain name mode)) = NamesLast asked (λ text. call.Mkdir text mode) chain name
+Follows asked (flow.Dir (dir_flow.Makes chain name mode version id)) =
+    NamesLast asked (λ text. call.Mkdir text mode) chain name
+Follows asked (flow.Dir (dir_flow.Links chain name mode version dir)) =
+    NamesLast asked (λ text. call.Mkdir text mode) chain name
+Follows asked (flow.Dir (dir_flow.Seals chain)) = NamesAll asked call.Rmdir chain
+Follows asked (flow.Dir (dir_flow.Unlinks chain)) = NamesAll asked call.Rmdir chain
 
 abbrev pub StageFollows : Call → Stage → Type 0
-StageFollows asked (act flow) = Follows asked flow
+StageFollows asked (act step) = Follows asked step
 StageFollows asked other = ⊥
 
 -- where the attempt goes on, it does with a flow on the path
-abbrev pub TurnFollows : Call → Turn → Type 0
-TurnFollows asked (goes_on next) = StageFollows asked next
-TurnFollows asked (winds_up ending more) = Unit {0}
+abbrev pub TurnFollows : Call → Turn Flow → Type 0
+TurnFollows asked (turn.GoesOn next) = StageFollows asked (act next)
+TurnFollows asked (turn.WindsUp ending more) = Unit {0}
 
 -- ---- answers to lookups
 
@@ -100,15 +108,15 @@ AnswersLookup other sent place given = Unit {0}
 -- ---- clients
 
 abbrev pub FlowFollows : List Call → Flow → Type 0
-FlowFollows [] flow = ⊥
-FlowFollows (asked ∷ calls) flow = Follows asked flow
+FlowFollows [] step = ⊥
+FlowFollows (asked ∷ calls) step = Follows asked step
 
 -- a round looks up the path of the call under way, and a flow stands on it; nothing is asked before a round is composed
 abbrev pub StandsOnPath : (List ℕ → Id) → Who → List Call → Stage → List Sent → Type 0
 StandsOnPath digest who calls compose sent = sent ≡ []
 StandsOnPath digest who calls (round keys) sent =
     (keys_of digest who (next_course calls) ≡ round keys) × AreToldFor keys sent
-StandsOnPath digest who calls (act flow) sent = FlowFollows calls flow
+StandsOnPath digest who calls (act step) sent = FlowFollows calls step
 StandsOnPath digest who calls (winds ending m ms) sent = Unit {0}
 
 -- so does the client

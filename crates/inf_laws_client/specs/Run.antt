@@ -9,11 +9,11 @@ use Rattle.inf_message.specs.declared.call_result.CallResult.{CallResult}
 use Rattle.inf_message.specs.History.{told_reply}
 use Rattle.inf_server.specs.Machine.{machine}
 use Rattle.inf_server.specs.State.{Site, State, opening}
-use Rattle.inf_flow_dir.specs.Client.{ClientState, idle}
+use Rattle.inf_duty.specs.ClientState.{ClientState, idle}
+use Rattle.inf_duty.specs.Group.{composed}
+use Rattle.inf_duty.specs.Turn.{served}
+use Rattle.inf_message.specs.Who.{Who}
 use Rattle.inf_duty.specs.Duty.{Next, asked, asks, is_over, next_step, waits}
-use Rattle.inf_flow_dir.specs.Flow.{Who}
-use Rattle.inf_flow_dir.specs.Group.{composed}
-use Rattle.inf_flow_dir.specs.Turn.{served}
 
 abbrev pub zero_id : Id
 zero_id = record { bytes = replicate 32 0 }

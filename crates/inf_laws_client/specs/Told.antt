@@ -12,8 +12,12 @@ use Rattle.inf_message.specs.declared.reply.Reply.TheVariants as reply
 use Rattle.inf_message.specs.declared.step.Message.{Message}
 use Rattle.inf_message.specs.History.{Told}
 use Rattle.inf_server.specs.Chains.{chains_of}
-use Rattle.inf_flow_dir.specs.Client.{ClientState, Sent, Stage, act, compose, round, winds}
-use Rattle.inf_flow_dir.specs.Flow.{Flow, finishes, links, makes, reserves, seals, unlinks}
+use Rattle.inf_flow_dir.specs.declared.dir_flow.DirFlow.TheVariants as dir_flow
+use Rattle.inf_flow_file.specs.declared.file_flow.FileFlow.TheVariants as file_flow
+use Rattle.inf_duty.specs.declared.flow.Flow.TheVariants as flow
+use Rattle.inf_duty.specs.ClientState.{ClientState, Stage, act, compose, round, winds}
+use Rattle.inf_duty.specs.declared.flow.Flow.{Flow}
+use Rattle.inf_message.specs.Sent.{Sent}
 
 -- ---- answers, by what is true of a key and the access object that is told under it
 
@@ -42,7 +46,7 @@ FirstIsTop (x ∷ xs) = IfTold IsOfTop x.told
 abbrev pub BeginsAtTop : Stage → List Sent → Type 0
 BeginsAtTop compose sent = sent ≡ []
 BeginsAtTop (round keys) sent = FirstIsTop sent
-BeginsAtTop (act flow) sent = Unit {0}
+BeginsAtTop (act step) sent = Unit {0}
 BeginsAtTop (winds ending m ms) sent = Unit {0}
 
 abbrev pub IfFirst : List Sent → ℕ → Reply → Type 0
@@ -81,12 +85,12 @@ pub record IsChainOf (T : Key → Access → Type 0) (chain : List Entry) : Type
 -- ---- clients
 
 abbrev pub chain_of : Flow → List Entry
-chain_of (finishes chain op) = chain
-chain_of (reserves chain name mode) = chain
-chain_of (makes chain name mode version id) = chain
-chain_of (links chain name mode version dir) = chain
-chain_of (seals chain) = chain
-chain_of (unlinks chain) = chain
+chain_of (flow.File (file_flow.Finishes chain op)) = chain
+chain_of (flow.Dir (dir_flow.Reserves chain name mode)) = chain
+chain_of (flow.Dir (dir_flow.Makes chain name mode version id)) = chain
+chain_of (flow.Dir (dir_flow.Links chain name mode version dir)) = chain
+chain_of (flow.Dir (dir_flow.Seals chain)) = chain
+chain_of (flow.Dir (dir_flow.Unlinks chain)) = chain
 
 -- no chain is sent by what winds a call up
 abbrev pub ArePlain : List Message → Type 0
@@ -96,7 +100,7 @@ ArePlain (m ∷ ms) = (chains_of m.request ≡ []) × ArePlain ms
 abbrev pub StandsOn : (Key → Access → Type 0) → Stage → Type 0
 StandsOn T compose = Unit {0}
 StandsOn T (round keys) = Unit {0}
-StandsOn T (act flow) = IsChainOf T (chain_of flow)
+StandsOn T (act step) = IsChainOf T (chain_of step)
 StandsOn T (winds ending m ms) = ArePlain (m ∷ ms)
 
 pub record KnowsOnly (T : Key → Access → Type 0) (s : ClientState) : Type 0 where

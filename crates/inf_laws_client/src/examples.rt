@@ -6,10 +6,15 @@ ghost use Rattle.inf_base.specs.declared.call.Call.TheVariants as call;
 ghost use Rattle.inf_base.specs.declared.errno.Errno.TheVariants as errno;
 ghost use Rattle.inf_base.specs.declared.triple.Triple.TheVariants as triple;
 ghost use Rattle.inf_duty.specs.Duty.{asks, begun, next_step};
-ghost use Rattle.inf_flow_dir.specs.Flow.{after_unlink, clean_up, finishes};
+ghost use Rattle.inf_flow_file.specs.declared.file_flow.FileFlow.TheVariants as file;
+ghost use Rattle.inf_duty.specs.declared.flow.Flow.TheVariants as flow;
+ghost use Rattle.inf_message.specs.declared.turn.Turn.TheVariants as turn;
+ghost use Rattle.inf_duty.specs.ClientState.{act};
+ghost use Rattle.inf_duty.specs.Flow.{clean_up};
+ghost use Rattle.inf_duty.specs.Turn.{after_round};
+ghost use Rattle.inf_flow_dir.specs.DirFlow.{after_unlink};
+ghost use Rattle.inf_message.specs.Turn.{ends};
 ghost use Rattle.inf_laws_client.specs.Examples.{a_told, another, answered, busy, out_of_memory, root_told, stopped_at_a, the_round, told_a, told_root, cancel, chain_to_a, chain_to_a_from_b, drop_made, forget_moved, link_a, make_a, making, the_client, the_maker, unlink_a, unseal_a};
-ghost use Rattle.inf_flow_dir.specs.Client.{act};
-ghost use Rattle.inf_flow_dir.specs.Turn.{after_round, ends, goes_on};
 ghost use Rattle.inf_message.specs.declared.op.Op.TheVariants as op;
 ghost use Rattle.inf_message.specs.declared.reply.Reply.TheVariants as reply;
 ghost use Rattle.inf_laws_client.specs.Run.{alone, digest, ended_at, opening_run, results, crossing_run, shows, zero_id};
@@ -70,7 +75,7 @@ pub fn example_of_wanting_memory()
 /// change in that directory is in the way; and a reply that memory is wanting ends the call, whatever the others say.
 pub fn example_of_rounds()
     ensures linked { after_round the_round (told_root ∷ told_a 0 ∷ [])
-        ≡ goes_on (act (finishes (root_told ∷ a_told ∷ []) (op.Stat (codes "f")))) }
+        ≡ turn.GoesOn ((flow.File (file.Finishes (root_told ∷ a_told ∷ []) (op.Stat (codes "f"))))) }
     ensures of_another_birth { after_round the_round (told_root ∷ told_a 7 ∷ []) ≡ stopped_at_a }
     ensures busy { after_round the_round (told_root ∷ busy 2 4 0 ∷ []) ≡ ends (answer.Again another) 4 }
     ensures busy_elsewhere { after_round the_round (told_root ∷ busy 2 4 7 ∷ []) ≡ stopped_at_a }

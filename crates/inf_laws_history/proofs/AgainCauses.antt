@@ -19,7 +19,7 @@ use Rattle.inf_content.specs.Slot.{taker}
 use Rattle.inf_content.specs.Slots.{slot_in}
 use Rattle.inf_duty.specs.After.{client_after}
 use Rattle.inf_duty.specs.World.{World}
-use Rattle.inf_flow_dir.specs.Client.{ClientState}
+use Rattle.inf_duty.specs.ClientState.{ClientState}
 use Rattle.inf_laws_history.specs.Flight.{InFlight, changes_in, is_of, is_taken, is_taken_at_top, stands}
 use Rattle.inf_laws_history.specs.Kept.{IsTrue, Kept}
 use Rattle.inf_laws_history.specs.Legal.{MayServe, server_after}

@@ -9,9 +9,15 @@ use Rattle.inf_base.specs.declared.errno.Errno.{Errno}
 use Rattle.inf_base.specs.declared.errno.Errno.TheVariants as errno
 use Rattle.inf_base.specs.declared.key.Key.{Key}
 use Rattle.inf_base.specs.Path.{path_of}
-use Rattle.inf_flow_dir.specs.Client.{ClientState, Sent, Stage, act, compose, round, winds}
-use Rattle.inf_flow_dir.specs.Flow.{Flow, Who, finishes, links, makes, message_of, reserves, seals, unlinks}
-use Rattle.inf_flow_dir.specs.Group.{course_at, course_of, group, text_of}
+use Rattle.inf_flow_dir.specs.declared.dir_flow.DirFlow.TheVariants as dir_flow
+use Rattle.inf_flow_file.specs.declared.file_flow.FileFlow.TheVariants as file_flow
+use Rattle.inf_duty.specs.declared.flow.Flow.TheVariants as flow
+use Rattle.inf_duty.specs.ClientState.{ClientState, Stage, act, compose, round, winds}
+use Rattle.inf_duty.specs.Flow.{message_of}
+use Rattle.inf_duty.specs.Group.{course_at, course_of, group, text_of}
+use Rattle.inf_duty.specs.declared.flow.Flow.{Flow}
+use Rattle.inf_message.specs.Sent.{Sent}
+use Rattle.inf_message.specs.Who.{Who}
 use Rattle.inf_laws_client.specs.Paths.{Follows, KeepsToPath, OpFollows, StandsOnPath, StopsBefore, names_of}
 use Rattle.inf_laws_client.specs.Told.{IsChainOf, KnowsOnly, StandsOn, chain_of}
 use Rattle.inf_laws_client.proofs.ToldAlong.{told_along}
@@ -116,19 +122,19 @@ module _ (service : Service) (objects : Objects) (root : Access) (phases : Phase
   abbrev AimsAt : Caller → Call → Request → Type 0
   AimsAt = Aims service objects root phases
 
-  flow_aims : (who : Who) (asked : Call) (flow : Flow) → IsChainOf T (chain_of flow) → Follows asked flow → FlowMay who.caller flow
-      → is_some (course_of asked) ≡ true → AimsAt who.caller asked (message_of who flow).request
-  flow_aims who asked (finishes chain what) is follows may course = op_aims asked chain what is follows
-  flow_aims who asked (reserves chain name mode) is follows may course =
+  flow_aims : (who : Who) (asked : Call) (step : Flow) → IsChainOf T (chain_of step) → Follows asked step → FlowMay who.caller step
+      → is_some (course_of asked) ≡ true → AimsAt who.caller asked (message_of who step).request
+  flow_aims who asked (flow.File (file_flow.Finishes chain what)) is follows may course = op_aims asked chain what is follows
+  flow_aims who asked (flow.Dir (dir_flow.Reserves chain name mode)) is follows may course =
       subst (λ (c : Call). AimsAt who.caller c (request.Reserve chain name)) (sym follows.is) (aimed follows.text name chain is follows.names)
-  flow_aims who asked (makes chain name mode version id) is follows may course = tt
-  flow_aims who asked (links chain name mode version dir) is follows may course =
-      subst (λ (c : Call). AimsAt who.caller c (message_of who (links chain name mode version dir)).request) (sym follows.is)
+  flow_aims who asked (flow.Dir (dir_flow.Makes chain name mode version id)) is follows may course = tt
+  flow_aims who asked (flow.Dir (dir_flow.Links chain name mode version dir)) is follows may course =
+      subst (λ (c : Call). AimsAt who.caller c (message_of who (flow.Dir (dir_flow.Links chain name mode version dir))).request) (sym follows.is)
       (refl, aimed follows.text name chain is follows.names, may)
-  flow_aims who asked (seals chain) is follows may course =
+  flow_aims who asked (flow.Dir (dir_flow.Seals chain)) is follows may course =
       subst (λ (c : Call). AimsAt who.caller c (request.Seal chain)) (sym follows.is)
       (aimed_at follows.text chain is follows.names (subst (λ (c : Call). is_some (course_of c) ≡ true) follows.is course))
-  flow_aims who asked (unlinks chain) is follows may course =
+  flow_aims who asked (flow.Dir (dir_flow.Unlinks chain)) is follows may course =
       subst (λ (c : Call). AimsAt who.caller c (request.Unlink chain)) (sym follows.is)
       (aimed_at follows.text chain is follows.names (subst (λ (c : Call). is_some (course_of c) ≡ true) follows.is course), may)
 
@@ -146,9 +152,9 @@ module _ (service : Service) (objects : Objects) (root : Access) (phases : Phase
   stage_aims who asked calls (round keys) sent phase index number what stands path course has may is =
       let found = look_in who keys index number what is in
       subst (λ (r : Request). AimsAt who.caller asked r) (sym found.is) tt
-  stage_aims who asked calls (act flow) sent phase index number what stands path course has may is =
-      subst (λ (m : Message). AimsAt who.caller asked m.request) (only_one (message_of who flow) index number what is)
-      (flow_aims who asked flow stands path may course)
+  stage_aims who asked calls (act step) sent phase index number what stands path course has may is =
+      subst (λ (m : Message). AimsAt who.caller asked m.request) (only_one (message_of who step) index number what is)
+      (flow_aims who asked step stands path may course)
   stage_aims who asked calls (winds ending first ms) sent phase index number what stands path course has may is =
       subst (λ (m : Message). AimsAt who.caller asked m.request) (only_one first index number what is)
       (lift_aims who.servers who.caller asked phase first has.0)

@@ -9,10 +9,11 @@ use Rattle.std.proofs.lemmas.Option.{slice_get-map}
 use Rattle.std.specs.List.{list_all}
 use Rattle.inf_duty.specs.Duty.{asked}
 use Rattle.inf_duty.specs.Own.{after_answer, told_pair}
-use Rattle.inf_flow_dir.specs.Client.{ClientState, Counts, Sent, counted, has_place, is_first, is_round, is_told, one_if, placed, told_at}
-use Rattle.inf_flow_dir.specs.Group.{group}
-use Rattle.inf_flow_dir.specs.Heard.{heard}
-use Rattle.inf_flow_dir.specs.Turn.{after_record, is_complete, later_place, recorded, served}
+use Rattle.inf_duty.specs.ClientState.{ClientState, Counts, counted, is_round, one_if, placed}
+use Rattle.inf_duty.specs.Group.{group}
+use Rattle.inf_duty.specs.Turn.{after_record, is_complete, later_place, recorded, served}
+use Rattle.inf_message.specs.Heard.{heard}
+use Rattle.inf_message.specs.Sent.{Sent, has_place, is_first, is_told, told_at}
 use Rattle.inf_laws_history.proofs.ClientSteps.{served_within}
 use Rattle.inf_laws_history.proofs.PendingFacts.{begun_stays, not_complete, sent_recorded, waiting_at}
 use Rattle.inf_laws_history.proofs.ByIndex.{got_pushed, got_stays}

@@ -6,7 +6,7 @@ use Rattle.inf_base.specs.declared.key.Key.{Key}
 use Rattle.inf_duty.specs.After.{client_after}
 use Rattle.inf_duty.specs.Duty.{Duty, asked, begun}
 use Rattle.inf_duty.specs.World.{World}
-use Rattle.inf_flow_dir.specs.Client.{ClientState}
+use Rattle.inf_duty.specs.ClientState.{ClientState}
 use Rattle.inf_laws_client.specs.Paths.{KeepsToPath}
 use Rattle.inf_laws_client.specs.Told.{KnowsOnly}
 use Rattle.inf_laws_client.proofs.KnowsFacts.{begun_knows, placed_knows, weaker_knows}

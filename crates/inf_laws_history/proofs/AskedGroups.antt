@@ -7,8 +7,8 @@ use Rattle.inf_duty.specs.After.{client_after}
 use Rattle.inf_duty.specs.Duty.{Duty, asked, begun}
 use Rattle.inf_duty.specs.Start.{starting, who_in, nobody}
 use Rattle.inf_duty.specs.World.{World}
-use Rattle.inf_flow_dir.specs.Client.{ClientState}
-use Rattle.inf_flow_dir.specs.Heard.{heard}
+use Rattle.inf_duty.specs.ClientState.{ClientState}
+use Rattle.inf_message.specs.Heard.{heard}
 use Rattle.inf_laws_client.proofs.AskedFacts.{begun_asks, idle_asks, placed_asks, served_asks, weaker_asks}
 use Rattle.inf_laws_client.specs.Asked.{AsksItsGroup}
 use Rattle.inf_laws_history.specs.Legal.{Legal, MayAsk}

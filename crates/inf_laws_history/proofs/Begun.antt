@@ -9,22 +9,29 @@ use Rattle.inf_duty.specs.Duty.{asked, begun, given_up_in}
 use Rattle.inf_duty.specs.Start.{starting}
 use Rattle.inf_duty.specs.World.{World}
 use Rattle.inf_duty.proofs.BegunKept.{IsKept, if_both, kept_begun}
-use Rattle.inf_flow_dir.specs.Client.{ClientState, Ending, Sent, Stage, act, answers, compose, ended, first_place, has_place, retries, round, winds, wound}
-use Rattle.inf_flow_dir.specs.Flow.{Who, clean_up}
-use Rattle.inf_flow_dir.specs.Group.{Course, composed_stage, keys_of, next_course}
-use Rattle.inf_flow_dir.specs.Heard.{heard}
-use Rattle.inf_flow_dir.specs.Turn.{Turn, goes_on, recorded, served, turn_at, turned, winds_up}
+use Rattle.inf_message.specs.declared.ending.Ending.TheVariants as ending
+use Rattle.inf_message.specs.declared.turn.Turn.TheVariants as turn
+use Rattle.inf_duty.specs.ClientState.{ClientState, Stage, act, compose, ended, first_place, round, winds, wound}
+use Rattle.inf_duty.specs.Flow.{clean_up}
+use Rattle.inf_duty.specs.Group.{Course, composed_stage, keys_of, next_course}
+use Rattle.inf_duty.specs.Turn.{recorded, served, turn_at, turned}
+use Rattle.inf_message.specs.Heard.{heard}
+use Rattle.inf_message.specs.Sent.{Sent, has_place}
+use Rattle.inf_message.specs.Who.{Who}
+use Rattle.inf_message.specs.declared.ending.Ending.{Ending}
+use Rattle.inf_message.specs.declared.turn.Turn.{Turn}
 use Rattle.inf_laws_history.proofs.ClientSteps.{by_answer}
 use Rattle.inf_message.specs.declared.ask.Ask.{Ask}
 use Rattle.inf_message.specs.declared.event.Event.{Event}
 use Rattle.inf_message.specs.declared.event.Event.TheVariants as event
 use Rattle.inf_message.specs.declared.step.Message.{Message}
 use Rattle.inf_message.specs.History.{Told, told_reply}
+use Rattle.inf_duty.specs.declared.flow.Flow.{Flow}
 
 -- a message of a flow, or of a clean-up, is next or waited for
 abbrev pub IsInFlow : Stage → Type 0
 IsInFlow (act flow) = Unit {0}
-IsInFlow (winds ending m ms) = Unit {0}
+IsInFlow (winds end m ms) = Unit {0}
 IsInFlow other_stage = ⊥
 
 pub record IsBegun (most : ℕ) (s : ClientState) : Type 0 where
@@ -39,18 +46,18 @@ module _ (digest : List ℕ → Id) (most : ℕ) where
   ended_is : (given : Answer) (at : Option ℕ) (s : ClientState) → Is (ended given at s)
   ended_is given at s = record { within = tt; waits = λ some. absurd (omega (arith, some)); flows = λ flows. absurd flows }
 
-  wound_is : (ending : Ending) (more : List Message) (s : ClientState) → is_some s.counts.first ≡ true → Is s → Is (wound ending more s)
-  wound_is (answers given at) [] s some is = ended_is given at s
-  wound_is retries [] s some is = record { within = is.within; waits = λ none. some; flows = λ flows. absurd flows }
-  wound_is ending (m ∷ ms) s some is = record { within = is.within; waits = λ none. some; flows = λ flows. some }
+  wound_is : (end : Ending) (more : List Message) (s : ClientState) → is_some s.counts.first ≡ true → Is s → Is (wound end more s)
+  wound_is (ending.Answers given at) [] s some is = ended_is given at s
+  wound_is ending.Retries [] s some is = record { within = is.within; waits = λ none. some; flows = λ flows. absurd flows }
+  wound_is end (m ∷ ms) s some is = record { within = is.within; waits = λ none. some; flows = λ flows. some }
 
-  turned_is : (turn : Turn) (s : ClientState) → is_some s.counts.first ≡ true → Is s → Is (turned turn s)
-  turned_is (goes_on next) s some is = record { within = is.within; waits = λ none. some; flows = λ flows. some }
-  turned_is (winds_up ending more) s some is = wound_is ending more s some is
+  turned_is : (t : Turn Flow) (s : ClientState) → is_some s.counts.first ≡ true → Is s → Is (turned t s)
+  turned_is (turn.GoesOn next) s some is = record { within = is.within; waits = λ none. some; flows = λ flows. some }
+  turned_is (turn.WindsUp end more) s some is = wound_is end more s some is
 
   given_up_is : (s : ClientState) (stage : Stage) → (IsInFlow stage → is_some s.counts.first ≡ true) → Is s → Is (given_up_in s stage)
-  given_up_is s (act flow) flows is = wound_is (answers answer.NoMemory None) (clean_up s.who flow) s (flows tt) is
-  given_up_is s (winds ending m ms) flows is = is
+  given_up_is s (act flow) flows is = wound_is (ending.Answers answer.NoMemory None) (clean_up s.who flow) s (flows tt) is
+  given_up_is s (winds end m ms) flows is = is
   given_up_is s compose flows is = ended_is answer.NoMemory None s
   given_up_is s (round keys) flows is = ended_is answer.NoMemory None s
 
@@ -62,7 +69,7 @@ module _ (digest : List ℕ → Id) (most : ℕ) where
   composed_flows s compose flows now = absurd (no_flow s.who (next_course s.left) now)
   composed_flows s (round keys) flows now = flows now
   composed_flows s (act flow) flows now = flows now
-  composed_flows s (winds ending m ms) flows now = flows now
+  composed_flows s (winds end m ms) flows now = flows now
 
   kept : IsKept digest Is
   kept = record {

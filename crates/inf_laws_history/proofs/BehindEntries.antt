@@ -12,11 +12,17 @@ use Rattle.inf_duty.specs.After.{client_after}
 use Rattle.inf_duty.specs.Outcome.{Outcome}
 use Rattle.inf_duty.specs.World.{World}
 use Rattle.inf_duty.proofs.BegunKept.{if_both}
-use Rattle.inf_flow_dir.specs.Client.{ClientState, Sent, Stage, act, call_ref, has_place, round, told_at}
-use Rattle.inf_flow_dir.specs.Flow.{Flow, Who, finishes, links, makes, message_of, reserves, seals, unlinks}
-use Rattle.inf_flow_dir.specs.Group.{Course, group, keys_of, next_course}
-use Rattle.inf_flow_dir.specs.Heard.{heard}
-use Rattle.inf_flow_dir.specs.Turn.{act_turn, after_round}
+use Rattle.inf_flow_dir.specs.declared.dir_flow.DirFlow.TheVariants as dir_flow
+use Rattle.inf_flow_file.specs.declared.file_flow.FileFlow.TheVariants as file_flow
+use Rattle.inf_duty.specs.declared.flow.Flow.TheVariants as flow
+use Rattle.inf_duty.specs.ClientState.{ClientState, Stage, act, call_ref, round}
+use Rattle.inf_duty.specs.Flow.{message_of}
+use Rattle.inf_duty.specs.Group.{Course, group, keys_of, next_course}
+use Rattle.inf_duty.specs.Turn.{act_turn, after_round}
+use Rattle.inf_duty.specs.declared.flow.Flow.{Flow}
+use Rattle.inf_message.specs.Heard.{heard}
+use Rattle.inf_message.specs.Sent.{Sent, has_place, told_at}
+use Rattle.inf_message.specs.Who.{Who}
 use Rattle.inf_laws_client.specs.Asked.{AreAskedFor}
 use Rattle.inf_laws_client.specs.Paths.{StandsOnPath}
 use Rattle.inf_laws_directory.specs.At.{At}
@@ -180,13 +186,13 @@ head_asked A m ms place told (y ∷ ys) x asks found =
     let same : told_at place told y ≡ x = cc in
     subst (λ (z : Sent). A z.place m.request) same (if_both (λ (z : Sent). A z.place m.request) (eqb y.place place) _ y asks.0 asks.0)
 
-no_lookup : (who : Who) (flow : Flow) (k : LookKey) → (message_of who flow).request ≡ request.Lookup k → ⊥
-no_lookup who (finishes chain what) k is = cc
-no_lookup who (reserves chain name mode) k is = cc
-no_lookup who (makes chain name mode version id) k is = cc
-no_lookup who (links chain name mode version dir) k is = cc
-no_lookup who (seals chain) k is = cc
-no_lookup who (unlinks chain) k is = cc
+no_lookup : (who : Who) (step : Flow) (k : LookKey) → (message_of who step).request ≡ request.Lookup k → ⊥
+no_lookup who (flow.File (file_flow.Finishes chain what)) k is = cc
+no_lookup who (flow.Dir (dir_flow.Reserves chain name mode)) k is = cc
+no_lookup who (flow.Dir (dir_flow.Makes chain name mode version id)) k is = cc
+no_lookup who (flow.Dir (dir_flow.Links chain name mode version dir)) k is = cc
+no_lookup who (flow.Dir (dir_flow.Seals chain)) k is = cc
+no_lookup who (flow.Dir (dir_flow.Unlinks chain)) k is = cc
 
 -- the first lookup of a round is of the root
 first_is_top : (digest : List ℕ → Id) (who : Who) (course : Option Course) (keys : List LookKey) → keys_of digest who course ≡ round keys → (A : ℕ → Request → Type 0) (place : ℕ) (told : Told)
@@ -244,25 +250,25 @@ module _ (world : World) (keeps : (h : List Event) → Legal world h → Kept wo
           other_counts now (call_ref s) sent_now (are_served here) answer 0 first.busy (record { serve_place = place; reply = first.given }) first.first first.told
           (λ id name other. (let same = asked_once now first.busy.place (request.Lookup look.Top) (request.Lookup (look.At id name)) top other in cc))
 
-  by_flow : (flow : Flow) → s.stage ≡ act flow → has_place ask_place s.sent ≡ true → TurnOf (Counts now (call_ref s)) (act_turn world.digest s.who flow sent_now)
-  by_flow flow is here = by sent_now refl
+  by_flow : (step : Flow) → s.stage ≡ act step → has_place ask_place s.sent ≡ true → TurnOf (Counts now (call_ref s)) (act_turn world.digest s.who step sent_now)
+  by_flow step is here = by sent_now refl
     where
-      asks : AreAskedFor (WasAskedIn now) (group s.who (act flow)) s.sent
+      asks : AreAskedFor (WasAskedIn now) (group s.who (act step)) s.sent
       asks = subst (λ (stage : Stage). AreAskedFor (WasAskedIn now) (group s.who stage) s.sent) is asks_now
 
-      told_counts : (x : Sent) (xs : List Sent) → sent_now ≡ x ∷ xs → (known : Option Told) → x.told ≡ known → TurnOf (Counts now (call_ref s)) (act_turn world.digest s.who flow (record { place = x.place; told = known } ∷ xs))
+      told_counts : (x : Sent) (xs : List Sent) → sent_now ≡ x ∷ xs → (known : Option Told) → x.told ≡ known → TurnOf (Counts now (call_ref s)) (act_turn world.digest s.who step (record { place = x.place; told = known } ∷ xs))
       told_counts x xs same None none = tt
       told_counts x xs same (Some known) some =
           weaker_turn (IsAt known.serve_place) (Counts now (call_ref s))
           (λ answer place at. subst (Counts now (call_ref s) answer) (sym at)
           (other_counts now (call_ref s) sent_now (are_served here) answer 0 x known (ap (λ ys. slice_get ys 0) same) some
           (λ id name other.
-          no_lookup s.who flow (look.At id name)
-          (asked_once now x.place (message_of s.who flow).request (request.Lookup (look.At id name))
-          (head_asked (WasAskedIn now) (message_of s.who flow) [] ask_place told s.sent x asks (ap (λ ys. slice_get ys 0) same)) other))))
-          _ (act_turn_at world.digest s.who flow (record { place = x.place; told = Some known } ∷ xs) known refl)
+          no_lookup s.who step (look.At id name)
+          (asked_once now x.place (message_of s.who step).request (request.Lookup (look.At id name))
+          (head_asked (WasAskedIn now) (message_of s.who step) [] ask_place told s.sent x asks (ap (λ ys. slice_get ys 0) same)) other))))
+          _ (act_turn_at world.digest s.who step (record { place = x.place; told = Some known } ∷ xs) known refl)
 
-      by : (sent : List Sent) → sent_now ≡ sent → TurnOf (Counts now (call_ref s)) (act_turn world.digest s.who flow sent)
+      by : (sent : List Sent) → sent_now ≡ sent → TurnOf (Counts now (call_ref s)) (act_turn world.digest s.who step sent)
       by [] same = tt
       by (x ∷ xs) same = told_counts x xs same x.told refl
 
@@ -270,7 +276,7 @@ counts_brought : (world : World) → ((h : List Event) → Legal world h → Kep
 counts_brought world keeps = record {
   stays = counts_stay;
   by_round = λ h legal number ask_place given may client keys is here. by_round world keeps h legal number ask_place given may client keys is here;
-  by_flow = λ h legal number ask_place given may client flow is here. by_flow world keeps h legal number ask_place given may client flow is here;
+  by_flow = λ h legal number ask_place given may client step is here. by_flow world keeps h legal number ask_place given may client step is here;
 }
 
 -- a lookup under a name that decided a call is behind its entry

@@ -1,49 +1,35 @@
 -- What a request that is replied Busy met at the server: it touches what was asked for.
-use Rattle.std.proofs.Common.{◌≡◌, ◌⊎◌, inl, inr, ℕ, Bool, true, false, cond, ◌||◌, List, [], ◌∷◌, Option, Some, None, is_some, Result, Ok, ok_or, nat_cmp, refl, sym, ap, ◌∙◌, subst}
+use Rattle.std.proofs.Common.{◌≡◌, ◌⊎◌, inl, inr, ℕ, Bool, true, false, cond, ◌||◌, List, [], ◌∷◌, Option, Some, None, is_some, nat_cmp, refl, sym, ap, ◌∙◌, subst}
 use Rattle.std.specs.BTreeMap.{is_at}
 use Rattle.std.specs.Cmp.Lexicographic.{slice_cmp}
-use Rattle.std.specs.List.{list_any, list_all}
+use Rattle.std.specs.List.{list_any}
 use Rattle.std.proofs.lemmas.Bool.{or_left, or_right}
-use Rattle.std.proofs.lemmas.Bool.Decides.{Decides-eqb}
 use Rattle.inf_base.specs.declared.caller.CallRef.{CallRef}
 use Rattle.inf_base.specs.declared.directory.DirRef.{DirRef}
 use Rattle.inf_base.specs.declared.entry.Entry.{Entry}
-use Rattle.inf_base.specs.declared.errno.Errno.{Errno}
-use Rattle.inf_base.specs.declared.errno.Errno.TheVariants as errno
 use Rattle.inf_base.specs.declared.id.Id.{Id}
 use Rattle.inf_base.specs.declared.key.LookKey.{LookKey}
 use Rattle.inf_base.specs.declared.key.LookKey.TheVariants as look
 use Rattle.inf_base.specs.declared.triple.Triple.{Triple}
 use Rattle.inf_base.specs.Checks.{◌>>=◌, ◌>>◌}
 use Rattle.inf_base.specs.Content.{Content, Hold, Slot, TopAccess, reserved, file, directory}
-use Rattle.inf_base.specs.Identity.{identity}
-use Rattle.inf_base.specs.Same.{dir_of, is_same_call, is_same_triple}
+use Rattle.inf_base.specs.Same.{dir_of, is_same_call}
 use Rattle.inf_base.proofs.Same.{same_call_self}
-use Rattle.inf_content.specs.Contents.{bearer, born_of, content_at, content_of_id, filled_at, if_born, made_of, seal_of, slots_at, slots_found}
+use Rattle.inf_content.specs.Contents.{content_at, content_of_id, slots_found}
 use Rattle.inf_content.specs.Order.{AreInOrder, NamesRise}
-use Rattle.inf_content.specs.Slot.{holder, reserves, taker}
-use Rattle.inf_content.specs.Slots.{first, first_taker, has_free, inside_of, or_later, slot_in, unless_busy}
-use Rattle.inf_content.specs.declared.inside.Inside.TheVariants as inside
-use Rattle.inf_content.specs.declared.made.Made.TheVariants as made
-use Rattle.inf_content.specs.declared.seen.Seen.{Seen}
-use Rattle.inf_content.specs.declared.seen.Seen.TheVariants as seen
+use Rattle.inf_content.specs.Slot.{holder, taker}
+use Rattle.inf_content.specs.Slots.{first, first_taker, or_later, slot_in}
 use Rattle.inf_laws_server.specs.Blocked.{Blocks, BlocksLookup, BlocksName, BlocksOp, IsBorne, IsLookSealed, IsLookTaken, IsSealedBy, IsTakenBy, IsTopHeld, StopsAtName, StopsAtSeal, StopsAtTarget, StopsInside}
 use Rattle.inf_laws_history.specs.Flight.{asked_content, holds, if_name_taken, is_of, is_sealed_by, is_taken, name_taken, slot_taken, some_taken, target_name, touches}
-use Rattle.inf_message.specs.declared.ask.Ask.{Ask}
 use Rattle.inf_message.specs.declared.op.Op.{Op}
 use Rattle.inf_message.specs.declared.op.Op.TheVariants as op
-use Rattle.inf_message.specs.declared.reply.Reply.{Reply}
-use Rattle.inf_message.specs.declared.reply.Reply.TheVariants as reply
 use Rattle.inf_message.specs.declared.reply.Spot.{Spot}
 use Rattle.inf_message.specs.declared.reply.Spot.TheVariants as spot
 use Rattle.inf_message.specs.declared.request.Request.{Request}
 use Rattle.inf_message.specs.declared.request.Request.TheVariants as request
-use Rattle.inf_perm.specs.declared.want.Want.TheVariants as want
 use Rattle.inf_server.specs.Chains.{before_last, last_of}
-use Rattle.inf_server.specs.Machine.{on_change, on_lookup, on_op, on_request}
-use Rattle.inf_server.specs.Removals.{is_the_directory, name_in, seal, unless_inside, unlink}
-use Rattle.inf_server.specs.Response.{Response, done}
-use Rattle.inf_server.specs.State.{Site, State, is_here, root_id, with_contents}
+use Rattle.inf_server.specs.Removals.{seal}
+use Rattle.inf_server.specs.State.{Site, State}
 use Rattle.inf_laws_directory.proofs.ContentFacts.{slots_sorted}
 use Rattle.inf_laws_directory.proofs.SlotFacts.{first_is_changed}
 

@@ -9,14 +9,18 @@ use Rattle.inf_base.specs.declared.caller.CallRef.{CallRef}
 use Rattle.inf_base.specs.declared.entry.Entry.{Entry}
 use Rattle.inf_base.specs.declared.key.Key.{Key}
 use Rattle.inf_base.specs.Same.{dir_of}
-use Rattle.inf_flow_dir.specs.Client.{Sent, answers, retries}
-use Rattle.inf_flow_dir.specs.Group.{Course}
-use Rattle.inf_flow_dir.specs.Turn.{Next, Turn, after_round, by_next, follow, from_root, is_busy, links_to, next_entry, steps, stops, told_entry, winds_up}
+use Rattle.inf_message.specs.declared.ending.Ending.TheVariants as ending
+use Rattle.inf_message.specs.declared.turn.Turn.TheVariants as turn
+use Rattle.inf_duty.specs.Group.{Course}
+use Rattle.inf_duty.specs.Turn.{Next, after_round, by_next, follow, from_root, is_busy, links_to, next_entry, steps, stops, told_entry}
+use Rattle.inf_message.specs.Sent.{Sent}
+use Rattle.inf_message.specs.declared.turn.Turn.{Turn}
 use Rattle.inf_laws_history.proofs.Turns.{TurnOf, weaker_turn}
 use Rattle.inf_message.specs.declared.reply.Reply.{Reply}
 use Rattle.inf_message.specs.declared.reply.Reply.TheVariants as reply
 use Rattle.inf_message.specs.declared.reply.Spot.{Spot}
 use Rattle.inf_message.specs.History.{Told}
+use Rattle.inf_duty.specs.declared.flow.Flow.{Flow}
 
 -- an Ask of the round was told of this call in the way, and the Ask before it of a directory of that birth
 pub record IsBehind (sent : List Sent) (place : ℕ) : Type 0 where
@@ -150,15 +154,15 @@ root_is course x xs told (reply.Busy who at born) is there = inl (record {
 })
 root_is course x xs told other_reply is there = tt
 
-turn_if : (A : Answer → ℕ → Type 0) (b : Bool) (first second : Turn) → TurnOf A first → TurnOf A second → TurnOf A (if b then first else second)
+turn_if : (A : Answer → ℕ → Type 0) (b : Bool) (first second : Turn Flow) → TurnOf A first → TurnOf A second → TurnOf A (if b then first else second)
 turn_if A true first second one other = one
 turn_if A false first second one other = other
 
 first_is : (course : Course) (place : ℕ) (told : Option Told) (xs : List Sent)
     → TurnOf (IsToldIn (record { place = place; told = told } ∷ xs)) (after_round (Some course) (record { place = place; told = told } ∷ xs))
-first_is course place None xs = turn_if _ _ (winds_up (answers answer.NoMemory None) []) (winds_up retries []) tt tt
+first_is course place None xs = turn_if _ _ (turn.WindsUp (ending.Answers answer.NoMemory None) []) (turn.WindsUp ending.Retries []) tt tt
 first_is course place (Some told) xs =
-    turn_if _ _ (winds_up (answers answer.NoMemory None) []) (from_root course xs told told.reply) tt
+    turn_if _ _ (turn.WindsUp (ending.Answers answer.NoMemory None) []) (from_root course xs told told.reply) tt
     (root_is course (record { place = place; told = Some told }) xs told told.reply refl refl)
 
 pub busy_round : (found : Option Course) (sent : List Sent) → TurnOf (IsToldIn sent) (after_round found sent)

@@ -1,30 +1,26 @@
 -- Why a directory is not made: another one is kept that has its identifier.
-use Rattle.std.proofs.Common.{◌≡◌, ◌≢◌, inl, inr, ℕ, Bool, true, false, cond, List, [], ◌∷◌, Option, Some, None, Result, Ok, Err, refl, sym, ap, ◌∙◌, subst}
+use Rattle.std.proofs.Common.{◌≡◌, ◌≢◌, ℕ, Bool, true, false, cond, List, [], ◌∷◌, Some, refl, sym, ap, ◌∙◌, subst}
 use Rattle.std.proofs.lemmas.Bool.Decides.{Decides-eqb}
 use Rattle.inf_base.specs.declared.id.Id.{Id}
 use Rattle.inf_base.specs.declared.triple.Triple.{Triple}
 use Rattle.inf_base.specs.declared.triple.Triple.TheVariants as triple
-use Rattle.inf_base.specs.Checks.{◌>>◌, check}
+use Rattle.inf_base.specs.Checks.{◌>>◌}
 use Rattle.inf_base.specs.Content.{Content}
 use Rattle.inf_base.specs.Identity.{identity}
 use Rattle.inf_base.specs.Same.{is_same_id, is_same_triple}
 use Rattle.inf_base.proofs.Same.{same_id, same_id_self, same_name_self}
-use Rattle.inf_content.specs.Contents.{bearer, content_of_id, made_of}
-use Rattle.inf_content.specs.declared.made.Made.TheVariants as made
+use Rattle.inf_content.specs.Contents.{content_of_id}
 use Rattle.inf_duty.specs.World.{World}
 use Rattle.inf_laws_server.specs.Replies.{IsOther}
 use Rattle.inf_laws_server.proofs.Serves.{clashed, may_reply}
 use Rattle.inf_laws_history.specs.Causes.{IsClashBecause, KeepsBirth, before}
 use Rattle.inf_laws_history.specs.Legal.{Legal, MayServe, server_after}
 use Rattle.inf_laws_history.specs.Sites.{site_of}
-use Rattle.inf_message.specs.declared.ask.Ask.{Ask}
 use Rattle.inf_message.specs.declared.call_result.CallResult.{CallResult}
 use Rattle.inf_message.specs.declared.event.Event.{Event}
 use Rattle.inf_message.specs.declared.reply.Reply.TheVariants as reply
 use Rattle.inf_message.specs.declared.request.Request.TheVariants as request
 use Rattle.inf_message.specs.History.{Posted}
-use Rattle.inf_server.specs.Response.{Response}
-use Rattle.inf_server.specs.State.{Site, State, is_here}
 use Rattle.inf_laws_history.proofs.ContentBirths.{IsBirth, births_after, so_found}
 use Rattle.inf_laws_history.proofs.ResultCauses.{IsClashFor, serve_may}
 

@@ -10,11 +10,16 @@ use Rattle.inf_duty.specs.Duty.{asked, begun, given_up, given_up_in}
 use Rattle.inf_duty.specs.Start.{start, starting, who_in}
 use Rattle.inf_duty.specs.World.{World}
 use Rattle.inf_duty.proofs.BegunKept.{IsKept, if_both, kept_begun}
-use Rattle.inf_flow_dir.specs.Client.{ClientState, Ending, Sent, Stage, act, answers, begins_again, compose, ended, has_place, retries, round, told_at, winds, wound}
-use Rattle.inf_flow_dir.specs.Flow.{clean_up}
-use Rattle.inf_flow_dir.specs.Group.{composed}
-use Rattle.inf_flow_dir.specs.Heard.{heard}
-use Rattle.inf_flow_dir.specs.Turn.{Turn, after_record, goes_on, is_complete, recorded, served, settled, turn_at, turned, winds_up}
+use Rattle.inf_message.specs.declared.ending.Ending.TheVariants as ending
+use Rattle.inf_message.specs.declared.turn.Turn.TheVariants as turn
+use Rattle.inf_duty.specs.ClientState.{ClientState, Stage, act, begins_again, compose, ended, round, winds, wound}
+use Rattle.inf_duty.specs.Flow.{clean_up}
+use Rattle.inf_duty.specs.Group.{composed}
+use Rattle.inf_duty.specs.Turn.{after_record, is_complete, recorded, served, settled, turn_at, turned}
+use Rattle.inf_message.specs.Heard.{heard}
+use Rattle.inf_message.specs.Sent.{Sent, has_place, told_at}
+use Rattle.inf_message.specs.declared.ending.Ending.{Ending}
+use Rattle.inf_message.specs.declared.turn.Turn.{Turn}
 use Rattle.inf_laws_history.specs.Decisions.{decided_at_stage, decided_for, decided_if, decided_when}
 use Rattle.inf_message.specs.declared.ask.Ask.{Ask}
 use Rattle.inf_message.specs.declared.event.Event.{Event}
@@ -23,6 +28,7 @@ use Rattle.inf_message.specs.declared.step.Message.{Message}
 use Rattle.inf_message.specs.History.{Posted, Told, asked_at, posted_ask, told_reply}
 use Rattle.inf_message.proofs.HistoryLaws.{asked_newest, asked_stays, asked_within}
 use Rattle.inf_tree.specs.Replay.{Decided}
+use Rattle.inf_duty.specs.declared.flow.Flow.{Flow}
 
 -- ---- a property that ends, new attempts, clean-ups and new stages keep
 
@@ -33,18 +39,18 @@ pub record Lasts (digest : List ℕ → Id) (P : ClientState → Type 0) : Type 
   pub going_on : (next : Stage) (s : ClientState) → P s → P (record s { stage = next; sent = [] })
 
 module _ (digest : List ℕ → Id) (P : ClientState → Type 0) (lasts : Lasts digest P) where
-  pub wound_lasts : (ending : Ending) (more : List Message) (s : ClientState) → P s → P (wound ending more s)
-  wound_lasts (answers given place) [] s now = lasts.ending given place s now
-  wound_lasts retries [] s now = lasts.again s now
-  wound_lasts ending (m ∷ ms) s now = lasts.going_on (winds ending m ms) s now
+  pub wound_lasts : (end : Ending) (more : List Message) (s : ClientState) → P s → P (wound end more s)
+  wound_lasts (ending.Answers given place) [] s now = lasts.ending given place s now
+  wound_lasts ending.Retries [] s now = lasts.again s now
+  wound_lasts end (m ∷ ms) s now = lasts.going_on (winds end m ms) s now
 
-  pub turned_lasts : (t : Turn) (s : ClientState) → P s → P (turned t s)
-  turned_lasts (goes_on next) s now = lasts.going_on next s now
-  turned_lasts (winds_up ending more) s now = wound_lasts ending more s now
+  pub turned_lasts : (t : Turn Flow) (s : ClientState) → P s → P (turned t s)
+  turned_lasts (turn.GoesOn next) s now = lasts.going_on (act next) s now
+  turned_lasts (turn.WindsUp end more) s now = wound_lasts end more s now
 
   given_up_at : (s : ClientState) (stage : Stage) → P s → P (given_up_in s stage)
-  given_up_at s (act flow) now = wound_lasts (answers answer.NoMemory None) (clean_up s.who flow) s now
-  given_up_at s (winds ending m ms) now = now
+  given_up_at s (act flow) now = wound_lasts (ending.Answers answer.NoMemory None) (clean_up s.who flow) s now
+  given_up_at s (winds end m ms) now = now
   given_up_at s compose now = lasts.ending answer.NoMemory None s now
   given_up_at s (round keys) now = lasts.ending answer.NoMemory None s now
 
@@ -93,7 +99,7 @@ pub served_within : (digest : List ℕ → Id) (ask_place : ℕ) (told : Told) (
 served_within digest ask_place told s here going =
     ap (λ b. cond b (after_record digest (recorded ask_place told s)) s) here ∙ ap (λ b. settled digest b (recorded ask_place told s)) going
 
--- ---- a property that answers and Asks keep as well
+-- ---- a property that ending.Answers and Asks keep as well
 
 module _ (digest : List ℕ → Id) (P : ClientState → Type 0) (lasts : Lasts digest P) (recording : (place : ℕ) (told : Told) (s : ClientState) → P s → P (recorded place told s)) where
   pub served_lasts : (place : ℕ) (told : Told) (s : ClientState) → P s → P (served digest place told s)

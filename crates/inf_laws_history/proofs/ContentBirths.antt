@@ -1,18 +1,17 @@
 -- Where the content objects of servers come from: each keeps the birth and the maker that it came with.
-use Rattle.std.proofs.Common.{◌≡◌, ◌⊎◌, inl, inr, ℕ, ◌==◌, ◌&&◌, if◌then◌else◌, Bool, true, false, cond, eqb, List, [], ◌∷◌, Option, Some, None, Ok, refl, sym, ◌∙◌, subst}
+use Rattle.std.proofs.Common.{◌≡◌, ◌⊎◌, inl, inr, ℕ, ◌==◌, ◌&&◌, if◌then◌else◌, Bool, true, false, cond, eqb, List, [], ◌∷◌, Option, Some, None, refl, sym, ◌∙◌, subst}
 use Rattle.std.specs.Ordering.{match_ordering}
 use Rattle.std.specs.declared.cmp.Ordering.{Ordering}
 use Rattle.std.specs.declared.cmp.Ordering.TheVariants.{Less, Equal, Greater}
 use Rattle.std.proofs.lemmas.Bool.Decides.{Decides-eqb}
 use Rattle.inf_base.specs.declared.caller.CallRef.{CallRef}
 use Rattle.inf_base.specs.declared.directory.DirRef.{DirRef}
-use Rattle.inf_base.specs.declared.entry.Entry.{Entry}
 use Rattle.inf_base.specs.declared.id.Id.{Id}
 use Rattle.inf_base.specs.declared.triple.Triple.{Triple}
 use Rattle.inf_base.specs.declared.triple.Triple.TheVariants as triple
 use Rattle.inf_base.specs.Content.{Content, TopAccess}
 use Rattle.inf_base.specs.Identity.{identity}
-use Rattle.inf_base.specs.Same.{dir_of, is_same_id}
+use Rattle.inf_base.specs.Same.{is_same_id}
 use Rattle.inf_content.specs.Contents.{changed_at, content_of_id, dropped_at, empty_content, id_cmp, may_drop, placed, with_new}
 use Rattle.inf_duty.specs.World.{World}
 use Rattle.inf_laws_server.specs.CameTo.{IsDone}
@@ -27,12 +26,10 @@ use Rattle.inf_message.specs.declared.ask.Ask.{Ask}
 use Rattle.inf_message.specs.declared.event.Event.{Event}
 use Rattle.inf_message.specs.declared.event.Event.TheVariants as event
 use Rattle.inf_message.specs.declared.reply.Reply.{Reply}
-use Rattle.inf_message.specs.declared.request.Request.{Request}
 use Rattle.inf_message.specs.declared.request.Request.TheVariants as request
 use Rattle.inf_message.specs.History.{Posted, asked_at}
 use Rattle.inf_message.proofs.HistoryLaws.{asked_stays, asked_within}
-use Rattle.inf_server.specs.Machine.{Serves, on_change, on_op, on_request}
-use Rattle.inf_server.specs.Response.{Response}
+use Rattle.inf_server.specs.Machine.{Serves}
 use Rattle.inf_server.specs.State.{Site, State, is_here, opening, root_id}
 use Rattle.inf_duty.proofs.BegunKept.{if_both}
 use Rattle.inf_laws_history.proofs.StepFacts.{states_served}

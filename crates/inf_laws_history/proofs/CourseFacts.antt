@@ -10,46 +10,53 @@ use Rattle.inf_message.specs.declared.event.Event.{Event}
 use Rattle.inf_message.specs.declared.event.Event.TheVariants as event
 use Rattle.inf_message.specs.declared.step.Message.{Message}
 use Rattle.inf_message.specs.History.{Told, told_reply}
-use Rattle.inf_flow_dir.specs.Client.{ClientState, Ending, Sent, Stage, act, answers, compose, has_place, retries, round, winds, wound}
-use Rattle.inf_flow_dir.specs.Flow.{Who, clean_up}
-use Rattle.inf_flow_dir.specs.Group.{Course, composed, composed_stage, keys_of, next_course}
-use Rattle.inf_flow_dir.specs.Heard.{heard}
-use Rattle.inf_flow_dir.specs.Turn.{Turn, after_record, after_round, goes_on, is_complete, recorded, served, settled, turn_at, turned, winds_up}
+use Rattle.inf_message.specs.declared.ending.Ending.TheVariants as ending
+use Rattle.inf_message.specs.declared.turn.Turn.TheVariants as turn
+use Rattle.inf_duty.specs.ClientState.{ClientState, Stage, act, compose, round, winds, wound}
+use Rattle.inf_duty.specs.Flow.{clean_up}
+use Rattle.inf_duty.specs.Group.{Course, composed, composed_stage, keys_of, next_course}
+use Rattle.inf_duty.specs.Turn.{after_record, after_round, is_complete, recorded, served, settled, turn_at, turned}
+use Rattle.inf_message.specs.Heard.{heard}
+use Rattle.inf_message.specs.Sent.{Sent, has_place}
+use Rattle.inf_message.specs.Who.{Who}
+use Rattle.inf_message.specs.declared.ending.Ending.{Ending}
+use Rattle.inf_message.specs.declared.turn.Turn.{Turn}
 use Rattle.inf_duty.specs.After.{client_after}
 use Rattle.inf_duty.specs.Duty.{begun, given_up, given_up_in}
 use Rattle.inf_duty.specs.Start.{starting}
 use Rattle.inf_duty.specs.World.{World}
 use Rattle.inf_duty.proofs.BegunKept.{if_both, kept_begun}
+use Rattle.inf_duty.specs.declared.flow.Flow.{Flow}
 
 -- where a flow is at work, the call has a course
 abbrev pub StageHasCourse : List Call → Stage → Type 0
 StageHasCourse calls compose = Unit {0}
 StageHasCourse calls (round keys) = Unit {0}
 StageHasCourse calls (act flow) = is_some (next_course calls) ≡ true
-StageHasCourse calls (winds ending m ms) = Unit {0}
+StageHasCourse calls (winds end m ms) = Unit {0}
 
 pub record HasCourse (s : ClientState) : Type 0 where
   pub course : StageHasCourse s.left s.stage
 
-abbrev TurnHasCourse : List Call → Turn → Type 0
-TurnHasCourse calls (goes_on next) = StageHasCourse calls next
-TurnHasCourse calls (winds_up ending more) = Unit {0}
+abbrev TurnHasCourse : List Call → Turn Flow → Type 0
+TurnHasCourse calls (turn.GoesOn next) = StageHasCourse calls (act next)
+TurnHasCourse calls (turn.WindsUp end more) = Unit {0}
 
-wound_course : (ending : Ending) (more : List Message) (s : ClientState) → HasCourse (wound ending more s)
-wound_course (answers given place) [] s = record { course = tt }
-wound_course retries [] s = record { course = tt }
-wound_course (answers given place) (m ∷ ms) s = record { course = tt }
-wound_course retries (m ∷ ms) s = record { course = tt }
+wound_course : (end : Ending) (more : List Message) (s : ClientState) → HasCourse (wound end more s)
+wound_course (ending.Answers given place) [] s = record { course = tt }
+wound_course ending.Retries [] s = record { course = tt }
+wound_course (ending.Answers given place) (m ∷ ms) s = record { course = tt }
+wound_course ending.Retries (m ∷ ms) s = record { course = tt }
 
 any_stage : (calls : List Call) (stage : Stage) → is_some (next_course calls) ≡ true → StageHasCourse calls stage
 any_stage calls compose is = tt
 any_stage calls (round keys) is = tt
 any_stage calls (act flow) is = is
-any_stage calls (winds ending m ms) is = tt
+any_stage calls (winds end m ms) is = tt
 
-any_turn : (calls : List Call) (t : Turn) → is_some (next_course calls) ≡ true → TurnHasCourse calls t
-any_turn calls (goes_on next) is = any_stage calls next is
-any_turn calls (winds_up ending more) is = tt
+any_turn : (calls : List Call) (t : Turn Flow) → is_some (next_course calls) ≡ true → TurnHasCourse calls t
+any_turn calls (turn.GoesOn next) is = any_stage calls (act next) is
+any_turn calls (turn.WindsUp end more) is = tt
 
 round_course : (calls : List Call) (sent : List Sent) (found : Option Course) → next_course calls ≡ found → TurnHasCourse calls (after_round found sent)
 round_course calls sent None is = tt
@@ -59,11 +66,11 @@ turn_course : (digest : List ℕ → Id) (s : ClientState) (stage : Stage) → S
 turn_course digest s compose has = tt
 turn_course digest s (round keys) has = round_course s.left s.sent (next_course s.left) refl
 turn_course digest s (act flow) has = any_turn s.left (turn_at digest s (act flow)) has
-turn_course digest s (winds ending m ms) has = tt
+turn_course digest s (winds end m ms) has = tt
 
-turned_course : (t : Turn) (s : ClientState) → TurnHasCourse s.left t → HasCourse (turned t s)
-turned_course (goes_on next) s has = record { course = has }
-turned_course (winds_up ending more) s has = wound_course ending more s
+turned_course : (t : Turn Flow) (s : ClientState) → TurnHasCourse s.left t → HasCourse (turned t s)
+turned_course (turn.GoesOn next) s has = record { course = has }
+turned_course (turn.WindsUp end more) s has = wound_course end more s
 
 keys_course : (digest : List ℕ → Id) (calls : List Call) (who : Who) (found : Option Course) → StageHasCourse calls (keys_of digest who found)
 keys_course digest calls who None = tt
@@ -73,14 +80,14 @@ composed_at : (digest : List ℕ → Id) (s : ClientState) (stage : Stage) → S
 composed_at digest s compose has = keys_course digest s.left s.who (next_course s.left)
 composed_at digest s (round keys) has = has
 composed_at digest s (act flow) has = has
-composed_at digest s (winds ending m ms) has = has
+composed_at digest s (winds end m ms) has = has
 
 composed_course : (digest : List ℕ → Id) (s : ClientState) → HasCourse s → HasCourse (composed digest s)
 composed_course digest s has = record { course = composed_at digest s s.stage has.course }
 
 given_up_at : (s : ClientState) (stage : Stage) → HasCourse s → HasCourse (given_up_in s stage)
-given_up_at s (act flow) has = wound_course (answers answer.NoMemory None) (clean_up s.who flow) s
-given_up_at s (winds ending m ms) has = has
+given_up_at s (act flow) has = wound_course (ending.Answers answer.NoMemory None) (clean_up s.who flow) s
+given_up_at s (winds end m ms) has = has
 given_up_at s compose has = record { course = tt }
 given_up_at s (round keys) has = record { course = tt }
 

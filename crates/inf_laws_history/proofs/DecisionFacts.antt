@@ -12,13 +12,22 @@ use Rattle.inf_base.specs.declared.file.FileMeta.{FileMeta}
 use Rattle.inf_base.specs.declared.id.Id.{Id}
 use Rattle.inf_base.specs.declared.item.Kind.{Kind}
 use Rattle.inf_base.specs.declared.key.Key.{Key}
-use Rattle.inf_base.specs.declared.triple.Triple.{Triple}
 use Rattle.inf_base.specs.Same.{dir_of}
-use Rattle.inf_flow_dir.specs.Client.{ClientState, Sent, answers, retries}
-use Rattle.inf_flow_dir.specs.Flow.{Flow, birth_of, finishes, links, makes, message_of, reserves, seals, unlinks}
-use Rattle.inf_flow_dir.specs.Group.{Course}
-use Rattle.inf_flow_dir.specs.Heard.{heard}
-use Rattle.inf_flow_dir.specs.Turn.{Next, Turn, after_act, after_make, after_round, by_next, fails, follow, from_root, is_busy, links_to, next_entry, steps, stops, told_entry, winds_up}
+use Rattle.inf_flow_dir.specs.declared.dir_flow.DirFlow.TheVariants as dir_flow
+use Rattle.inf_message.specs.declared.ending.Ending.TheVariants as ending
+use Rattle.inf_flow_file.specs.declared.file_flow.FileFlow.TheVariants as file_flow
+use Rattle.inf_duty.specs.declared.flow.Flow.TheVariants as flow
+use Rattle.inf_message.specs.declared.turn.Turn.TheVariants as turn
+use Rattle.inf_duty.specs.ClientState.{ClientState}
+use Rattle.inf_duty.specs.Flow.{after_act, clean_up, message_of}
+use Rattle.inf_duty.specs.Group.{Course}
+use Rattle.inf_duty.specs.Turn.{Next, after_round, by_next, follow, from_root, is_busy, links_to, next_entry, steps, stops, told_entry}
+use Rattle.inf_duty.specs.declared.flow.Flow.{Flow}
+use Rattle.inf_message.specs.Heard.{heard}
+use Rattle.inf_message.specs.Sent.{Sent}
+use Rattle.inf_message.specs.Turn.{fails, turn_as}
+use Rattle.inf_message.specs.Who.{birth_of}
+use Rattle.inf_message.specs.declared.turn.Turn.{Turn}
 use Rattle.inf_laws_directory.specs.Owes.{Goes, Moment, Owes, Settles}
 use Rattle.inf_laws_directory.specs.Replays.{IsRefused}
 use Rattle.inf_laws_directory.specs.Standing.{IsStanding}
@@ -85,10 +94,10 @@ none_given_up s (asked ∷ calls) given is = rw is refl
 
 -- ---- after a round
 
-abbrev Undecided : ClientState → Turn → Type 0
+abbrev Undecided : ClientState → Turn Flow → Type 0
 Undecided s t = decided_by_turn s t ≡ []
 
-undecided_if : (s : ClientState) (b : Bool) (first second : Turn) → Undecided s first → Undecided s second → Undecided s (if b then first else second)
+undecided_if : (s : ClientState) (b : Bool) (first second : Turn Flow) → Undecided s first → Undecided s second → Undecided s (if b then first else second)
 undecided_if s true first second one other = one
 undecided_if s false first second one other = other
 
@@ -111,7 +120,7 @@ next_busy before None = tt
 next_busy before (Some told) = next_told before told.serve_place told.reply
 
 module _ (s : ClientState) (course : Course) where
-  by_next_undecided : (chain : List Entry) (name : List ℕ) (names : List (List ℕ)) (go : Entry → Turn) (next : Next) → BusyOnly next
+  by_next_undecided : (chain : List Entry) (name : List ℕ) (names : List (List ℕ)) (go : Entry → Turn Flow) (next : Next) → BusyOnly next
       → ((e : Entry) → Undecided s (go e)) → Undecided s (by_next course chain name names go next)
   by_next_undecided chain name names go (steps e) is goes = goes e
   by_next_undecided chain name names go stops is goes = refl
@@ -132,9 +141,9 @@ module _ (s : ClientState) (course : Course) where
 
   first_undecided : (place : ℕ) (told : Option Told) (xs : List Sent)
       → Undecided s (after_round (Some course) (record { place = place; told = told } ∷ xs))
-  first_undecided place None xs = undecided_if s _ (winds_up (answers answer.NoMemory None) []) (winds_up retries []) refl refl
+  first_undecided place None xs = undecided_if s _ (turn.WindsUp (ending.Answers answer.NoMemory None) []) (turn.WindsUp ending.Retries []) refl refl
   first_undecided place (Some told) xs =
-      undecided_if s _ (winds_up (answers answer.NoMemory None) []) (from_root course xs told told.reply) refl (root_undecided xs told told.reply)
+      undecided_if s _ (turn.WindsUp (ending.Answers answer.NoMemory None) []) (from_root course xs told told.reply) refl (root_undecided xs told told.reply)
 
 -- a round decides nothing
 pub round_undecided : (s : ClientState) (found : Option Course) (sent : List Sent) → decided_by_turn s (after_round found sent) ≡ []
@@ -145,7 +154,7 @@ round_undecided s (Some course) (x ∷ xs) = first_undecided s course x.place x.
 -- ---- after a message of a flow
 
 module _ (digest : List ℕ → Id) (m : Moment) (s : ClientState) (asked : Call) (calls : List Call) (left : s.left ≡ asked ∷ calls) where
-  abbrev ComesTo : Turn → Type 0
+  abbrev ComesTo : Turn Flow → Type 0
   ComesTo t = Comes m (decided_by_turn s t)
 
   -- with an answer that is the tree's
@@ -162,27 +171,24 @@ module _ (digest : List ℕ → Id) (m : Moment) (s : ClientState) (asked : Call
   Failing (reply.Refused error) = IsRefused m.tree s.who.caller asked error × Goes m
   Failing other_reply = Goes m
 
-  fails_comes : (flow : Flow) (place : ℕ) (given : Reply) → Failing given → ComesTo (fails s.who flow place (heard given))
-  fails_comes flow place (reply.Refused error) owes = one_comes (answer.Refused error) refl (comes_refused m s.who.caller asked error owes.0 owes.1)
-  fails_comes flow place (reply.Busy by at born) owes = given_up_comes (answer.Again by) refl owes
-  fails_comes flow place reply.NoMem owes = comes_on m owes
-  fails_comes flow place other_reply owes = comes_on m owes
-
-  make_comes : (flow : Flow) (own : Triple) (place : ℕ) (given : Reply) → Failing given → ComesTo (after_make s.who flow own place (heard given))
-  make_comes flow own place (reply.Clash kept) owes = given_up_comes (answer.IdClash own kept) refl owes
-  make_comes flow own place other_reply owes = fails_comes flow place other_reply owes
+  fails_comes : {F : Type 0} (wrap : F → Flow) (step : Flow) (place : ℕ) (given : Reply) → Failing given → ComesTo (turn_as wrap (fails (clean_up s.who step) place (heard given)))
+  fails_comes wrap step place (reply.Refused error) owes = one_comes (answer.Refused error) refl (comes_refused m s.who.caller asked error owes.0 owes.1)
+  fails_comes wrap step place (reply.Busy by at born) owes = given_up_comes (answer.Again by) refl owes
+  fails_comes wrap step place reply.NoMem owes = comes_on m owes
+  fails_comes wrap step place other_reply owes = comes_on m owes
 
   -- what is owed for the message is what comes of it
-  pub act_comes : (flow : Flow) (ask_place place : ℕ) (given : Reply) → Owes m s.who.caller asked (message_of s.who flow).request given
-      → Comes m (decided_by_turn s (after_act digest s.who flow ask_place place (heard given)))
-  act_comes (finishes chain (op.Create name mode)) ask_place place reply.Fine owes = one_comes answer.Done refl (comes_done m s.who.caller asked owes)
-  act_comes (finishes chain (op.Stat name)) ask_place place (reply.Stat kind meta) owes =
+  pub act_comes : (step : Flow) (ask_place place : ℕ) (given : Reply) → Owes m s.who.caller asked (message_of s.who step).request given
+      → Comes m (decided_by_turn s (after_act digest s.who step ask_place place (heard given)))
+  act_comes (flow.File (file_flow.Finishes chain (op.Create name mode))) ask_place place reply.Fine owes = one_comes answer.Done refl (comes_done m s.who.caller asked owes)
+  act_comes (flow.File (file_flow.Finishes chain (op.Stat name))) ask_place place (reply.Stat kind meta) owes =
       one_comes (answer.Stat kind meta) refl (comes_told m s.who.caller asked kind meta owes)
-  act_comes (reserves chain name mode) ask_place place (reply.Reserved version) owes = comes_on m owes
-  act_comes (makes chain name mode version id) ask_place place reply.Fine owes = comes_on m owes
-  act_comes (makes chain name mode version id) ask_place place given owes =
-      make_comes (makes chain name mode version id) (birth_of s.who chain name version) place given owes
-  act_comes (links chain name mode version dir) ask_place place reply.Fine owes = one_comes answer.Done refl (comes_done m s.who.caller asked owes)
-  act_comes (seals chain) ask_place place reply.Fine owes = comes_on m owes
-  act_comes (unlinks chain) ask_place place reply.Fine owes = one_comes answer.Done refl (comes_done m s.who.caller asked owes)
-  act_comes flow ask_place place given owes = fails_comes flow place given owes
+  act_comes (flow.Dir (dir_flow.Reserves chain name mode)) ask_place place (reply.Reserved version) owes = comes_on m owes
+  act_comes (flow.Dir (dir_flow.Makes chain name mode version id)) ask_place place reply.Fine owes = comes_on m owes
+  act_comes (flow.Dir (dir_flow.Makes chain name mode version id)) ask_place place (reply.Clash kept) owes =
+      given_up_comes (answer.IdClash (birth_of s.who chain name version) kept) refl owes
+  act_comes (flow.Dir (dir_flow.Links chain name mode version dir)) ask_place place reply.Fine owes = one_comes answer.Done refl (comes_done m s.who.caller asked owes)
+  act_comes (flow.Dir (dir_flow.Seals chain)) ask_place place reply.Fine owes = comes_on m owes
+  act_comes (flow.Dir (dir_flow.Unlinks chain)) ask_place place reply.Fine owes = one_comes answer.Done refl (comes_done m s.who.caller asked owes)
+  act_comes (flow.File step) ask_place place given owes = fails_comes flow.File (flow.File step) place given owes
+  act_comes (flow.Dir step) ask_place place given owes = fails_comes flow.Dir (flow.Dir step) place given owes

@@ -6,15 +6,17 @@ use Rattle.inf_base.specs.declared.call.Call.{Call}
 use Rattle.inf_duty.specs.Duty.{at_call, begun, found_at, given_up, given_up_in, lifts, may_give_up}
 use Rattle.inf_duty.specs.Outcome.{all_given_up, may_pass}
 use Rattle.inf_duty.proofs.BegunKept.{if_both}
-use Rattle.inf_flow_dir.specs.Client.{ClientState, Sent, Stage, act, answers, compose, rest_of, round, winds, wound}
-use Rattle.inf_flow_dir.specs.Flow.{clean_up}
-use Rattle.inf_flow_dir.specs.Group.{composed}
+use Rattle.inf_message.specs.declared.ending.Ending.TheVariants as ending
+use Rattle.inf_duty.specs.ClientState.{ClientState, Stage, act, compose, rest_of, round, winds, wound}
+use Rattle.inf_duty.specs.Flow.{clean_up}
+use Rattle.inf_duty.specs.Group.{composed}
+use Rattle.inf_message.specs.Sent.{Sent}
 use Rattle.inf_message.specs.declared.ask.Ask.{Ask}
 use Rattle.inf_message.specs.declared.request.Request.{Request}
 use Rattle.inf_message.specs.declared.step.Message.{Message}
 
 abbrev pub IsWinding : Stage → Type 0
-IsWinding (winds ending m ms) = Unit {0}
+IsWinding (winds end m ms) = Unit {0}
 IsWinding other_stage = ⊥
 
 -- kept by settling what to ask for, and by giving up a call
@@ -27,7 +29,7 @@ abbrev Tied : List Call → Stage → List Call → Type 0
 Tied calls stage left = IsWinding stage ⊎ (left ≡ calls)
 
 winding_stays : (s : ClientState) (stage : Stage) → IsWinding stage → given_up_in s stage ≡ s
-winding_stays s (winds ending m ms) winding = refl
+winding_stays s (winds end m ms) winding = refl
 winding_stays s compose winding = absurd winding
 winding_stays s (round keys) winding = absurd winding
 winding_stays s (act flow) winding = absurd winding
@@ -36,13 +38,13 @@ abbrev IsTied : List Call → ClientState → Type 0
 IsTied calls s = Tied calls s.stage s.left
 
 wound_tied : (call : Call) (calls : List Call) (s : ClientState) (more : List Message) → s.left ≡ call ∷ calls
-    → IsTied calls (wound (answers answer.NoMemory None) more s)
+    → IsTied calls (wound (ending.Answers answer.NoMemory None) more s)
 wound_tied call calls s [] same = inr (ap rest_of same)
 wound_tied call calls s (m ∷ ms) same = inl tt
 
 given_up_tied : (call : Call) (calls : List Call) (s : ClientState) (stage : Stage) → s.stage ≡ stage → Tied (call ∷ calls) stage s.left
     → IsTied calls (given_up_in s stage)
-given_up_tied call calls s (winds ending m ms) is tied = inl (subst IsWinding (sym is) tt)
+given_up_tied call calls s (winds end m ms) is tied = inl (subst IsWinding (sym is) tt)
 given_up_tied call calls s (act flow) is (inl winding) = absurd winding
 given_up_tied call calls s (act flow) is (inr same) = wound_tied call calls s (clean_up s.who flow) same
 given_up_tied call calls s compose is (inl winding) = absurd winding

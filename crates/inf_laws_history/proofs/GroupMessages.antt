@@ -1,9 +1,8 @@
 -- The messages of a group: one, or lookups.
 use Rattle.std.proofs.Common.{◌≡◌, ℕ, zero, suc, List, [], ◌∷◌, map, slice_get, Some, None, sym, ap}
 use Rattle.inf_base.specs.declared.key.LookKey.{LookKey}
-use Rattle.inf_flow_dir.specs.Client.{Sent}
-use Rattle.inf_flow_dir.specs.Flow.{Who}
-use Rattle.inf_flow_dir.specs.Group.{lookup_of}
+use Rattle.inf_message.specs.Sent.{Sent}
+use Rattle.inf_message.specs.Who.{Who, lookup_of}
 use Rattle.inf_laws_client.specs.Asked.{AreAskedFor}
 use Rattle.inf_message.specs.declared.request.Request.{Request}
 use Rattle.inf_message.specs.declared.request.Request.TheVariants as request

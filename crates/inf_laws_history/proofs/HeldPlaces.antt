@@ -10,10 +10,16 @@ use Rattle.inf_duty.specs.Duty.{asked, begun, given_up_in}
 use Rattle.inf_duty.specs.Outcome.{Agrees, all_given_up, is_place, results_of, so_far, stands_at, unanswered}
 use Rattle.inf_duty.specs.Start.{starting}
 use Rattle.inf_duty.specs.World.{World}
-use Rattle.inf_flow_dir.specs.Client.{ClientState, Ending, Sent, Stage, act, answers, compose, ended, one_if, result_of, retries, round, told_at, winds, wound}
-use Rattle.inf_flow_dir.specs.Flow.{Who, clean_up}
-use Rattle.inf_flow_dir.specs.Group.{Course, composed_stage, keys_of, next_course}
-use Rattle.inf_flow_dir.specs.Turn.{Turn, act_turn, after_round, goes_on, recorded, served, turn_at, turned, winds_up}
+use Rattle.inf_message.specs.declared.ending.Ending.TheVariants as ending
+use Rattle.inf_message.specs.declared.turn.Turn.TheVariants as turn
+use Rattle.inf_duty.specs.ClientState.{ClientState, Stage, act, compose, ended, one_if, result_of, round, winds, wound}
+use Rattle.inf_duty.specs.Flow.{clean_up}
+use Rattle.inf_duty.specs.Group.{Course, composed_stage, keys_of, next_course}
+use Rattle.inf_duty.specs.Turn.{act_turn, after_round, recorded, served, turn_at, turned}
+use Rattle.inf_message.specs.Sent.{Sent, told_at}
+use Rattle.inf_message.specs.Who.{Who}
+use Rattle.inf_message.specs.declared.ending.Ending.{Ending}
+use Rattle.inf_message.specs.declared.turn.Turn.{Turn}
 use Rattle.inf_message.specs.declared.ask.Ask.{Ask}
 use Rattle.inf_message.specs.declared.call_result.CallResult.{CallResult}
 use Rattle.inf_message.specs.declared.step.Message.{Message}
@@ -24,17 +30,18 @@ use Rattle.inf_laws_history.proofs.ClientSteps.{by_answer}
 use Rattle.inf_laws_history.proofs.Open.{counted_same}
 use Rattle.inf_laws_history.proofs.ResultFacts.{none_behind}
 use Rattle.inf_laws_history.proofs.Turns.{IsOfRound, IsThere, TurnOf, act_turn_there, round_turn_is, serve_is, told_there, weaker_turn}
+use Rattle.inf_duty.specs.declared.flow.Flow.{Flow}
 
 -- how many of these results stand at the place
 abbrev pub count_at : ℕ → List CallResult → ℕ
 count_at place results = length (filter (stands_at place) results)
 
 abbrev ending_count : ℕ → Ending → ℕ
-ending_count place (answers given at) = one_if (is_place place at)
-ending_count place retries = 0
+ending_count place (ending.Answers given at) = one_if (is_place place at)
+ending_count place ending.Retries = 0
 
 abbrev stage_count : ℕ → Stage → ℕ
-stage_count place (winds ending m ms) = ending_count place ending
+stage_count place (winds end m ms) = ending_count place end
 stage_count place other_stage = 0
 
 -- how often a client holds a place: by calls that ended, by the one that winds up, or by its present group
@@ -59,11 +66,11 @@ module _ (digest : List ℕ → Id) (place : ℕ) where
 
   -- ---- after a group
 
-  wound_holds : (ending : Ending) (more : List Message) (s : ClientState) → held_at place (wound ending more s) ≡ count_at place s.results + ending_count place ending
-  wound_holds (answers given at) [] s = omega (arith, ended_count given at s)
-  wound_holds retries [] s = omega arith
-  wound_holds (answers given at) (m ∷ ms) s = omega arith
-  wound_holds retries (m ∷ ms) s = omega arith
+  wound_holds : (end : Ending) (more : List Message) (s : ClientState) → held_at place (wound end more s) ≡ count_at place s.results + ending_count place end
+  wound_holds (ending.Answers given at) [] s = omega (arith, ended_count given at s)
+  wound_holds ending.Retries [] s = omega arith
+  wound_holds (ending.Answers given at) (m ∷ ms) s = omega arith
+  wound_holds ending.Retries (m ∷ ms) s = omega arith
 
   there_counts : (at : ℕ) (sent : List Sent) → told_there at sent ≡ true → one_if (eqb place at) ≤ one_if (told_there place sent)
   there_counts at sent there = by_test (eqb place at) refl
@@ -75,13 +82,12 @@ module _ (digest : List ℕ → Id) (place : ℕ) where
           let here : told_there place sent ≡ true = subst (λ p. told_there p sent ≡ true) (sym same) there in
           omega (arith, ap one_if here)
 
-  turned_holds : (turn : Turn) (s : ClientState) → TurnOf (IsThere s.sent) turn → held_at place (turned turn s) ≤ count_at place s.results + one_if (told_there place s.sent)
-  turned_holds (goes_on (act flow)) s is = omega arith
-  turned_holds (goes_on other_stage) s is = absurd is
-  turned_holds (winds_up (answers given (Some at)) more) s is =
-      omega (arith, wound_holds (answers given (Some at)) more s, there_counts at s.sent is)
-  turned_holds (winds_up (answers given None) more) s is = omega (arith, wound_holds (answers given None) more s)
-  turned_holds (winds_up retries more) s is = omega (arith, wound_holds retries more s)
+  turned_holds : (t : Turn Flow) (s : ClientState) → TurnOf (IsThere s.sent) t → held_at place (turned t s) ≤ count_at place s.results + one_if (told_there place s.sent)
+  turned_holds (turn.GoesOn step) s is = omega arith
+  turned_holds (turn.WindsUp (ending.Answers given (Some at)) more) s is =
+      omega (arith, wound_holds (ending.Answers given (Some at)) more s, there_counts at s.sent is)
+  turned_holds (turn.WindsUp (ending.Answers given None) more) s is = omega (arith, wound_holds (ending.Answers given None) more s)
+  turned_holds (turn.WindsUp ending.Retries more) s is = omega (arith, wound_holds ending.Retries more s)
 
   stage_holds : (stage : Stage) (s : ClientState) → held_at place (turned (turn_at digest s stage) s) ≤ count_at place s.results + stage_count place stage + one_if (told_there place s.sent)
   stage_holds compose s = omega arith
@@ -96,8 +102,8 @@ module _ (digest : List ℕ → Id) (place : ℕ) where
       turned_holds (act_turn digest s.who flow s.sent) s (act_turn_there digest s.who flow s.sent)
       in
       omega (arith, fewer)
-  stage_holds (winds ending m ms) s =
-      let same : held_at place (turned (turn_at digest s (winds ending m ms)) s) ≡ count_at place s.results + ending_count place ending = wound_holds ending ms s in
+  stage_holds (winds end m ms) s =
+      let same : held_at place (turned (turn_at digest s (winds end m ms)) s) ≡ count_at place s.results + ending_count place end = wound_holds end ms s in
       omega (arith, same)
 
   -- ---- before a group
@@ -110,11 +116,11 @@ module _ (digest : List ℕ → Id) (place : ℕ) where
   composed_count compose s = keys_count s.who (next_course s.left)
   composed_count (round keys) s = refl
   composed_count (act flow) s = refl
-  composed_count (winds ending m ms) s = refl
+  composed_count (winds end m ms) s = refl
 
   given_up_holds : (stage : Stage) (s : ClientState) → held_at place (given_up_in s stage) ≤ held_at place s
-  given_up_holds (act flow) s = omega (arith, wound_holds (answers answer.NoMemory None) (clean_up s.who flow) s)
-  given_up_holds (winds ending m ms) s = omega arith
+  given_up_holds (act flow) s = omega (arith, wound_holds (ending.Answers answer.NoMemory None) (clean_up s.who flow) s)
+  given_up_holds (winds end m ms) s = omega arith
   given_up_holds compose s = omega (arith, ended_count answer.NoMemory None s)
   given_up_holds (round keys) s = omega (arith, ended_count answer.NoMemory None s)
 
@@ -139,8 +145,8 @@ module _ (digest : List ℕ → Id) (place : ℕ) where
   -- ---- what the results show
 
   so_far_count : (stage : Stage) (s : ClientState) → count_at place (so_far stage s ∷ []) ≡ stage_count place stage
-  so_far_count (winds (answers given at) m ms) s = count_one place (result_of given at None s)
-  so_far_count (winds retries m ms) s = refl
+  so_far_count (winds (ending.Answers given at) m ms) s = count_one place (result_of given at None s)
+  so_far_count (winds ending.Retries m ms) s = refl
   so_far_count compose s = refl
   so_far_count (round keys) s = refl
   so_far_count (act flow) s = refl

@@ -11,7 +11,7 @@ use Rattle.inf_base.specs.Same.{is_same_id}
 use Rattle.inf_content.specs.Contents.{content_at, if_born}
 use Rattle.inf_duty.specs.Start.{nobody, starting, who_in}
 use Rattle.inf_duty.specs.World.{World}
-use Rattle.inf_flow_dir.specs.Client.{ClientState}
+use Rattle.inf_duty.specs.ClientState.{ClientState}
 use Rattle.inf_laws_client.specs.Paths.{KeepsToPath}
 use Rattle.inf_laws_client.specs.Told.{KnowsOnly}
 use Rattle.inf_laws_client.proofs.KnowsFacts.{idle_knows}

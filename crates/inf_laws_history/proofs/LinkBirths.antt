@@ -1,5 +1,5 @@
 -- Directories stand where they were born: each link is of a directory that an Ask made of that very place.
-use Rattle.std.proofs.Common.{◌≡◌, bytes_eq, ◌⊎◌, inl, inr, ℕ, ◌==◌, ◌&&◌, Bool, true, false, cond, if◌then◌else◌, List, [], ◌∷◌, nat_cmp, Option, Some, None, Ok, refl, sym, ◌∙◌, subst}
+use Rattle.std.proofs.Common.{◌≡◌, bytes_eq, ◌⊎◌, inl, inr, ℕ, ◌==◌, ◌&&◌, Bool, true, false, cond, if◌then◌else◌, List, [], ◌∷◌, nat_cmp, Option, Some, None, refl, sym, ◌∙◌, subst}
 use Rattle.std.specs.BTreeMap.{is_at}
 use Rattle.std.specs.Cmp.Lexicographic.{slice_cmp}
 use Rattle.std.specs.Ordering.{match_ordering}
@@ -18,12 +18,10 @@ use Rattle.inf_content.specs.Slots.{filled_in, first, first_changed, lifted, slo
 use Rattle.inf_message.specs.declared.ask.Ask.{Ask}
 use Rattle.inf_message.specs.declared.event.Event.{Event}
 use Rattle.inf_message.specs.declared.reply.Reply.{Reply}
-use Rattle.inf_message.specs.declared.request.Request.{Request}
 use Rattle.inf_message.specs.declared.request.Request.TheVariants as request
 use Rattle.inf_message.specs.History.{Posted, asked_at}
 use Rattle.inf_message.proofs.HistoryLaws.{asked_stays, asked_within}
-use Rattle.inf_server.specs.Machine.{Serves, on_change, on_op, on_request}
-use Rattle.inf_server.specs.Response.{Response}
+use Rattle.inf_server.specs.Machine.{Serves}
 use Rattle.inf_server.specs.State.{Site, State}
 use Rattle.inf_laws_directory.proofs.Kept.{Slots}
 use Rattle.inf_laws_directory.proofs.SlotFacts.{same_test}

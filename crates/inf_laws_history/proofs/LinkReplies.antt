@@ -19,9 +19,14 @@ use Rattle.inf_content.specs.Slot.{reserves}
 use Rattle.inf_content.specs.Slots.{first, slot_in}
 use Rattle.inf_duty.specs.After.{client_after}
 use Rattle.inf_duty.specs.World.{World}
-use Rattle.inf_flow_dir.specs.Client.{ClientState, Stage, act, call_ref, compose, round, winds}
-use Rattle.inf_flow_dir.specs.Flow.{Flow, Who, finishes, id_or_root, last_id, links, makes, message_of, reserves as keeps_name, seals, unlinks}
-use Rattle.inf_flow_dir.specs.Group.{group}
+use Rattle.inf_flow_dir.specs.declared.dir_flow.DirFlow.TheVariants as dir_flow
+use Rattle.inf_flow_file.specs.declared.file_flow.FileFlow.TheVariants as file_flow
+use Rattle.inf_duty.specs.declared.flow.Flow.TheVariants as flow
+use Rattle.inf_duty.specs.ClientState.{ClientState, Stage, act, call_ref, compose, round, winds}
+use Rattle.inf_duty.specs.Flow.{message_of}
+use Rattle.inf_duty.specs.Group.{group}
+use Rattle.inf_duty.specs.declared.flow.Flow.{Flow}
+use Rattle.inf_message.specs.Who.{Who, id_or_root, last_id}
 use Rattle.inf_laws_directory.specs.At.{At}
 use Rattle.inf_laws_directory.specs.Fits.{EndsIn, Fits}
 use Rattle.inf_laws_directory.specs.Owned.{Has}
@@ -74,24 +79,24 @@ module _ (digest : List ℕ → Id) (s : ClientState) (place number : ℕ) (ask 
   abbrev IsSentTo : Type 0
   IsSentTo = number ≡ server_of (last_id s.who chain) s.who.servers
 
-  flow_to : (flow : Flow) → message_of s.who flow ≡ record { number = number; request = ask.request } → IsSentTo
-  flow_to (links way under bits version made) is =
+  flow_to : (step : Flow) → message_of s.who step ≡ record { number = number; request = ask.request } → IsSentTo
+  flow_to (flow.Dir (dir_flow.Links way under bits version made)) is =
       let same : request.Link way under made bits ≡ request.Link chain name dir mode =
       ap (λ (m : Message). m.request) is ∙ is_link in
       let chains : way ≡ chain = cc in
       sym (ap (λ (m : Message). m.number) is) ∙ ap (λ c. server_of (last_id s.who c) s.who.servers) chains
-  flow_to (finishes way with) is = absurd (let same = ap (λ (m : Message). m.request) is ∙ is_link in cc)
-  flow_to (keeps_name way under bits) is = absurd (let same = ap (λ (m : Message). m.request) is ∙ is_link in cc)
-  flow_to (makes way under bits version id) is = absurd (let same = ap (λ (m : Message). m.request) is ∙ is_link in cc)
-  flow_to (seals way) is = absurd (let same = ap (λ (m : Message). m.request) is ∙ is_link in cc)
-  flow_to (unlinks way) is = absurd (let same = ap (λ (m : Message). m.request) is ∙ is_link in cc)
+  flow_to (flow.File (file_flow.Finishes way with)) is = absurd (let same = ap (λ (m : Message). m.request) is ∙ is_link in cc)
+  flow_to (flow.Dir (dir_flow.Reserves way under bits)) is = absurd (let same = ap (λ (m : Message). m.request) is ∙ is_link in cc)
+  flow_to (flow.Dir (dir_flow.Makes way under bits version id)) is = absurd (let same = ap (λ (m : Message). m.request) is ∙ is_link in cc)
+  flow_to (flow.Dir (dir_flow.Seals way)) is = absurd (let same = ap (λ (m : Message). m.request) is ∙ is_link in cc)
+  flow_to (flow.Dir (dir_flow.Unlinks way)) is = absurd (let same = ap (λ (m : Message). m.request) is ∙ is_link in cc)
 
   stage_to : (stage : Stage) → s.stage ≡ stage → slice_get (group s.who stage) it.index ≡ Some (record { number = number; request = ask.request }) → IsSentTo
   stage_to compose at is = absurd cc
   stage_to (round keys) at is =
       let look = look_in s.who keys it.index number ask.request is in
       absurd (let unlike : request.Lookup look.k ≡ request.Link chain name dir mode = sym look.is ∙ is_link in cc)
-  stage_to (act flow) at is = flow_to flow (only_one (message_of s.who flow) it.index number ask.request is)
+  stage_to (act step) at is = flow_to step (only_one (message_of s.who step) it.index number ask.request is)
   stage_to (winds ending m ms) at is =
       absurd (subst (λ (r : Request). IsSentHome s.who.servers number r) is_link (sent_home digest s place number ask phases has it (subst IsCleanUp (sym at) tt)))
 

@@ -10,8 +10,9 @@ use Rattle.inf_duty.specs.Duty.{asked, begun}
 use Rattle.inf_duty.specs.Start.{starting}
 use Rattle.inf_duty.specs.World.{World}
 use Rattle.inf_duty.proofs.BegunKept.{if_both}
-use Rattle.inf_flow_dir.specs.Client.{ClientState, Sent, told_at}
-use Rattle.inf_flow_dir.specs.Heard.{heard}
+use Rattle.inf_duty.specs.ClientState.{ClientState}
+use Rattle.inf_message.specs.Heard.{heard}
+use Rattle.inf_message.specs.Sent.{Sent, told_at}
 use Rattle.inf_laws_history.proofs.ClientSteps.{Lasts, begun_lasts, served_lasts}
 use Rattle.inf_message.specs.declared.ask.Ask.{Ask}
 use Rattle.inf_message.specs.declared.event.Event.{Event}

@@ -13,11 +13,16 @@ use Rattle.inf_duty.specs.Outcome.{Agrees, OutcomeFrom, all_given_up, results_of
 use Rattle.inf_duty.specs.Start.{starting}
 use Rattle.inf_duty.specs.World.{World}
 use Rattle.inf_duty.proofs.BegunKept.{if_both}
-use Rattle.inf_flow_dir.specs.Client.{ClientState, Ending, Stage, act, answers, call_ref, compose, ended, rest_of, retries, round, winds, wound}
-use Rattle.inf_flow_dir.specs.Flow.{Who, clean_up}
-use Rattle.inf_flow_dir.specs.Group.{Course, composed_stage, keys_of, next_course}
-use Rattle.inf_flow_dir.specs.Heard.{heard}
-use Rattle.inf_flow_dir.specs.Turn.{Turn, goes_on, recorded, served, turn_at, turned, winds_up}
+use Rattle.inf_message.specs.declared.ending.Ending.TheVariants as ending
+use Rattle.inf_message.specs.declared.turn.Turn.TheVariants as turn
+use Rattle.inf_duty.specs.ClientState.{ClientState, Stage, act, call_ref, compose, ended, rest_of, round, winds, wound}
+use Rattle.inf_duty.specs.Flow.{clean_up}
+use Rattle.inf_duty.specs.Group.{Course, composed_stage, keys_of, next_course}
+use Rattle.inf_duty.specs.Turn.{recorded, served, turn_at, turned}
+use Rattle.inf_message.specs.Heard.{heard}
+use Rattle.inf_message.specs.Who.{Who}
+use Rattle.inf_message.specs.declared.ending.Ending.{Ending}
+use Rattle.inf_message.specs.declared.turn.Turn.{Turn}
 use Rattle.inf_laws_history.specs.Counted.{IsOfScript}
 use Rattle.inf_laws_history.proofs.ClientSteps.{by_answer}
 use Rattle.inf_laws_history.proofs.GivingUp.{IsKept, kept_all_given_up, kept_begun}
@@ -28,6 +33,7 @@ use Rattle.inf_message.specs.declared.event.Event.{Event}
 use Rattle.inf_message.specs.declared.event.Event.TheVariants as event
 use Rattle.inf_message.specs.declared.step.Message.{Message}
 use Rattle.inf_message.specs.History.{Told, told_reply}
+use Rattle.inf_duty.specs.declared.flow.Flow.{Flow}
 
 -- ---- one client
 
@@ -69,31 +75,31 @@ module _ (digest : List ℕ → Id) (client total : ℕ) where
         (record { own = is.own; counted = is.counted; less = omega arith });
   }
 
-  wound_is : (ending : Ending) (more : List Message) (s : ClientState) → 0 < length s.left → Is s → Is (wound ending more s)
-  wound_is (answers given at) [] s some is = ended_is given at s some is
-  wound_is retries [] s some is = record { own = is.own; counted = is.counted; all = is.all; under = tt; results = is.results }
-  wound_is ending (m ∷ ms) s some is = record { own = is.own; counted = is.counted; all = is.all; under = some; results = is.results }
+  wound_is : (end : Ending) (more : List Message) (s : ClientState) → 0 < length s.left → Is s → Is (wound end more s)
+  wound_is (ending.Answers given at) [] s some is = ended_is given at s some is
+  wound_is ending.Retries [] s some is = record { own = is.own; counted = is.counted; all = is.all; under = tt; results = is.results }
+  wound_is end (m ∷ ms) s some is = record { own = is.own; counted = is.counted; all = is.all; under = some; results = is.results }
 
   any_under : (left : List Call) (stage : Stage) → 0 < length left → IsUnder left stage
   any_under left compose some = tt
   any_under left (round keys) some = some
   any_under left (act flow) some = some
-  any_under left (winds ending m ms) some = some
+  any_under left (winds end m ms) some = some
 
-  turned_is : (turn : Turn) (s : ClientState) → 0 < length s.left → Is s → Is (turned turn s)
-  turned_is (goes_on next) s some is =
-      record { own = is.own; counted = is.counted; all = is.all; under = any_under s.left next some; results = is.results }
-  turned_is (winds_up ending more) s some is = wound_is ending more s some is
+  turned_is : (t : Turn Flow) (s : ClientState) → 0 < length s.left → Is s → Is (turned t s)
+  turned_is (turn.GoesOn next) s some is =
+      record { own = is.own; counted = is.counted; all = is.all; under = any_under s.left (act next) some; results = is.results }
+  turned_is (turn.WindsUp end more) s some is = wound_is end more s some is
 
   over_is : (s : ClientState) (stage : Stage) → IsUnder s.left stage → Is s → Is (turned (turn_at digest s stage) s)
   over_is s compose under is = record { own = is.own; counted = is.counted; all = is.all; under = tt; results = is.results }
   over_is s (round keys) under is = turned_is (turn_at digest s (round keys)) s under is
   over_is s (act flow) under is = turned_is (turn_at digest s (act flow)) s under is
-  over_is s (winds ending m ms) under is = turned_is (turn_at digest s (winds ending m ms)) s under is
+  over_is s (winds end m ms) under is = turned_is (turn_at digest s (winds end m ms)) s under is
 
   given_up_is : (s : ClientState) (stage : Stage) → 0 < length s.left → Is s → Is (given_up_in s stage)
-  given_up_is s (act flow) some is = wound_is (answers answer.NoMemory None) (clean_up s.who flow) s some is
-  given_up_is s (winds ending m ms) some is = is
+  given_up_is s (act flow) some is = wound_is (ending.Answers answer.NoMemory None) (clean_up s.who flow) s some is
+  given_up_is s (winds end m ms) some is = is
   given_up_is s compose some is = ended_is answer.NoMemory None s some is
   given_up_is s (round keys) some is = ended_is answer.NoMemory None s some is
 
@@ -109,7 +115,7 @@ module _ (digest : List ℕ → Id) (client total : ℕ) where
   composed_under s compose under = keys_under s.left s.who
   composed_under s (round keys) under = under
   composed_under s (act flow) under = under
-  composed_under s (winds ending m ms) under = under
+  composed_under s (winds end m ms) under = under
 
   kept : IsKept digest Is
   kept = record {
@@ -160,8 +166,8 @@ pub record IsOneOf (client total : ℕ) (result : CallResult) : Type 0 where
   pub within : result.call.number ≤ total
 
 pub so_far_call : (stage : Stage) (s : ClientState) → (so_far stage s).call ≡ call_ref s
-so_far_call (winds (answers given place) m ms) s = refl
-so_far_call (winds retries m ms) s = refl
+so_far_call (winds (ending.Answers given place) m ms) s = refl
+so_far_call (winds ending.Retries m ms) s = refl
 so_far_call compose s = refl
 so_far_call (round keys) s = refl
 so_far_call (act flow) s = refl

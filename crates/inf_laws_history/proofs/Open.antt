@@ -8,15 +8,21 @@ use Rattle.inf_duty.specs.Duty.{asked, begun}
 use Rattle.inf_duty.specs.Start.{starting}
 use Rattle.inf_duty.specs.World.{World}
 use Rattle.inf_base.specs.declared.setup.ClientLine.{ClientLine}
-use Rattle.inf_flow_dir.specs.Client.{ClientState, Ending, Sent, Stage, act, answers, compose, has_place, is_told, retries, round, told_at, winds, wound}
-use Rattle.inf_flow_dir.specs.Flow.{Who}
-use Rattle.inf_flow_dir.specs.Group.{group}
-use Rattle.inf_flow_dir.specs.Turn.{Turn, goes_on, is_complete, recorded, served, turned, winds_up}
+use Rattle.inf_message.specs.declared.ending.Ending.TheVariants as ending
+use Rattle.inf_message.specs.declared.turn.Turn.TheVariants as turn
+use Rattle.inf_duty.specs.ClientState.{ClientState, Stage, act, compose, round, winds, wound}
+use Rattle.inf_duty.specs.Group.{group}
+use Rattle.inf_duty.specs.Turn.{is_complete, recorded, served, turned}
+use Rattle.inf_message.specs.Sent.{Sent, has_place, is_told, told_at}
+use Rattle.inf_message.specs.Who.{Who}
+use Rattle.inf_message.specs.declared.ending.Ending.{Ending}
+use Rattle.inf_message.specs.declared.turn.Turn.{Turn}
 use Rattle.inf_message.specs.declared.ask.Ask.{Ask}
 use Rattle.inf_message.specs.declared.step.Message.{Message}
 use Rattle.inf_message.specs.History.{Told, or_told}
 use Rattle.inf_laws_history.proofs.ClientSteps.{by_answer}
 use Rattle.inf_laws_history.proofs.Turns.{first_told}
+use Rattle.inf_duty.specs.declared.flow.Flow.{Flow}
 
 -- the one message of a flow is not answered yet
 abbrev pub IsOpenAt : Stage → List Sent → Type 0
@@ -35,20 +41,20 @@ none_sent : (stage : Stage) → IsOpenAt stage []
 none_sent (act flow) = λ one. refl
 none_sent compose = tt
 none_sent (round keys) = tt
-none_sent (winds ending m ms) = tt
+none_sent (winds end m ms) = tt
 
 pub starting_open : (world : World) (client : ℕ) (line : Option ClientLine) → IsOpen (starting world client line)
 starting_open world client None = record { waits = tt }
 starting_open world client (Some line) = record { waits = tt }
 
-wound_open : (ending : Ending) (more : List Message) (s : ClientState) → IsOpen (wound ending more s)
-wound_open (answers given place) [] s = record { waits = tt }
-wound_open retries [] s = record { waits = tt }
-wound_open ending (m ∷ ms) s = record { waits = tt }
+wound_open : (end : Ending) (more : List Message) (s : ClientState) → IsOpen (wound end more s)
+wound_open (ending.Answers given place) [] s = record { waits = tt }
+wound_open ending.Retries [] s = record { waits = tt }
+wound_open end (m ∷ ms) s = record { waits = tt }
 
-turned_open : (turn : Turn) (s : ClientState) → IsOpen (turned turn s)
-turned_open (goes_on next) s = record { waits = none_sent next }
-turned_open (winds_up ending more) s = wound_open ending more s
+turned_open : (t : Turn Flow) (s : ClientState) → IsOpen (turned t s)
+turned_open (turn.GoesOn next) s = record { waits = none_sent (act next) }
+turned_open (turn.WindsUp end more) s = wound_open end more s
 
 newly_sent : (sent : List Sent) (new : Sent) → new.told ≡ None → length (sent ++ new ∷ []) ≡ 1 → first_told (sent ++ new ∷ []) ≡ None
 newly_sent [] new waits same = waits
@@ -58,7 +64,7 @@ one_more : (stage : Stage) (sent : List Sent) (new : Sent) → new.told ≡ None
 one_more (act flow) sent new waits = newly_sent sent new waits
 one_more compose sent new waits = tt
 one_more (round keys) sent new waits = tt
-one_more (winds ending m ms) sent new waits = tt
+one_more (winds end m ms) sent new waits = tt
 
 pub asked_open : (digest : List ℕ → Id) (place : ℕ) (ask : Ask) (s : ClientState) → IsOpen (asked digest place ask s)
 asked_open digest place ask s =
@@ -114,7 +120,7 @@ tells_flow place told who (act flow) sent is here complete =
     told_now place told sent one here (is one)
 tells_flow place told who compose sent is here complete = tt
 tells_flow place told who (round keys) sent is here complete = tt
-tells_flow place told who (winds ending m ms) sent is here complete = tt
+tells_flow place told who (winds end m ms) sent is here complete = tt
 
 -- the answer that completes the group of a flow's message is the one that was just told
 pub told_completes : (place : ℕ) (told : Told) (s : ClientState) → IsOpen s → has_place place s.sent ≡ true → is_complete (recorded place told s) ≡ true
@@ -128,7 +134,7 @@ still_open place told who (act flow) sent here going =
     λ same. absurd (let e : (eqb (length (map (told_at place told) sent)) 1 && list_all is_told (map (told_at place told) sent)) ≡ true = complete_now place told sent here same in cc)
 still_open place told who compose sent here going = tt
 still_open place told who (round keys) sent here going = tt
-still_open place told who (winds ending m ms) sent here going = tt
+still_open place told who (winds end m ms) sent here going = tt
 
 pub served_open : (digest : List ℕ → Id) (place : ℕ) (told : Told) (s : ClientState) → IsOpen s → IsOpen (served digest place told s)
 served_open digest place told s is =

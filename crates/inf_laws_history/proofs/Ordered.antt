@@ -12,9 +12,13 @@ use Rattle.inf_duty.specs.After.{client_after}
 use Rattle.inf_duty.specs.Outcome.{Outcome, OutcomeFrom, in_order, stands_at}
 use Rattle.inf_duty.specs.Start.{starting}
 use Rattle.inf_duty.specs.World.{World}
-use Rattle.inf_flow_dir.specs.Client.{ClientState, Stage, act, answers, compose, has_place, retries, round, winds}
-use Rattle.inf_flow_dir.specs.Heard.{heard}
-use Rattle.inf_flow_dir.specs.Turn.{Turn, goes_on, recorded, turn_at, winds_up}
+use Rattle.inf_message.specs.declared.ending.Ending.TheVariants as ending
+use Rattle.inf_message.specs.declared.turn.Turn.TheVariants as turn
+use Rattle.inf_duty.specs.ClientState.{ClientState, Stage, act, compose, round, winds}
+use Rattle.inf_duty.specs.Turn.{recorded, turn_at}
+use Rattle.inf_message.specs.Heard.{heard}
+use Rattle.inf_message.specs.Sent.{has_place}
+use Rattle.inf_message.specs.declared.turn.Turn.{Turn}
 use Rattle.inf_laws_history.specs.Decisions.{decided_at, decided_at_stage, decided_by_turn, decided_for, decided_in, decided_when, is_of_tree, of_tree}
 use Rattle.inf_laws_history.specs.Decisions.{decided_call as decides}
 use Rattle.inf_laws_history.specs.Replayed.{AllReplay, decided_of, decisions}
@@ -33,6 +37,7 @@ use Rattle.inf_laws_history.proofs.DrivenFacts.{waits_not}
 use Rattle.inf_laws_history.proofs.Open.{IsOpen, asked_open, counted_same, served_open, starting_open}
 use Rattle.inf_laws_history.proofs.ResultFacts.{Reads, agrees_at, asked_comes, asked_reads, calls_of, comes_to, only_at, served_comes, served_reads, starting_reads, tree_at, tree_at_both}
 use Rattle.inf_laws_history.proofs.TreeReplays.{replays_of_tree}
+use Rattle.inf_duty.specs.declared.flow.Flow.{Flow}
 
 -- ---- each client after every history
 
@@ -155,14 +160,14 @@ serve_decides world number ask_place given h client (line ∷ lines) =
 apart_decides : (digest : List ℕ → Id) (ask_place : ℕ) (told : Told) (s : ClientState) → has_place ask_place s.sent ≡ false → decided_for digest ask_place told s ≡ []
 apart_decides digest ask_place told s apart = ap (λ b. decided_when digest b ask_place told s) apart
 
-no_call : (s : ClientState) (turn : Turn) → s.left ≡ [] → decided_by_turn s turn ≡ []
-no_call s (goes_on next) none = refl
-no_call s (winds_up (answers given None) more) none = refl
-no_call s (winds_up (answers given (Some place)) more) none = ap (λ left. of_tree (decides s left given)) none
-no_call s (winds_up retries more) none = refl
+no_call : (s : ClientState) (t : Turn Flow) → s.left ≡ [] → decided_by_turn s t ≡ []
+no_call s (turn.GoesOn next) none = refl
+no_call s (turn.WindsUp (ending.Answers given None) more) none = refl
+no_call s (turn.WindsUp (ending.Answers given (Some place)) more) none = ap (λ left. of_tree (decides s left given)) none
+no_call s (turn.WindsUp ending.Retries more) none = refl
 
 no_call_at : (digest : List ℕ → Id) (s : ClientState) (stage : Stage) → s.left ≡ [] → decided_at_stage digest s stage ≡ []
-no_call_at digest s (winds ending m ms) none = refl
+no_call_at digest s (winds end m ms) none = refl
 no_call_at digest s compose none = refl
 no_call_at digest s (round keys) none = no_call s (turn_at digest s (round keys)) none
 no_call_at digest s (act flow) none = no_call s (turn_at digest s (act flow)) none

@@ -12,9 +12,9 @@ use Rattle.inf_duty.specs.Duty.{Duty, asked, asks, next_step}
 use Rattle.inf_duty.specs.Own.{after_own, client_of, own_asks, own_of}
 use Rattle.inf_duty.specs.Start.{start}
 use Rattle.inf_duty.specs.World.{World}
-use Rattle.inf_flow_dir.specs.Client.{ClientState}
-use Rattle.inf_flow_dir.specs.Group.{group}
-use Rattle.inf_flow_dir.specs.Turn.{served}
+use Rattle.inf_duty.specs.ClientState.{ClientState}
+use Rattle.inf_duty.specs.Group.{group}
+use Rattle.inf_duty.specs.Turn.{served}
 use Rattle.inf_laws_history.proofs.AnswerOrder.{IsOpenIn, differing, hear, open_recorded, open_stays, over_one}
 use Rattle.inf_laws_history.proofs.DrivenFacts.{others_stay}
 use Rattle.inf_laws_history.proofs.PendingFacts.{begun_stays, flipped, goes, pending_after, unserved_before, waiting_at}

@@ -13,11 +13,18 @@ use Rattle.inf_base.proofs.Same.{same_dir}
 use Rattle.inf_content.specs.Contents.{content_at, empty_content}
 use Rattle.inf_duty.specs.After.{client_after}
 use Rattle.inf_duty.specs.World.{World}
-use Rattle.inf_flow_dir.specs.Client.{ClientState, Sent, Stage, act, compose, round, winds}
-use Rattle.inf_flow_dir.specs.Flow.{Flow, Who, birth_of, dir_in, finishes, id_or_root, last_dir, last_entry, links, makes, message_of, reserves, seals, unlinks}
-use Rattle.inf_flow_dir.specs.Group.{group}
-use Rattle.inf_flow_dir.specs.Heard.{heard}
-use Rattle.inf_flow_dir.specs.Turn.{served}
+use Rattle.inf_flow_dir.specs.declared.dir_flow.DirFlow.TheVariants as dir_flow
+use Rattle.inf_flow_file.specs.declared.file_flow.FileFlow.TheVariants as file_flow
+use Rattle.inf_duty.specs.declared.flow.Flow.TheVariants as flow
+use Rattle.inf_duty.specs.ClientState.{ClientState, Stage, act, compose, round, winds}
+use Rattle.inf_duty.specs.Flow.{message_of}
+use Rattle.inf_duty.specs.Group.{group}
+use Rattle.inf_duty.specs.Turn.{served}
+use Rattle.inf_duty.specs.declared.flow.Flow.{Flow}
+use Rattle.inf_message.specs.Chain.{dir_in, last_dir, last_entry}
+use Rattle.inf_message.specs.Heard.{heard}
+use Rattle.inf_message.specs.Sent.{Sent}
+use Rattle.inf_message.specs.Who.{Who, birth_of, id_or_root}
 use Rattle.inf_laws_client.specs.Asked.{AreAskedFor}
 use Rattle.inf_laws_history.specs.Flight.{links_by, was_linked}
 use Rattle.inf_laws_history.specs.Flight.{links as links_to}
@@ -94,8 +101,8 @@ lifts_none servers (has_sealed parent name target) m P cancels drops unseals for
 lifts_none servers (has_unlinked target) m P cancels drops unseals forgets is = subst (λ (x : Message). P x.request) (sym is) (drops target)
 
 module _ (who : Who) (phase : Phase) where
-  flow_makes : (flow : Flow) (birth : Triple) → (message_of who flow).request ≡ request.Make birth → FlowHas who flow phase → FlowMay who.caller flow → MakesAt phase birth
-  flow_makes (makes chain name mode version id) birth is has may =
+  flow_makes : (step : Flow) (birth : Triple) → (message_of who step).request ≡ request.Make birth → FlowHas who step phase → FlowMay who.caller step → MakesAt phase birth
+  flow_makes (flow.Dir (dir_flow.Makes chain name mode version id)) birth is has may =
       let same : birth_of who chain name version ≡ birth = cc in
       record {
         parent = last_dir chain;
@@ -104,15 +111,15 @@ module _ (who : Who) (phase : Phase) where
         phase_is = has ∙ ap (has_reserved (last_dir chain) name) same;
         birth_is = sym same ∙ ap (λ i. triple.Of i name version) (id_of_last who (last_entry chain) may.last may.ends);
       }
-  flow_makes (finishes chain asked) birth is has may = absurd cc
-  flow_makes (reserves chain name mode) birth is has may = absurd cc
-  flow_makes (links chain name mode version dir) birth is has may = absurd cc
-  flow_makes (seals chain) birth is has may = absurd cc
-  flow_makes (unlinks chain) birth is has may = absurd cc
+  flow_makes (flow.File (file_flow.Finishes chain asked)) birth is has may = absurd cc
+  flow_makes (flow.Dir (dir_flow.Reserves chain name mode)) birth is has may = absurd cc
+  flow_makes (flow.Dir (dir_flow.Links chain name mode version dir)) birth is has may = absurd cc
+  flow_makes (flow.Dir (dir_flow.Seals chain)) birth is has may = absurd cc
+  flow_makes (flow.Dir (dir_flow.Unlinks chain)) birth is has may = absurd cc
 
-  flow_links : (flow : Flow) (way : List Entry) (under : List ℕ) (dir : DirRef) (bits : ℕ) → (message_of who flow).request ≡ request.Link way under dir bits
-      → FlowHas who flow phase → FlowMay who.caller flow → LinksAt phase dir
-  flow_links (links chain name mode version made) way under dir bits is has may =
+  flow_links : (step : Flow) (way : List Entry) (under : List ℕ) (dir : DirRef) (bits : ℕ) → (message_of who step).request ≡ request.Link way under dir bits
+      → FlowHas who step phase → FlowMay who.caller step → LinksAt phase dir
+  flow_links (flow.Dir (dir_flow.Links chain name mode version made)) way under dir bits is has may =
       let same : made ≡ dir = cc in
       record {
         parent = last_dir chain;
@@ -120,11 +127,11 @@ module _ (who : Who) (phase : Phase) where
         version = version;
         phase_is = has ∙ ap₂ (λ i d. has_made (last_dir chain) name (triple.Of i name version) d) (id_of_last who (last_entry chain) may.last may.ends) same;
       }
-  flow_links (finishes chain asked) way under dir bits is has may = absurd cc
-  flow_links (reserves chain name mode) way under dir bits is has may = absurd cc
-  flow_links (makes chain name mode version id) way under dir bits is has may = absurd cc
-  flow_links (seals chain) way under dir bits is has may = absurd cc
-  flow_links (unlinks chain) way under dir bits is has may = absurd cc
+  flow_links (flow.File (file_flow.Finishes chain asked)) way under dir bits is has may = absurd cc
+  flow_links (flow.Dir (dir_flow.Reserves chain name mode)) way under dir bits is has may = absurd cc
+  flow_links (flow.Dir (dir_flow.Makes chain name mode version id)) way under dir bits is has may = absurd cc
+  flow_links (flow.Dir (dir_flow.Seals chain)) way under dir bits is has may = absurd cc
+  flow_links (flow.Dir (dir_flow.Unlinks chain)) way under dir bits is has may = absurd cc
 
 module _ (digest : List ℕ → Id) (who : Who) (phase : Phase) where
   stage_makes : (stage : Stage) (index number : ℕ) (asked : Request) (birth : Triple) → slice_get (group who stage) index ≡ Some (record { number = number; request = asked })
@@ -133,8 +140,8 @@ module _ (digest : List ℕ → Id) (who : Who) (phase : Phase) where
   stage_makes (round keys) index number asked birth is makes_it has may =
       let look = look_in who keys index number asked is in
       absurd (let unlike : request.Lookup look.k ≡ request.Make birth = sym look.is ∙ makes_it in cc)
-  stage_makes (act flow) index number asked birth is makes_it has may =
-      flow_makes who phase flow birth (ap (λ (m : Message). m.request) (only_one (message_of who flow) index number asked is) ∙ makes_it) has.0 may
+  stage_makes (act step) index number asked birth is makes_it has may =
+      flow_makes who phase step birth (ap (λ (m : Message). m.request) (only_one (message_of who step) index number asked is) ∙ makes_it) has.0 may
   stage_makes (winds ending m ms) index number asked birth is makes_it has may =
       absurd (lifts_none who.servers phase m (λ (r : Request). r ≡ request.Make birth → ⊥) (λ dir it. cc) (λ dir it. cc) (λ dir it. cc) (λ id dir it. cc) has.0
       (ap (λ (x : Message). x.request) (only_one m index number asked is) ∙ makes_it))
@@ -146,8 +153,8 @@ module _ (digest : List ℕ → Id) (who : Who) (phase : Phase) where
   stage_links (round keys) index number asked way under dir bits is links_it has may =
       let look = look_in who keys index number asked is in
       absurd (let unlike : request.Lookup look.k ≡ request.Link way under dir bits = sym look.is ∙ links_it in cc)
-  stage_links (act flow) index number asked way under dir bits is links_it has may =
-      flow_links who phase flow way under dir bits (ap (λ (m : Message). m.request) (only_one (message_of who flow) index number asked is) ∙ links_it) has.0 may
+  stage_links (act step) index number asked way under dir bits is links_it has may =
+      flow_links who phase step way under dir bits (ap (λ (m : Message). m.request) (only_one (message_of who step) index number asked is) ∙ links_it) has.0 may
   stage_links (winds ending m ms) index number asked way under dir bits is links_it has may =
       absurd (lifts_none who.servers phase m (λ (r : Request). r ≡ request.Link way under dir bits → ⊥) (λ d it. cc) (λ d it. cc) (λ d it. cc) (λ id d it. cc) has.0
       (ap (λ (x : Message). x.request) (only_one m index number asked is) ∙ links_it))
@@ -159,15 +166,15 @@ module _ (digest : List ℕ → Id) (A : ℕ → Request → Type 0) (s : Client
   abbrev told : Told
   told = told_reply serve_place reply.Fine
 
-  flow_ends : (flow : Flow) → (message_of s.who flow).request ≡ request.Link way under dir bits
-      → s.number < (served digest place told (staged s (act flow) (one_ask place None))).number
-  flow_ends (links chain name mode version dir) is =
-      served_one digest (λ (t : ClientState). s.number < t.number) s (act (links chain name mode version dir)) place told refl (omega arith)
-  flow_ends (finishes chain asked) is = absurd cc
-  flow_ends (reserves chain name mode) is = absurd cc
-  flow_ends (makes chain name mode version id) is = absurd cc
-  flow_ends (seals chain) is = absurd cc
-  flow_ends (unlinks chain) is = absurd cc
+  flow_ends : (step : Flow) → (message_of s.who step).request ≡ request.Link way under dir bits
+      → s.number < (served digest place told (staged s (act step) (one_ask place None))).number
+  flow_ends (flow.Dir (dir_flow.Links chain name mode version dir)) is =
+      served_one digest (λ (t : ClientState). s.number < t.number) s (act (flow.Dir (dir_flow.Links chain name mode version dir))) place told refl (omega arith)
+  flow_ends (flow.File (file_flow.Finishes chain asked)) is = absurd cc
+  flow_ends (flow.Dir (dir_flow.Reserves chain name mode)) is = absurd cc
+  flow_ends (flow.Dir (dir_flow.Makes chain name mode version id)) is = absurd cc
+  flow_ends (flow.Dir (dir_flow.Seals chain)) is = absurd cc
+  flow_ends (flow.Dir (dir_flow.Unlinks chain)) is = absurd cc
 
   stage_ends : (stage : Stage) (sent : List Sent) (phase : Phase) → Waits (staged s stage sent) place number ask → AreAskedFor A (group s.who stage) sent
       → HasPhase digest s.who stage phase → s.number < (served digest place told (staged s stage sent)).number
@@ -175,10 +182,10 @@ module _ (digest : List ℕ → Id) (A : ℕ → Request → Type 0) (s : Client
   stage_ends (round keys) sent phase waits_it asks has =
       let look = look_in s.who keys waits_it.index number ask.request waits_it.message in
       absurd (let unlike : request.Lookup look.k ≡ request.Link way under dir bits = sym look.is ∙ links_it in cc)
-  stage_ends (act flow) sent phase waits_it asks has =
-      let lone = alone A (message_of s.who flow) sent waits_it.index place number ask.request waits_it.sent waits_it.message asks in
-      subst (λ (xs : List Sent). s.number < (served digest place told (staged s (act flow) xs)).number) (sym lone.sent_alone)
-      (flow_ends flow (ap (λ (m : Message). m.request) lone.message ∙ links_it))
+  stage_ends (act step) sent phase waits_it asks has =
+      let lone = alone A (message_of s.who step) sent waits_it.index place number ask.request waits_it.sent waits_it.message asks in
+      subst (λ (xs : List Sent). s.number < (served digest place told (staged s (act step) xs)).number) (sym lone.sent_alone)
+      (flow_ends step (ap (λ (m : Message). m.request) lone.message ∙ links_it))
   stage_ends (winds ending m ms) sent phase waits_it asks has =
       absurd (lifts_none s.who.servers phase m (λ (r : Request). r ≡ request.Link way under dir bits → ⊥) (λ d it. cc) (λ d it. cc) (λ d it. cc) (λ id d it. cc) has.0
       (ap (λ (x : Message). x.request) (only_one m waits_it.index number ask.request waits_it.message) ∙ links_it))

@@ -8,10 +8,11 @@ use Rattle.inf_base.specs.declared.call.Call.{Call}
 use Rattle.inf_duty.specs.After.{client_after}
 use Rattle.inf_duty.specs.Duty.{asked, asks, begun, next_in, next_of, next_step}
 use Rattle.inf_duty.specs.World.{World}
-use Rattle.inf_flow_dir.specs.Client.{ClientState, Sent, call_ref, is_told, placed, told_at}
-use Rattle.inf_flow_dir.specs.Group.{group}
-use Rattle.inf_flow_dir.specs.Heard.{heard}
-use Rattle.inf_flow_dir.specs.Turn.{is_complete, recorded, served}
+use Rattle.inf_duty.specs.ClientState.{ClientState, call_ref, placed}
+use Rattle.inf_duty.specs.Group.{group}
+use Rattle.inf_duty.specs.Turn.{is_complete, recorded, served}
+use Rattle.inf_message.specs.Heard.{heard}
+use Rattle.inf_message.specs.Sent.{Sent, is_told, told_at}
 use Rattle.inf_laws_history.proofs.ByIndex.{got_pushed, got_stays}
 use Rattle.inf_laws_history.specs.Legal.{Legal, MayAsk}
 use Rattle.inf_laws_history.specs.Pending.{ArePending, Waits}

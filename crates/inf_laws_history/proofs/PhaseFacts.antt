@@ -14,11 +14,17 @@ use Rattle.inf_base.specs.declared.key.Key.{Key}
 use Rattle.inf_base.specs.declared.key.LookKey.{LookKey}
 use Rattle.inf_duty.specs.Duty.{begun, given_up_in}
 use Rattle.inf_duty.proofs.BegunKept.{IsKept, if_both, kept_begun}
-use Rattle.inf_flow_dir.specs.Client.{ClientState, Ending, Sent, Stage, act, answers, call_ref, compose, finished, has_place, idle as idle_client, is_told, placed, retries, round, winds, wound}
-use Rattle.inf_flow_dir.specs.Flow.{Who, clean_up, message_of}
-use Rattle.inf_flow_dir.specs.Group.{Course, composed_stage, group, keys_of, next_course}
-use Rattle.inf_flow_dir.specs.Heard.{heard}
-use Rattle.inf_flow_dir.specs.Turn.{Turn, after_record, goes_on, is_complete, later_place, recorded, served, settled, turn_at, turned, winds_up}
+use Rattle.inf_message.specs.declared.ending.Ending.TheVariants as ending
+use Rattle.inf_message.specs.declared.turn.Turn.TheVariants as turn
+use Rattle.inf_duty.specs.ClientState.{ClientState, Stage, act, call_ref, compose, finished, idle as idle_client, placed, round, winds, wound}
+use Rattle.inf_duty.specs.Flow.{clean_up, message_of}
+use Rattle.inf_duty.specs.Group.{Course, composed_stage, group, keys_of, next_course}
+use Rattle.inf_duty.specs.Turn.{after_record, is_complete, later_place, recorded, served, settled, turn_at, turned}
+use Rattle.inf_message.specs.Heard.{heard}
+use Rattle.inf_message.specs.Sent.{Sent, has_place, is_told}
+use Rattle.inf_message.specs.Who.{Who}
+use Rattle.inf_message.specs.declared.ending.Ending.{Ending}
+use Rattle.inf_message.specs.declared.turn.Turn.{Turn}
 use Rattle.inf_laws_client.specs.Asked.{AreAskedFor, AsksItsGroup}
 use Rattle.inf_laws_client.specs.Told.{KnowsOnly, StandsOn}
 use Rattle.inf_laws_directory.specs.At.{At}
@@ -39,6 +45,7 @@ use Rattle.inf_message.specs.declared.request.Request.{Request}
 use Rattle.inf_message.specs.declared.request.Request.TheVariants as request
 use Rattle.inf_message.specs.History.{Told, told_reply}
 use Rattle.inf_server.specs.Chains.{before_last}
+use Rattle.inf_duty.specs.declared.flow.Flow.{Flow}
 
 abbrev pub call_of : ClientState → ℕ → CallRef
 call_of s number = record { client = s.who.client; number = number }
@@ -53,7 +60,7 @@ pub record InHand (digest : List ℕ → Id) (phases : Phases) (s : ClientState)
   pub may : StageMay s.who.caller s.stage
 
 abbrev pub IsCleanUp : Stage → Type 0
-IsCleanUp (winds ending m ms) = Unit {0}
+IsCleanUp (winds end m ms) = Unit {0}
 IsCleanUp other_stage = ⊥
 
 -- what is asked of a reply to the client's Ask
@@ -77,18 +84,18 @@ pub idle_in_hand : (digest : List ℕ → Id) (phases : Phases) (who : Who) (cal
     → ((number : ℕ) → phases (record { client = who.client; number = number }) ≡ idle) → InHand digest phases (idle_client who calls)
 idle_in_hand digest phases who calls all = record { phase = all 1; others = λ number apart. all number; may = tt }
 
-finished_in_hand : (digest : List ℕ → Id) (phases : Phases) (ending : Ending) (s : ClientState) → ((number : ℕ) → phases (call_of s number) ≡ idle) → InHand digest phases (finished ending s)
-finished_in_hand digest phases (answers given place) s all = record { phase = all (s.number + 1); others = λ number apart. all number; may = tt }
-finished_in_hand digest phases retries s all = record { phase = all s.number; others = λ number apart. all number; may = tt }
+finished_in_hand : (digest : List ℕ → Id) (phases : Phases) (end : Ending) (s : ClientState) → ((number : ℕ) → phases (call_of s number) ≡ idle) → InHand digest phases (finished end s)
+finished_in_hand digest phases (ending.Answers given place) s all = record { phase = all (s.number + 1); others = λ number apart. all number; may = tt }
+finished_in_hand digest phases ending.Retries s all = record { phase = all s.number; others = λ number apart. all number; may = tt }
 
-wound_in_hand : (digest : List ℕ → Id) (phases : Phases) (ending : Ending) (more : List Message) (s : ClientState) → Lifts s.who.servers (phases (call_ref s)) more
-    → OthersIdle phases s → InHand digest phases (wound ending more s)
-wound_in_hand digest phases ending [] s lifts others = finished_in_hand digest phases ending s (all_idle phases s lifts others)
-wound_in_hand digest phases ending (m ∷ ms) s lifts others = record { phase = lifts; others = others; may = tt }
+wound_in_hand : (digest : List ℕ → Id) (phases : Phases) (end : Ending) (more : List Message) (s : ClientState) → Lifts s.who.servers (phases (call_ref s)) more
+    → OthersIdle phases s → InHand digest phases (wound end more s)
+wound_in_hand digest phases end [] s lifts others = finished_in_hand digest phases end s (all_idle phases s lifts others)
+wound_in_hand digest phases end (m ∷ ms) s lifts others = record { phase = lifts; others = others; may = tt }
 
-turned_in_hand : (digest : List ℕ → Id) (phases : Phases) (t : Turn) (s : ClientState) → TurnHas digest s.who (phases (call_ref s)) t → OthersIdle phases s → InHand digest phases (turned t s)
-turned_in_hand digest phases (goes_on next) s has others = record { phase = has.0; others = others; may = has.1 }
-turned_in_hand digest phases (winds_up ending more) s has others = wound_in_hand digest phases ending more s has others
+turned_in_hand : (digest : List ℕ → Id) (phases : Phases) (t : Turn Flow) (s : ClientState) → TurnHas digest s.who (phases (call_ref s)) t → OthersIdle phases s → InHand digest phases (turned t s)
+turned_in_hand digest phases (turn.GoesOn next) s has others = record { phase = has.0; others = others; may = has.1 }
+turned_in_hand digest phases (turn.WindsUp end more) s has others = wound_in_hand digest phases end more s has others
 
 -- ---- before a group
 
@@ -102,15 +109,15 @@ composed_in_hand : (digest : List ℕ → Id) (phases : Phases) (s : ClientState
 composed_in_hand digest phases s compose here others may = keys_in_hand digest phases s (next_course s.left) here others
 composed_in_hand digest phases s (round keys) here others may = record { phase = here; others = others; may = may }
 composed_in_hand digest phases s (act flow) here others may = record { phase = here; others = others; may = may }
-composed_in_hand digest phases s (winds ending m ms) here others may = record { phase = here; others = others; may = may }
+composed_in_hand digest phases s (winds end m ms) here others may = record { phase = here; others = others; may = may }
 
 given_up_at : (digest : List ℕ → Id) (phases : Phases) (s : ClientState) (stage : Stage) → HasPhase digest s.who stage (phases (call_ref s)) → InHand digest phases s
     → InHand digest phases (given_up_in s stage)
 given_up_at digest phases s (act flow) here hand =
-    wound_in_hand digest phases (answers answer.NoMemory None) (clean_up s.who flow) s (clean_up_lifts s.who flow (phases (call_ref s)) here.0) hand.others
-given_up_at digest phases s (winds ending m ms) here hand = hand
-given_up_at digest phases s compose here hand = finished_in_hand digest phases (answers answer.NoMemory None) s (all_idle phases s here hand.others)
-given_up_at digest phases s (round keys) here hand = finished_in_hand digest phases (answers answer.NoMemory None) s (all_idle phases s here hand.others)
+    wound_in_hand digest phases (ending.Answers answer.NoMemory None) (clean_up s.who flow) s (clean_up_lifts s.who flow (phases (call_ref s)) here.0) hand.others
+given_up_at digest phases s (winds end m ms) here hand = hand
+given_up_at digest phases s compose here hand = finished_in_hand digest phases (ending.Answers answer.NoMemory None) s (all_idle phases s here hand.others)
+given_up_at digest phases s (round keys) here hand = finished_in_hand digest phases (ending.Answers answer.NoMemory None) s (all_idle phases s here hand.others)
 
 in_hand_kept : (digest : List ℕ → Id) (phases : Phases) → IsKept digest (InHand digest phases)
 in_hand_kept digest phases = record {
@@ -232,12 +239,12 @@ module _ (service : Service) (A : ℕ → Request → Type 0) (T : Key → Acces
       (next_phase service at (phases (call_ref s)) m.request given) refl
       (act_has service s.who at (phases (call_ref s)) flow given phase.0 phase.1 may stands.links_up
       (subst (λ (r : Request). MayGoOn s.who.caller r given) same goes)) others)
-  stage_in_hand (winds ending m ms) sent phase others may stands asks there is goes cleans =
+  stage_in_hand (winds end m ms) sent phase others may stands asks there is goes cleans =
       let one = alone A m sent index at.ask_place at.number asked there is asks in
       let lifts = ap (next_phase service at (phases (call_ref s)) m.request) (cleans tt)
       ∙ lifted_by service at s.who.servers (phases (call_ref s)) m phase.0 in
-      come m (winds ending m ms) sent one
-      (one_in_hand service.digest phases s (winds ending m ms) at.ask_place (told_reply at.serve_place given)
+      come m (winds end m ms) sent one
+      (one_in_hand service.digest phases s (winds end m ms) at.ask_place (told_reply at.serve_place given)
       (next_phase service at (phases (call_ref s)) m.request given) refl
       (subst (λ (p : Phase). Lifts s.who.servers p ms) (sym lifts) phase.1) others)
 

@@ -7,11 +7,16 @@ use Rattle.inf_base.specs.declared.id.Id.{Id}
 use Rattle.inf_base.specs.declared.item.Item.{Item}
 use Rattle.inf_base.specs.declared.key.Key.{Key}
 use Rattle.inf_base.specs.Identity.{server_of}
-use Rattle.inf_content.specs.Contents.{dropped_at, lifted_at, unsealed_at}
-use Rattle.inf_flow_dir.specs.Client.{ClientState, Stage, act, call_ref, compose, round, winds}
-use Rattle.inf_flow_dir.specs.Flow.{Flow, Who, dir_in, finishes, links, makes, message_of, reserves, seals, unlinks}
-use Rattle.inf_flow_dir.specs.Group.{group}
-use Rattle.inf_flow_dir.specs.Heard.{heard}
+use Rattle.inf_flow_dir.specs.declared.dir_flow.DirFlow.TheVariants as dir_flow
+use Rattle.inf_flow_file.specs.declared.file_flow.FileFlow.TheVariants as file_flow
+use Rattle.inf_duty.specs.declared.flow.Flow.TheVariants as flow
+use Rattle.inf_duty.specs.ClientState.{ClientState, Stage, act, call_ref, compose, round, winds}
+use Rattle.inf_duty.specs.Flow.{message_of}
+use Rattle.inf_duty.specs.Group.{group}
+use Rattle.inf_duty.specs.declared.flow.Flow.{Flow}
+use Rattle.inf_message.specs.Chain.{dir_in}
+use Rattle.inf_message.specs.Heard.{heard}
+use Rattle.inf_message.specs.Who.{Who}
 use Rattle.inf_laws_client.specs.Told.{KnowsOnly, LinksUp, StandsOn, chain_of}
 use Rattle.inf_laws_directory.specs.At.{At}
 use Rattle.inf_laws_directory.specs.Fits.{EndsIn, Fits}
@@ -29,10 +34,9 @@ use Rattle.inf_message.specs.declared.reply.Reply.TheVariants as reply
 use Rattle.inf_message.specs.declared.request.Request.{Request}
 use Rattle.inf_message.specs.declared.request.Request.TheVariants as request
 use Rattle.inf_message.specs.declared.step.Message.{Message}
-use Rattle.inf_renames.specs.Renames.{forgotten}
 use Rattle.inf_server.specs.Chains.{before_last, last_of}
 use Rattle.inf_server.specs.Machine.{Serves}
-use Rattle.inf_server.specs.State.{State, is_here, with_contents}
+use Rattle.inf_server.specs.State.{State}
 
 -- ---- what is asked fits what is in hand
 
@@ -40,20 +44,20 @@ ends_in : (found : Option Entry) (last : Entry) → found ≡ Some last → Ends
 ends_in None last is = absurd cc
 ends_in (Some entry) last is = refl
 
-flow_fits : (at : At) (who : Who) (flow : Flow) (phase : Phase) → FlowHas who flow phase → FlowMay who.caller flow
-    → LinksUp (chain_of flow)
-    → Fits at phase (message_of who flow).request
-flow_fits at who (finishes chain asked) phase has may up =
+flow_fits : (at : At) (who : Who) (step : Flow) (phase : Phase) → FlowHas who step phase → FlowMay who.caller step
+    → LinksUp (chain_of step)
+    → Fits at phase (message_of who step).request
+flow_fits at who (flow.File (file_flow.Finishes chain asked)) phase has may up =
     subst (λ (p : Phase). Fits at p (request.Finish chain asked)) (sym has) tt
-flow_fits at who (reserves chain name mode) phase has may up =
+flow_fits at who (flow.Dir (dir_flow.Reserves chain name mode)) phase has may up =
     subst (λ (p : Phase). Fits at p (request.Reserve chain name)) (sym has) tt
-flow_fits at who (makes chain name mode version id) phase has may up =
-    subst (λ (p : Phase). Fits at p (message_of who (makes chain name mode version id)).request) (sym has) refl
-flow_fits at who (links chain name mode version dir) phase has may up =
-    subst (λ (p : Phase). Fits at p (message_of who (links chain name mode version dir)).request) (sym has)
+flow_fits at who (flow.Dir (dir_flow.Makes chain name mode version id)) phase has may up =
+    subst (λ (p : Phase). Fits at p (message_of who (flow.Dir (dir_flow.Makes chain name mode version id))).request) (sym has) refl
+flow_fits at who (flow.Dir (dir_flow.Links chain name mode version dir)) phase has may up =
+    subst (λ (p : Phase). Fits at p (message_of who (flow.Dir (dir_flow.Links chain name mode version dir))).request) (sym has)
     (ends_in (last_of chain) may.last may.ends, refl, refl)
-flow_fits at who (seals chain) phase has may up = subst (λ (p : Phase). Fits at p (request.Seal chain)) (sym has) tt
-flow_fits at who (unlinks chain) phase has may up =
+flow_fits at who (flow.Dir (dir_flow.Seals chain)) phase has may up = subst (λ (p : Phase). Fits at p (request.Seal chain)) (sym has) tt
+flow_fits at who (flow.Dir (dir_flow.Unlinks chain)) phase has may up =
     let under = ends_under chain may.last up may.ends in
     subst (λ (p : Phase). Fits at p (request.Unlink chain)) (sym has.is)
     (ends_in (last_of (before_last chain)) may.last may.ends, ends_in (last_of chain) under.target under.is)
@@ -80,9 +84,9 @@ stage_fits digest T who (round keys) index at asked phase has may stands is =
     let look = look_in who keys index at.number asked is in
     subst (λ (r : Request). Fits at phase r) (sym look.is)
     (subst (λ (p : Phase). Fits at p (request.Lookup look.k)) (sym has) tt)
-stage_fits digest T who (act flow) index at asked phase has may stands is =
-    subst (λ (x : Message). Fits at phase x.request) (only_one (message_of who flow) index at.number asked is)
-    (flow_fits at who flow phase has.0 may stands.links_up)
+stage_fits digest T who (act step) index at asked phase has may stands is =
+    subst (λ (x : Message). Fits at phase x.request) (only_one (message_of who step) index at.number asked is)
+    (flow_fits at who step phase has.0 may stands.links_up)
 stage_fits digest T who (winds ending m ms) index at asked phase has may stands is =
     subst (λ (x : Message). Fits at phase x.request) (only_one m index at.number asked is)
     (lifted_fits at who.servers phase m has.0)
@@ -124,7 +128,7 @@ stage_home : (digest : List ℕ → Id) (who : Who) (stage : Stage) (index numbe
     → slice_get (group who stage) index ≡ Some (record { number = number; request = asked }) → IsSentHome who.servers number asked
 stage_home digest who compose index number asked phase has cleans is = absurd cleans
 stage_home digest who (round keys) index number asked phase has cleans is = absurd cleans
-stage_home digest who (act flow) index number asked phase has cleans is = absurd cleans
+stage_home digest who (act step) index number asked phase has cleans is = absurd cleans
 stage_home digest who (winds ending m ms) index number asked phase has cleans is =
     subst (λ (x : Message). IsSentHome who.servers x.number x.request) (only_one m index number asked is) (lifted_home who.servers phase m has.0)
 

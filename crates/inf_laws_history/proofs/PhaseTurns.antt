@@ -16,10 +16,22 @@ use Rattle.inf_base.specs.declared.triple.Triple.TheVariants as triple
 use Rattle.inf_base.specs.Identity.{identity}
 use Rattle.inf_base.specs.Path.{path_of}
 use Rattle.inf_base.specs.Same.{dir_of}
-use Rattle.inf_flow_dir.specs.Client.{Sent, act, answers, retries}
-use Rattle.inf_flow_dir.specs.Flow.{Flow, HasBirthId, Who, birth_of, clean_up, dir_in, finishes, forget_in, id_or_root, last_dir, last_id, lift, links, lives_at, makes, message_of, reserves, row_of, seals, unlinks, way_to}
-use Rattle.inf_flow_dir.specs.Group.{Course, course_at, course_in, next_course, split, text_of}
-use Rattle.inf_flow_dir.specs.Turn.{Next, Turn, after_act, after_make, after_round, by_next, fails, follow, from_root, goes_on, is_busy, next_entry, steps, stops, told_entry, winds_up}
+use Rattle.inf_flow_dir.specs.declared.dir_flow.DirFlow.TheVariants as dir_flow
+use Rattle.inf_message.specs.declared.ending.Ending.TheVariants as ending
+use Rattle.inf_flow_file.specs.declared.file_flow.FileFlow.TheVariants as file_flow
+use Rattle.inf_duty.specs.declared.flow.Flow.TheVariants as flow
+use Rattle.inf_message.specs.declared.turn.Turn.TheVariants as turn
+use Rattle.inf_duty.specs.ClientState.{act}
+use Rattle.inf_duty.specs.Flow.{HasBirthId, after_act, clean_up, message_of}
+use Rattle.inf_duty.specs.Group.{Course, course_at, course_in, next_course, split, text_of}
+use Rattle.inf_duty.specs.Turn.{Next, after_round, by_next, follow, from_root, is_busy, next_entry, steps, stops, told_entry}
+use Rattle.inf_duty.specs.declared.flow.Flow.{Flow}
+use Rattle.inf_flow_dir.specs.DirFlow.{forget_in, lives_at, row_of}
+use Rattle.inf_message.specs.Chain.{dir_in, last_dir, way_to}
+use Rattle.inf_message.specs.Sent.{Sent}
+use Rattle.inf_message.specs.Turn.{fails, turn_as}
+use Rattle.inf_message.specs.Who.{Who, birth_of, id_or_root, last_id, lift}
+use Rattle.inf_message.specs.declared.turn.Turn.{Turn}
 use Rattle.inf_laws_client.specs.Told.{IsIn, LinksFrom, LinksUp, chain_of}
 use Rattle.inf_laws_directory.specs.At.{At}
 use Rattle.inf_laws_directory.specs.Fits.{after_make as made_after, next_phase, reserved_at_end, sealed_at_end, sealed_under, unlinked_at_end}
@@ -40,22 +52,22 @@ use Rattle.inf_message.specs.History.{Told}
 use Rattle.inf_server.specs.Chains.{before_last, last_of}
 
 -- what the call has in hand is what the turn needs
-abbrev pub TurnHas : (List ℕ → Id) → Who → Phase → Turn → Type 0
-TurnHas digest who phase (goes_on next) = HasPhase digest who next phase × StageMay who.caller next
-TurnHas digest who phase (winds_up ending more) = Lifts who.servers phase more
+abbrev pub TurnHas : (List ℕ → Id) → Who → Phase → Turn Flow → Type 0
+TurnHas digest who phase (turn.GoesOn next) = HasPhase digest who (act next) phase × StageMay who.caller (act next)
+TurnHas digest who phase (turn.WindsUp end more) = Lifts who.servers phase more
 
 -- ---- clean-ups
 
 -- what a step rests on is lifted by its clean-up
-pub clean_up_lifts : (who : Who) (flow : Flow) (phase : Phase) → FlowHas who flow phase → Lifts who.servers phase (clean_up who flow)
-clean_up_lifts who (finishes chain asked) phase has = has
-clean_up_lifts who (reserves chain name mode) phase has = has
-clean_up_lifts who (makes chain name mode version id) phase has =
-    subst (λ (p : Phase). Lifts who.servers p (clean_up who (makes chain name mode version id))) (sym has) (refl, refl)
-clean_up_lifts who (links chain name mode version dir) phase has =
-    subst (λ (p : Phase). Lifts who.servers p (clean_up who (links chain name mode version dir))) (sym has) (refl, (refl, refl))
-clean_up_lifts who (seals chain) phase has = has
-clean_up_lifts who (unlinks chain) phase has = subst (λ (p : Phase). Lifts who.servers p (clean_up who (unlinks chain))) (sym has.is) (refl, refl)
+pub clean_up_lifts : (who : Who) (step : Flow) (phase : Phase) → FlowHas who step phase → Lifts who.servers phase (clean_up who step)
+clean_up_lifts who (flow.File (file_flow.Finishes chain asked)) phase has = has
+clean_up_lifts who (flow.Dir (dir_flow.Reserves chain name mode)) phase has = has
+clean_up_lifts who (flow.Dir (dir_flow.Makes chain name mode version id)) phase has =
+    subst (λ (p : Phase). Lifts who.servers p (clean_up who (flow.Dir (dir_flow.Makes chain name mode version id)))) (sym has) (refl, refl)
+clean_up_lifts who (flow.Dir (dir_flow.Links chain name mode version dir)) phase has =
+    subst (λ (p : Phase). Lifts who.servers p (clean_up who (flow.Dir (dir_flow.Links chain name mode version dir)))) (sym has) (refl, (refl, refl))
+clean_up_lifts who (flow.Dir (dir_flow.Seals chain)) phase has = has
+clean_up_lifts who (flow.Dir (dir_flow.Unlinks chain)) phase has = subst (λ (p : Phase). Lifts who.servers p (clean_up who (flow.Dir (dir_flow.Unlinks chain)))) (sym has.is) (refl, refl)
 
 -- one message of a clean-up, done, lifts what it is to lift
 pub lifted_by : (service : Service) (at : At) (servers : ℕ) (phase : Phase) (m : Message) → IsLiftedBy servers phase m
@@ -72,16 +84,11 @@ lifted_by service at servers (has_unlinked target) m is =
 
 -- ---- after a message of a flow that does not succeed
 
-fails_has : (digest : List ℕ → Id) (who : Who) (flow : Flow) (place : ℕ) (given : Reply) (phase : Phase) → FlowHas who flow phase → TurnHas digest who phase (fails who flow place given)
-fails_has digest who flow place (reply.Busy by at born) phase has = clean_up_lifts who flow phase has
-fails_has digest who flow place (reply.Refused error) phase has = clean_up_lifts who flow phase has
-fails_has digest who flow place reply.NoMem phase has = clean_up_lifts who flow phase has
-fails_has digest who flow place any_reply phase has = clean_up_lifts who flow phase has
-
-make_fails : (digest : List ℕ → Id) (who : Who) (flow : Flow) (own : Triple) (place : ℕ) (given : Reply) (phase : Phase) → FlowHas who flow phase
-    → TurnHas digest who phase (after_make who flow own place given)
-make_fails digest who flow own place (reply.Clash kept) phase has = clean_up_lifts who flow phase has
-make_fails digest who flow own place any_reply phase has = fails_has digest who flow place any_reply phase has
+fails_has : {F : Type 0} (wrap : F → Flow) (digest : List ℕ → Id) (who : Who) (step : Flow) (place : ℕ) (given : Reply) (phase : Phase) → FlowHas who step phase → TurnHas digest who phase (turn_as wrap (fails (clean_up who step) place given))
+fails_has wrap digest who step place (reply.Busy by at born) phase has = clean_up_lifts who step phase has
+fails_has wrap digest who step place (reply.Refused error) phase has = clean_up_lifts who step phase has
+fails_has wrap digest who step place reply.NoMem phase has = clean_up_lifts who step phase has
+fails_has wrap digest who step place any_reply phase has = clean_up_lifts who step phase has
 
 -- ---- after a message of each kind
 
@@ -159,26 +166,26 @@ pub record MayGoOn (caller : Caller) (asked : Request) (given : Reply) : Type 0 
 
 module _ (service : Service) (who : Who) (at : At) (phase : Phase) where
   abbrev Comes : Flow → Reply → Type 0
-  Comes flow given =
-      TurnHas service.digest who (next_phase service at phase (message_of who flow).request given)
-      (after_act service.digest who flow at.ask_place at.serve_place given)
+  Comes step given =
+      TurnHas service.digest who (next_phase service at phase (message_of who step).request given)
+      (after_act service.digest who step at.ask_place at.serve_place given)
 
-  finish_has : (chain : List Entry) (asked : Op) (given : Reply) → FlowHas who (finishes chain asked) phase → Comes (finishes chain asked) given
+  finish_has : (chain : List Entry) (asked : Op) (given : Reply) → FlowHas who (flow.File (file_flow.Finishes chain asked)) phase → Comes (flow.File (file_flow.Finishes chain asked)) given
   finish_has chain (op.Create name mode) reply.Fine has = has
   finish_has chain (op.Stat name) (reply.Stat kind meta) has = has
-  finish_has chain asked given has = fails_has service.digest who (finishes chain asked) at.serve_place given phase has
+  finish_has chain asked given has = fails_has flow.File service.digest who (flow.File (file_flow.Finishes chain asked)) at.serve_place given phase has
 
-  reserve_has : (chain : List Entry) (name : List ℕ) (mode : ℕ) (given : Reply) → FlowHas who (reserves chain name mode) phase
-      → ((version : ℕ) → given ≡ reply.Reserved version → MayWriteAt who.caller chain) → Comes (reserves chain name mode) given
+  reserve_has : (chain : List Entry) (name : List ℕ) (mode : ℕ) (given : Reply) → FlowHas who (flow.Dir (dir_flow.Reserves chain name mode)) phase
+      → ((version : ℕ) → given ≡ reply.Reserved version → MayWriteAt who.caller chain) → Comes (flow.Dir (dir_flow.Reserves chain name mode)) given
   reserve_has chain name mode (reply.Reserved version) has may =
       let writes = may version refl in
       ((reserved_same who (last_of chain) writes.last phase name version writes.ends, refl), writes)
   reserve_has chain name mode given has may =
-      fails_has service.digest who (reserves chain name mode) at.serve_place given phase has
+      fails_has flow.Dir service.digest who (flow.Dir (dir_flow.Reserves chain name mode)) at.serve_place given phase has
 
-  make_has : (chain : List Entry) (name : List ℕ) (mode version : ℕ) (id : Id) (given : Reply) → FlowHas who (makes chain name mode version id) phase
-      → id ≡ identity service.digest (birth_of who chain name version) → FlowMay who.caller (makes chain name mode version id)
-      → Comes (makes chain name mode version id) given
+  make_has : (chain : List Entry) (name : List ℕ) (mode version : ℕ) (id : Id) (given : Reply) → FlowHas who (flow.Dir (dir_flow.Makes chain name mode version id)) phase
+      → id ≡ identity service.digest (birth_of who chain name version) → FlowMay who.caller (flow.Dir (dir_flow.Makes chain name mode version id))
+      → Comes (flow.Dir (dir_flow.Makes chain name mode version id)) given
   make_has chain name mode version id reply.Fine has of_birth may = (
     (
       ap (made_after service at) has
@@ -188,18 +195,18 @@ module _ (service : Service) (who : Who) (at : At) (phase : Phase) where
     ),
     may,
   )
+  make_has chain name mode version id (reply.Clash kept) has of_birth may = clean_up_lifts who (flow.Dir (dir_flow.Makes chain name mode version id)) phase has
   make_has chain name mode version id given has of_birth may =
-      make_fails service.digest who (makes chain name mode version id) (birth_of who chain name version)
-      at.serve_place given phase has
+      fails_has flow.Dir service.digest who (flow.Dir (dir_flow.Makes chain name mode version id)) at.serve_place given phase has
 
-  link_has : (chain : List Entry) (name : List ℕ) (mode version : ℕ) (dir : DirRef) (given : Reply) → FlowHas who (links chain name mode version dir) phase
-      → Comes (links chain name mode version dir) given
+  link_has : (chain : List Entry) (name : List ℕ) (mode version : ℕ) (dir : DirRef) (given : Reply) → FlowHas who (flow.Dir (dir_flow.Links chain name mode version dir)) phase
+      → Comes (flow.Dir (dir_flow.Links chain name mode version dir)) given
   link_has chain name mode version dir reply.Fine has = refl
   link_has chain name mode version dir given has =
-      fails_has service.digest who (links chain name mode version dir) at.serve_place given phase has
+      fails_has flow.Dir service.digest who (flow.Dir (dir_flow.Links chain name mode version dir)) at.serve_place given phase has
 
-  seal_has : (chain : List Entry) (given : Reply) → FlowHas who (seals chain) phase → LinksUp chain
-      → (given ≡ reply.Fine → MayWriteAt who.caller (before_last chain)) → Comes (seals chain) given
+  seal_has : (chain : List Entry) (given : Reply) → FlowHas who (flow.Dir (dir_flow.Seals chain)) phase → LinksUp chain
+      → (given ≡ reply.Fine → MayWriteAt who.caller (before_last chain)) → Comes (flow.Dir (dir_flow.Seals chain)) given
   seal_has chain reply.Fine has up may =
       let writes = may refl in
       let under = ends_under chain writes.last up writes.ends in
@@ -209,25 +216,25 @@ module _ (service : Service) (who : Who) (at : At) (phase : Phase) where
             writes.last under.target under.dir under.name writes.ends under.is under.key;
       } in
       ((sealed, tt), writes)
-  seal_has chain given has up may = fails_has service.digest who (seals chain) at.serve_place given phase has
+  seal_has chain given has up may = fails_has flow.Dir service.digest who (flow.Dir (dir_flow.Seals chain)) at.serve_place given phase has
 
-  unlink_has : (chain : List Entry) (given : Reply) → FlowHas who (unlinks chain) phase → LinksUp chain → FlowMay who.caller (unlinks chain)
-      → Comes (unlinks chain) given
+  unlink_has : (chain : List Entry) (given : Reply) → FlowHas who (flow.Dir (dir_flow.Unlinks chain)) phase → LinksUp chain → FlowMay who.caller (flow.Dir (dir_flow.Unlinks chain))
+      → Comes (flow.Dir (dir_flow.Unlinks chain)) given
   unlink_has chain reply.Fine has up may =
       let under = ends_under chain may.last up may.ends in
       unlinked_lifts who (last_id who (way_to chain)) (last_of chain) under.target phase under.is
-  unlink_has chain given has up may = fails_has service.digest who (unlinks chain) at.serve_place given phase has
+  unlink_has chain given has up may = fails_has flow.Dir service.digest who (flow.Dir (dir_flow.Unlinks chain)) at.serve_place given phase has
 
   -- whatever is replied to a flow's message, the turn needs what is in hand then
-  pub act_has : (flow : Flow) (given : Reply) → FlowHas who flow phase → HasBirthId service.digest who flow → FlowMay who.caller flow → LinksUp (chain_of flow)
-      → MayGoOn who.caller (message_of who flow).request given → Comes flow given
-  act_has (finishes chain asked) given has of_birth may up goes = finish_has chain asked given has
-  act_has (reserves chain name mode) given has of_birth may up goes =
+  pub act_has : (step : Flow) (given : Reply) → FlowHas who step phase → HasBirthId service.digest who step → FlowMay who.caller step → LinksUp (chain_of step)
+      → MayGoOn who.caller (message_of who step).request given → Comes step given
+  act_has (flow.File (file_flow.Finishes chain asked)) given has of_birth may up goes = finish_has chain asked given has
+  act_has (flow.Dir (dir_flow.Reserves chain name mode)) given has of_birth may up goes =
       reserve_has chain name mode given has (λ version is. goes.reserves chain name version refl is)
-  act_has (makes chain name mode version id) given has of_birth may up goes = make_has chain name mode version id given has of_birth may
-  act_has (links chain name mode version dir) given has of_birth may up goes = link_has chain name mode version dir given has
-  act_has (seals chain) given has of_birth may up goes = seal_has chain given has up (λ is. goes.seals chain refl is)
-  act_has (unlinks chain) given has of_birth may up goes = unlink_has chain given has up may
+  act_has (flow.Dir (dir_flow.Makes chain name mode version id)) given has of_birth may up goes = make_has chain name mode version id given has of_birth may
+  act_has (flow.Dir (dir_flow.Links chain name mode version dir)) given has of_birth may up goes = link_has chain name mode version dir given has
+  act_has (flow.Dir (dir_flow.Seals chain)) given has of_birth may up goes = seal_has chain given has up (λ is. goes.seals chain refl is)
+  act_has (flow.Dir (dir_flow.Unlinks chain)) given has of_birth may up goes = unlink_has chain given has up may
 
 -- ---- after a round
 
@@ -255,7 +262,7 @@ module _ (digest : List ℕ → Id) (who : Who) (phase : Phase) (none : phase �
   course_opens [] = tt
   course_opens (next ∷ calls) = opens_at next (path_of (text_of next))
 
-  by_next_has : (course : Course) (chain : List Entry) (name : List ℕ) (names : List (List ℕ)) (go : Entry → Turn) (next : Next)
+  by_next_has : (course : Course) (chain : List Entry) (name : List ℕ) (names : List (List ℕ)) (go : Entry → Turn Flow) (next : Next)
       → ((e : Entry) → TurnHas digest who phase (go e)) → TurnHas digest who phase (by_next course chain name names go next)
   by_next_has course chain name names go (steps e) goes = goes e
   by_next_has course chain name names go stops goes = ((none, tt), tt)
@@ -275,15 +282,15 @@ module _ (digest : List ℕ → Id) (who : Who) (phase : Phase) (none : phase �
   from_root_has course xs told (reply.Busy by at born) opens = none
   from_root_has course xs told any_reply opens = none
 
-  turn_if : (b : Bool) (first second : Turn) → TurnHas digest who phase first → TurnHas digest who phase second → TurnHas digest who phase (if b then first else second)
+  turn_if : (b : Bool) (first second : Turn Flow) → TurnHas digest who phase first → TurnHas digest who phase second → TurnHas digest who phase (if b then first else second)
   turn_if true first second one other = one
   turn_if false first second one other = other
 
   first_has : (course : Course) (place : ℕ) (told : Option Told) (xs : List Sent) → Opens course
       → TurnHas digest who phase (after_round (Some course) (record { place = place; told = told } ∷ xs))
-  first_has course place None xs opens = turn_if _ (winds_up (answers answer.NoMemory None) []) (winds_up retries []) none none
+  first_has course place None xs opens = turn_if _ (turn.WindsUp (ending.Answers answer.NoMemory None) []) (turn.WindsUp ending.Retries []) none none
   first_has course place (Some told) xs opens =
-      turn_if _ (winds_up (answers answer.NoMemory None) []) (from_root course xs told told.reply) none (from_root_has course xs told told.reply opens)
+      turn_if _ (turn.WindsUp (ending.Answers answer.NoMemory None) []) (from_root course xs told told.reply) none (from_root_has course xs told told.reply opens)
 
   found_has : (found : Option Course) (sent : List Sent) → IfOpens found → TurnHas digest who phase (after_round found sent)
   found_has None sent opens = none

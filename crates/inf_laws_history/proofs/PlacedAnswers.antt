@@ -19,11 +19,22 @@ use Rattle.inf_duty.specs.Outcome.{Agrees, OutcomeFrom, all_given_up, come_to, r
 use Rattle.inf_duty.specs.Start.{starting}
 use Rattle.inf_duty.specs.World.{World}
 use Rattle.inf_duty.proofs.BegunKept.{IsKept, if_both, kept_all_given_up, kept_begun}
-use Rattle.inf_flow_dir.specs.Client.{ClientState, Ending, Sent, Stage, act, answers, compose, ended, result_of, retries, round, winds, wound}
-use Rattle.inf_flow_dir.specs.Flow.{Flow, Who, birth_of, clean_up, finishes, links, makes, reserves, seals, unlinks}
-use Rattle.inf_flow_dir.specs.Group.{Course, composed_stage, keys_of, next_course}
-use Rattle.inf_flow_dir.specs.Heard.{heard}
-use Rattle.inf_flow_dir.specs.Turn.{Next, Turn, act_turn, after_act, after_make, after_round, by_next, fails, follow, from_root, goes_on, is_busy, is_wanting, links_to, next_entry, recorded, served, steps, stops, told_entry, turn_at, turned, winds_up}
+use Rattle.inf_flow_dir.specs.declared.dir_flow.DirFlow.TheVariants as dir_flow
+use Rattle.inf_message.specs.declared.ending.Ending.TheVariants as ending
+use Rattle.inf_flow_file.specs.declared.file_flow.FileFlow.TheVariants as file_flow
+use Rattle.inf_duty.specs.declared.flow.Flow.TheVariants as flow
+use Rattle.inf_message.specs.declared.turn.Turn.TheVariants as turn
+use Rattle.inf_duty.specs.ClientState.{ClientState, Stage, act, compose, ended, result_of, round, winds, wound}
+use Rattle.inf_duty.specs.Flow.{after_act, clean_up}
+use Rattle.inf_duty.specs.Group.{Course, composed_stage, keys_of, next_course}
+use Rattle.inf_duty.specs.Turn.{Next, act_turn, after_round, by_next, follow, from_root, is_busy, links_to, next_entry, recorded, served, steps, stops, told_entry, turn_at, turned}
+use Rattle.inf_duty.specs.declared.flow.Flow.{Flow}
+use Rattle.inf_message.specs.Heard.{heard}
+use Rattle.inf_message.specs.Sent.{Sent, is_wanting}
+use Rattle.inf_message.specs.Turn.{fails, turn_as}
+use Rattle.inf_message.specs.Who.{Who, birth_of}
+use Rattle.inf_message.specs.declared.ending.Ending.{Ending}
+use Rattle.inf_message.specs.declared.turn.Turn.{Turn}
 use Rattle.inf_laws_history.proofs.ClientSteps.{by_answer}
 use Rattle.inf_message.specs.declared.ask.Ask.{Ask}
 use Rattle.inf_message.specs.declared.call_result.CallResult.{CallResult}
@@ -39,7 +50,7 @@ use Rattle.inf_message.specs.History.{Told, told_reply}
 abbrev pub Of : Type 1
 Of = Answer → Option ℕ → Type 0
 
--- so are the answers of calls: those that a reply brings have its place, and want of memory has none
+-- so are the ending.Answers of calls: those that a reply brings have its place, and want of memory has none
 pub record IsOfServes (P : Of) : Type 0 where
   pub done : (place : ℕ) → P answer.Done (Some place)
   pub stat : (kind : Kind) (meta : FileMeta) (place : ℕ) → P (answer.Stat kind meta) (Some place)
@@ -49,16 +60,16 @@ pub record IsOfServes (P : Of) : Type 0 where
   pub wanting : P answer.NoMemory None
 
 abbrev pub EndingIs : Of → Ending → Type 0
-EndingIs P (answers given at) = P given at
-EndingIs P retries = Unit {0}
+EndingIs P (ending.Answers given at) = P given at
+EndingIs P ending.Retries = Unit {0}
 
 abbrev pub StageIs : Of → Stage → Type 0
-StageIs P (winds ending m ms) = EndingIs P ending
+StageIs P (winds end m ms) = EndingIs P end
 StageIs P other_stage = Unit {0}
 
-abbrev TurnIs : Of → Turn → Type 0
-TurnIs P (goes_on next) = StageIs P next
-TurnIs P (winds_up ending more) = EndingIs P ending
+abbrev TurnIs : Of → Turn Flow → Type 0
+TurnIs P (turn.GoesOn next) = StageIs P (act next)
+TurnIs P (turn.WindsUp end more) = EndingIs P end
 
 abbrev pub ResultIs : Of → CallResult → Type 0
 ResultIs P result = P result.answer result.place
@@ -66,36 +77,33 @@ ResultIs P result = P result.answer result.place
 module _ (P : Of) (of : IsOfServes P) where
   -- ---- after a message of a flow
 
-  fails_is : (who : Who) (flow : Flow) (place : ℕ) (given : Reply) → TurnIs P (fails who flow place given)
-  fails_is who flow place (reply.Busy by at born) = of.again by place
-  fails_is who flow place (reply.Refused error) = of.refused error place
-  fails_is who flow place reply.NoMem = of.wanting
-  fails_is who flow place any_reply = tt
+  fails_is : {F : Type 0} (wrap : F → Flow) (who : Who) (step : Flow) (place : ℕ) (given : Reply) → TurnIs P (turn_as wrap (fails (clean_up who step) place given))
+  fails_is wrap who step place (reply.Busy by at born) = of.again by place
+  fails_is wrap who step place (reply.Refused error) = of.refused error place
+  fails_is wrap who step place reply.NoMem = of.wanting
+  fails_is wrap who step place any_reply = tt
 
-  make_is : (who : Who) (flow : Flow) (own : Triple) (place : ℕ) (given : Reply) → TurnIs P (after_make who flow own place given)
-  make_is who flow own place (reply.Clash kept) = of.clash own kept place
-  make_is who flow own place any_reply = fails_is who flow place any_reply
+  act_is : (digest : List ℕ → Id) (who : Who) (step : Flow) (asked place : ℕ) (given : Reply) → TurnIs P (after_act digest who step asked place given)
+  act_is digest who (flow.File (file_flow.Finishes chain (op.Create name mode))) asked place reply.Fine = of.done place
+  act_is digest who (flow.File (file_flow.Finishes chain (op.Stat name))) asked place (reply.Stat kind meta) = of.stat kind meta place
+  act_is digest who (flow.Dir (dir_flow.Reserves chain name mode)) asked place (reply.Reserved version) = tt
+  act_is digest who (flow.Dir (dir_flow.Makes chain name mode version id)) asked place reply.Fine = tt
+  act_is digest who (flow.Dir (dir_flow.Makes chain name mode version id)) asked place (reply.Clash kept) =
+      of.clash (birth_of who chain name version) kept place
+  act_is digest who (flow.Dir (dir_flow.Links chain name mode version dir)) asked place reply.Fine = of.done place
+  act_is digest who (flow.Dir (dir_flow.Seals chain)) asked place reply.Fine = tt
+  act_is digest who (flow.Dir (dir_flow.Unlinks chain)) asked place reply.Fine = of.done place
+  act_is digest who (flow.File step) asked place given = fails_is flow.File who (flow.File step) place given
+  act_is digest who (flow.Dir step) asked place given = fails_is flow.Dir who (flow.Dir step) place given
 
-  act_is : (digest : List ℕ → Id) (who : Who) (flow : Flow) (asked place : ℕ) (given : Reply) → TurnIs P (after_act digest who flow asked place given)
-  act_is digest who (finishes chain (op.Create name mode)) asked place reply.Fine = of.done place
-  act_is digest who (finishes chain (op.Stat name)) asked place (reply.Stat kind meta) = of.stat kind meta place
-  act_is digest who (reserves chain name mode) asked place (reply.Reserved version) = tt
-  act_is digest who (makes chain name mode version id) asked place reply.Fine = tt
-  act_is digest who (makes chain name mode version id) asked place given =
-      make_is who (makes chain name mode version id) (birth_of who chain name version) place given
-  act_is digest who (links chain name mode version dir) asked place reply.Fine = of.done place
-  act_is digest who (seals chain) asked place reply.Fine = tt
-  act_is digest who (unlinks chain) asked place reply.Fine = of.done place
-  act_is digest who flow asked place given = fails_is who flow place given
+  told_is : (digest : List ℕ → Id) (who : Who) (step : Flow) (place : ℕ) (told : Option Told) (xs : List Sent)
+      → TurnIs P (act_turn digest who step (record { place = place; told = told } ∷ xs))
+  told_is digest who step place None xs = tt
+  told_is digest who step place (Some told) xs = act_is digest who step place told.serve_place told.reply
 
-  told_is : (digest : List ℕ → Id) (who : Who) (flow : Flow) (place : ℕ) (told : Option Told) (xs : List Sent)
-      → TurnIs P (act_turn digest who flow (record { place = place; told = told } ∷ xs))
-  told_is digest who flow place None xs = tt
-  told_is digest who flow place (Some told) xs = act_is digest who flow place told.serve_place told.reply
-
-  flow_is : (digest : List ℕ → Id) (who : Who) (flow : Flow) (sent : List Sent) → TurnIs P (act_turn digest who flow sent)
-  flow_is digest who flow [] = tt
-  flow_is digest who flow (x ∷ xs) = told_is digest who flow x.place x.told xs
+  flow_is : (digest : List ℕ → Id) (who : Who) (step : Flow) (sent : List Sent) → TurnIs P (act_turn digest who step sent)
+  flow_is digest who step [] = tt
+  flow_is digest who step (x ∷ xs) = told_is digest who step x.place x.told xs
 
   -- ---- after a round
 
@@ -112,7 +120,7 @@ module _ (P : Of) (of : IsOfServes P) where
   next_is before None = tt
   next_is before (Some told) = reply_is before told.serve_place told.reply
 
-  by_next_is : (course : Course) (chain : List Entry) (name : List ℕ) (names : List (List ℕ)) (go : Entry → Turn) (next : Next) → NextIs next
+  by_next_is : (course : Course) (chain : List Entry) (name : List ℕ) (names : List (List ℕ)) (go : Entry → Turn Flow) (next : Next) → NextIs next
       → ((e : Entry) → TurnIs P (go e)) → TurnIs P (by_next course chain name names go next)
   by_next_is course chain name names go (steps e) is goes = goes e
   by_next_is course chain name names go stops is goes = tt
@@ -133,9 +141,9 @@ module _ (P : Of) (of : IsOfServes P) where
 
   first_is : (course : Course) (place : ℕ) (told : Option Told) (xs : List Sent)
       → TurnIs P (after_round (Some course) (record { place = place; told = told } ∷ xs))
-  first_is course place None xs = if_both (TurnIs P) _ (winds_up (answers answer.NoMemory None) []) (winds_up retries []) of.wanting tt
+  first_is course place None xs = if_both (TurnIs P) _ (turn.WindsUp (ending.Answers answer.NoMemory None) []) (turn.WindsUp ending.Retries []) of.wanting tt
   first_is course place (Some told) xs =
-      if_both (TurnIs P) _ (winds_up (answers answer.NoMemory None) []) (from_root course xs told told.reply) of.wanting (root_is course xs told told.reply)
+      if_both (TurnIs P) _ (turn.WindsUp (ending.Answers answer.NoMemory None) []) (from_root course xs told told.reply) of.wanting (root_is course xs told told.reply)
 
   round_is : (course : Option Course) (sent : List Sent) → TurnIs P (after_round course sent)
   round_is None sent = tt
@@ -145,8 +153,8 @@ module _ (P : Of) (of : IsOfServes P) where
   turn_is : (digest : List ℕ → Id) (s : ClientState) (stage : Stage) → StageIs P stage → TurnIs P (turn_at digest s stage)
   turn_is digest s compose is = tt
   turn_is digest s (round keys) is = round_is (next_course s.left) s.sent
-  turn_is digest s (act flow) is = flow_is digest s.who flow s.sent
-  turn_is digest s (winds ending m ms) is = is
+  turn_is digest s (act step) is = flow_is digest s.who step s.sent
+  turn_is digest s (winds end m ms) is = is
 
   -- ---- a client
 
@@ -158,18 +166,18 @@ module _ (P : Of) (of : IsOfServes P) where
   ended_are given at s is before =
       record { results = All-push (ResultIs P) s.results (result_of given at s.counts.last s) before is; stage = tt }
 
-  wound_are : (ending : Ending) (more : List Message) (s : ClientState) → EndingIs P ending → All (ResultIs P) s.results → AllAre (wound ending more s)
-  wound_are (answers given at) [] s is before = ended_are given at s is before
-  wound_are retries [] s is before = record { results = before; stage = tt }
-  wound_are ending (m ∷ ms) s is before = record { results = before; stage = is }
+  wound_are : (end : Ending) (more : List Message) (s : ClientState) → EndingIs P end → All (ResultIs P) s.results → AllAre (wound end more s)
+  wound_are (ending.Answers given at) [] s is before = ended_are given at s is before
+  wound_are ending.Retries [] s is before = record { results = before; stage = tt }
+  wound_are end (m ∷ ms) s is before = record { results = before; stage = is }
 
-  turned_are : (turn : Turn) (s : ClientState) → TurnIs P turn → All (ResultIs P) s.results → AllAre (turned turn s)
-  turned_are (goes_on next) s is before = record { results = before; stage = is }
-  turned_are (winds_up ending more) s is before = wound_are ending more s is before
+  turned_are : (t : Turn Flow) (s : ClientState) → TurnIs P t → All (ResultIs P) s.results → AllAre (turned t s)
+  turned_are (turn.GoesOn next) s is before = record { results = before; stage = is }
+  turned_are (turn.WindsUp end more) s is before = wound_are end more s is before
 
   given_up_are : (s : ClientState) (stage : Stage) → AllAre s → AllAre (given_up_in s stage)
-  given_up_are s (act flow) before = wound_are (answers answer.NoMemory None) (clean_up s.who flow) s of.wanting before.results
-  given_up_are s (winds ending m ms) before = before
+  given_up_are s (act step) before = wound_are (ending.Answers answer.NoMemory None) (clean_up s.who step) s of.wanting before.results
+  given_up_are s (winds end m ms) before = before
   given_up_are s compose before = ended_are answer.NoMemory None s of.wanting before.results
   given_up_are s (round keys) before = ended_are answer.NoMemory None s of.wanting before.results
 
@@ -180,8 +188,8 @@ module _ (P : Of) (of : IsOfServes P) where
   composed_is : (digest : List ℕ → Id) (s : ClientState) (stage : Stage) → StageIs P stage → StageIs P (composed_stage digest s stage)
   composed_is digest s compose is = keys_are digest s.who (next_course s.left)
   composed_is digest s (round keys) is = is
-  composed_is digest s (act flow) is = is
-  composed_is digest s (winds ending m ms) is = is
+  composed_is digest s (act step) is = is
+  composed_is digest s (winds end m ms) is = is
 
   kept : (digest : List ℕ → Id) → IsKept digest AllAre
   kept digest = record {
@@ -219,15 +227,15 @@ module _ (P : Of) (of : IsOfServes P) where
 
   module _ (open_yet : P answer.Unanswered None) where
     so_far_is : (stage : Stage) (s : ClientState) → StageIs P stage → ResultIs P (so_far stage s)
-    so_far_is (winds (answers given at) m ms) s is = is
-    so_far_is (winds retries m ms) s is = open_yet
+    so_far_is (winds (ending.Answers given at) m ms) s is = is
+    so_far_is (winds ending.Retries m ms) s is = open_yet
     so_far_is compose s is = open_yet
     so_far_is (round keys) s is = come_is (is_wanting s.sent)
       where
         come_is : (b : Bool) → P (come_to b) None
         come_is true = of.wanting
         come_is false = open_yet
-    so_far_is (act flow) s is = open_yet
+    so_far_is (act step) s is = open_yet
 
     left_are : (calls : List Call) (s : ClientState) → StageIs P s.stage → All (ResultIs P) (unanswered calls s)
     left_are [] s is = All-nil (ResultIs P)
@@ -246,7 +254,7 @@ module _ (P : Of) (of : IsOfServes P) where
         subst (All (ResultIs P)) (sym gave.1) (results_are (all_given_up s.left s) (all_given_up_are digest s are)))
         agrees
 
-    -- the answers of all results, with their places
+    -- the ending.Answers of all results, with their places
     pub outcome_are : (world : World) (h : List Event) (client : ℕ) (lines : List ClientLine) (results : List CallResult)
         → OutcomeFrom world h client lines results → All (ResultIs P) results
     outcome_are world h client [] results out = subst (All (ResultIs P)) (sym out) (All-nil (ResultIs P))

@@ -13,11 +13,18 @@ use Rattle.inf_duty.specs.Outcome.{Agrees, OutcomeFrom, all_given_up, results_of
 use Rattle.inf_duty.specs.Start.{starting}
 use Rattle.inf_duty.specs.World.{World}
 use Rattle.inf_duty.proofs.BegunKept.{IsKept, if_both, kept_all_given_up, kept_begun}
-use Rattle.inf_flow_dir.specs.Client.{ClientState, Ending, Stage, act, answers, call_ref, compose, ended, has_place, result_of, retries, round, winds, wound}
-use Rattle.inf_flow_dir.specs.Flow.{Flow, Who, clean_up}
-use Rattle.inf_flow_dir.specs.Group.{Course, composed_stage, keys_of, next_course}
-use Rattle.inf_flow_dir.specs.Heard.{heard}
-use Rattle.inf_flow_dir.specs.Turn.{Turn, act_turn, after_round, goes_on, recorded, served, turn_at, turned, winds_up}
+use Rattle.inf_message.specs.declared.ending.Ending.TheVariants as ending
+use Rattle.inf_message.specs.declared.turn.Turn.TheVariants as turn
+use Rattle.inf_duty.specs.ClientState.{ClientState, Stage, act, call_ref, compose, ended, result_of, round, winds, wound}
+use Rattle.inf_duty.specs.Flow.{clean_up}
+use Rattle.inf_duty.specs.Group.{Course, composed_stage, keys_of, next_course}
+use Rattle.inf_duty.specs.Turn.{act_turn, after_round, recorded, served, turn_at, turned}
+use Rattle.inf_duty.specs.declared.flow.Flow.{Flow}
+use Rattle.inf_message.specs.Heard.{heard}
+use Rattle.inf_message.specs.Sent.{has_place}
+use Rattle.inf_message.specs.Who.{Who}
+use Rattle.inf_message.specs.declared.ending.Ending.{Ending}
+use Rattle.inf_message.specs.declared.turn.Turn.{Turn}
 use Rattle.inf_laws_history.specs.Legal.{Legal, MayServe}
 use Rattle.inf_laws_history.proofs.ClientSteps.{by_answer}
 use Rattle.inf_laws_history.proofs.Turns.{TurnOf}
@@ -40,16 +47,16 @@ abbrev pub ResultHas : Of → List Event → CallResult → Type 0
 ResultHas P h result = IfPlaced P h result.call result.answer result.place
 
 abbrev EndingHas : Of → List Event → CallRef → Ending → Type 0
-EndingHas P h call (answers given at) = IfPlaced P h call given at
-EndingHas P h call retries = Unit {0}
+EndingHas P h call (ending.Answers given at) = IfPlaced P h call given at
+EndingHas P h call ending.Retries = Unit {0}
 
 abbrev StageHas : Of → List Event → CallRef → Stage → Type 0
-StageHas P h call (winds ending m ms) = EndingHas P h call ending
+StageHas P h call (winds end m ms) = EndingHas P h call end
 StageHas P h call other_stage = Unit {0}
 
-abbrev TurnHas : Of → List Event → CallRef → Turn → Type 0
-TurnHas P h call (goes_on next) = StageHas P h call next
-TurnHas P h call (winds_up ending more) = EndingHas P h call ending
+abbrev TurnHas : Of → List Event → CallRef → Turn Flow → Type 0
+TurnHas P h call (turn.GoesOn next) = StageHas P h call (act next)
+TurnHas P h call (turn.WindsUp end more) = EndingHas P h call end
 
 -- it lasts, and each group that is over brings it
 pub record IsBrought (world : World) (P : Of) : Type 0 where
@@ -73,8 +80,8 @@ module _ (world : World) (P : Of) (brought : IsBrought world P) where
   placed_stays e h call given (Some place) is = brought.stays e h call given place is
 
   stage_stays : (e : Event) (h : List Event) (call : CallRef) (stage : Stage) → StageHas P h call stage → StageHas P (e ∷ h) call stage
-  stage_stays e h call (winds (answers given at) m ms) is = placed_stays e h call given at is
-  stage_stays e h call (winds retries m ms) is = tt
+  stage_stays e h call (winds (ending.Answers given at) m ms) is = placed_stays e h call given at is
+  stage_stays e h call (winds ending.Retries m ms) is = tt
   stage_stays e h call compose is = tt
   stage_stays e h call (round keys) is = tt
   stage_stays e h call (act flow) is = tt
@@ -90,18 +97,18 @@ module _ (world : World) (P : Of) (brought : IsBrought world P) where
     ended_have given at s is before =
         record { results = All-push (ResultHas P h) s.results (result_of given at s.counts.last s) before is; stage = tt }
 
-    wound_have : (ending : Ending) (more : List Message) (s : ClientState) → EndingHas P h (call_ref s) ending → All (ResultHas P h) s.results → AllHave h (wound ending more s)
-    wound_have (answers given at) [] s is before = ended_have given at s is before
-    wound_have retries [] s is before = record { results = before; stage = tt }
-    wound_have ending (m ∷ ms) s is before = record { results = before; stage = is }
+    wound_have : (end : Ending) (more : List Message) (s : ClientState) → EndingHas P h (call_ref s) end → All (ResultHas P h) s.results → AllHave h (wound end more s)
+    wound_have (ending.Answers given at) [] s is before = ended_have given at s is before
+    wound_have ending.Retries [] s is before = record { results = before; stage = tt }
+    wound_have end (m ∷ ms) s is before = record { results = before; stage = is }
 
-    turned_have : (turn : Turn) (s : ClientState) → TurnHas P h (call_ref s) turn → All (ResultHas P h) s.results → AllHave h (turned turn s)
-    turned_have (goes_on next) s is before = record { results = before; stage = is }
-    turned_have (winds_up ending more) s is before = wound_have ending more s is before
+    turned_have : (t : Turn Flow) (s : ClientState) → TurnHas P h (call_ref s) t → All (ResultHas P h) s.results → AllHave h (turned t s)
+    turned_have (turn.GoesOn next) s is before = record { results = before; stage = is }
+    turned_have (turn.WindsUp end more) s is before = wound_have end more s is before
 
     given_up_have : (s : ClientState) (stage : Stage) → AllHave h s → AllHave h (given_up_in s stage)
-    given_up_have s (act flow) before = wound_have (answers answer.NoMemory None) (clean_up s.who flow) s tt before.results
-    given_up_have s (winds ending m ms) before = before
+    given_up_have s (act flow) before = wound_have (ending.Answers answer.NoMemory None) (clean_up s.who flow) s tt before.results
+    given_up_have s (winds end m ms) before = before
     given_up_have s compose before = ended_have answer.NoMemory None s tt before.results
     given_up_have s (round keys) before = ended_have answer.NoMemory None s tt before.results
 
@@ -113,7 +120,7 @@ module _ (world : World) (P : Of) (brought : IsBrought world P) where
     composed_has s compose is = keys_have (call_ref s) s.who (next_course s.left)
     composed_has s (round keys) is = is
     composed_has s (act flow) is = is
-    composed_has s (winds ending m ms) is = is
+    composed_has s (winds end m ms) is = is
 
     kept : IsKept world.digest (AllHave h)
     kept = record {
@@ -123,11 +130,10 @@ module _ (world : World) (P : Of) (brought : IsBrought world P) where
 
     -- ---- a Serve
 
-    turn_has : (call : CallRef) (turn : Turn) → TurnOf (P h call) turn → TurnHas P h call turn
-    turn_has call (goes_on (act flow)) is = tt
-    turn_has call (goes_on other_stage) is = absurd is
-    turn_has call (winds_up (answers given (Some place)) more) is = is
-    turn_has call (winds_up other_ending more) is = tt
+    turn_has : (call : CallRef) (t : Turn Flow) → TurnOf (P h call) t → TurnHas P h call t
+    turn_has call (turn.GoesOn step) is = tt
+    turn_has call (turn.WindsUp (ending.Answers given (Some place)) more) is = is
+    turn_has call (turn.WindsUp other_ending more) is = tt
 
   module _ (h : List Event) (legal : Legal world h) (number ask_place : ℕ) (given : Reply) (may : MayServe world h number ask_place given) (client : ℕ) where
     abbrev now : List Event
@@ -144,7 +150,7 @@ module _ (world : World) (P : Of) (brought : IsBrought world P) where
     by_stage here compose is has = tt
     by_stage here (round keys) is has = turn_has now (call_ref s) _ (brought.by_round h legal number ask_place given may client keys is here)
     by_stage here (act flow) is has = turn_has now (call_ref s) _ (brought.by_flow h legal number ask_place given may client flow is here)
-    by_stage here (winds ending m ms) is has = has
+    by_stage here (winds end m ms) is has = has
 
     served_has : AllHave now s → AllHave now (served world.digest ask_place told s)
     served_has before =
@@ -173,8 +179,8 @@ module _ (world : World) (P : Of) (brought : IsBrought world P) where
 
   module _ (h : List Event) where
     so_far_has : (stage : Stage) (s : ClientState) → StageHas P h (call_ref s) stage → ResultHas P h (so_far stage s)
-    so_far_has (winds (answers given at) m ms) s is = is
-    so_far_has (winds retries m ms) s is = tt
+    so_far_has (winds (ending.Answers given at) m ms) s is = is
+    so_far_has (winds ending.Retries m ms) s is = tt
     so_far_has compose s is = tt
     so_far_has (round keys) s is = tt
     so_far_has (act flow) s is = tt

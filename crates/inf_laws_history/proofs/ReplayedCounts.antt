@@ -5,7 +5,7 @@ use Rattle.std.proofs.lemmas.Bool.{cases_eq}
 use Rattle.std.proofs.lemmas.List.Elements.{All-append, All-filter, All-head, All-nil, All-tail}
 use Rattle.inf_duty.specs.Outcome.{Outcome, in_order, is_place, stands_at}
 use Rattle.inf_duty.specs.World.{World}
-use Rattle.inf_flow_dir.specs.Client.{one_if}
+use Rattle.inf_duty.specs.ClientState.{one_if}
 use Rattle.inf_laws_history.specs.Counted.{IsCounted, is_decided}
 use Rattle.inf_laws_history.specs.Replayed.{decided_of, decisions}
 use Rattle.inf_laws_history.proofs.OwnPlaces.{results_have_own_places}

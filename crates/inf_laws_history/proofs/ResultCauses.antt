@@ -7,9 +7,11 @@ use Rattle.inf_base.specs.declared.caller.CallRef.{CallRef}
 use Rattle.inf_base.specs.declared.triple.Triple.{Triple}
 use Rattle.inf_duty.specs.Duty.{asked}
 use Rattle.inf_duty.specs.World.{World}
-use Rattle.inf_flow_dir.specs.Client.{ClientState, Ending, Sent, Stage, answers, call_ref, retries, winds}
-use Rattle.inf_flow_dir.specs.Flow.{makes}
-use Rattle.inf_flow_dir.specs.Heard.{heard}
+use Rattle.inf_message.specs.declared.ending.Ending.TheVariants as ending
+use Rattle.inf_duty.specs.ClientState.{ClientState, Stage, call_ref, winds}
+use Rattle.inf_message.specs.Heard.{heard}
+use Rattle.inf_message.specs.Sent.{Sent}
+use Rattle.inf_message.specs.declared.ending.Ending.{Ending}
 use Rattle.inf_laws_history.specs.Causes.{before}
 use Rattle.inf_laws_history.specs.Legal.{Legal, MayServe}
 use Rattle.inf_message.specs.declared.ask.Ask.{Ask}
@@ -126,11 +128,11 @@ AllCaused h [] = Unit {0}
 AllCaused h (r ∷ rs) = IsCausedFor h r.call r.answer r.place × AllCaused h rs
 
 abbrev pub EndsCaused : List Event → CallRef → Ending → Type 0
-EndsCaused h call (answers given at) = IsCausedFor h call given at
-EndsCaused h call retries = Unit {0}
+EndsCaused h call (ending.Answers given at) = IsCausedFor h call given at
+EndsCaused h call ending.Retries = Unit {0}
 
 abbrev pub StageCaused : List Event → CallRef → Stage → Type 0
-StageCaused h call (winds ending m ms) = EndsCaused h call ending
+StageCaused h call (winds end m ms) = EndsCaused h call end
 StageCaused h call other_stage = Unit {0}
 
 abbrev pub IsServedIf : List Event → CallRef → ℕ → Option Told → Type 0
@@ -199,12 +201,12 @@ module _ (e : Event) (h : List Event) (call : CallRef) where
   cause_stays (answer.IdClash own kept) at is = clash_stays own kept at is
   cause_stays other_answer at is = tt
 
-  ending_stays : (ending : Ending) → EndsCaused h call ending → EndsCaused (e ∷ h) call ending
-  ending_stays (answers given at) is = cause_stays given at is
-  ending_stays retries is = tt
+  ending_stays : (end : Ending) → EndsCaused h call end → EndsCaused (e ∷ h) call end
+  ending_stays (ending.Answers given at) is = cause_stays given at is
+  ending_stays ending.Retries is = tt
 
   stage_stays : (stage : Stage) → StageCaused h call stage → StageCaused (e ∷ h) call stage
-  stage_stays (winds ending m ms) is = ending_stays ending is
+  stage_stays (winds end m ms) is = ending_stays end is
   stage_stays other_stage is = tt
 
   if_stays : (place : ℕ) (told : Option Told) → IsServedIf h call place told → IsServedIf (e ∷ h) call place told

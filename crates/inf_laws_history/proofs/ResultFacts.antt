@@ -12,10 +12,15 @@ use Rattle.inf_duty.specs.Duty.{asked, given_up_in}
 use Rattle.inf_duty.specs.Outcome.{Agrees, all_given_up, results_of, so_far, stands_at, unanswered}
 use Rattle.inf_duty.specs.Start.{starting}
 use Rattle.inf_duty.specs.World.{World}
-use Rattle.inf_flow_dir.specs.Client.{ClientState, Ending, Stage, act, answers, compose, ended, rest_of, result_of, retries, round, winds, wound}
-use Rattle.inf_flow_dir.specs.Flow.{Who, clean_up}
-use Rattle.inf_flow_dir.specs.Group.{Course, composed_stage, keys_of, next_course}
-use Rattle.inf_flow_dir.specs.Turn.{Turn, act_turn, after_round, goes_on, recorded, served, turn_at, turned, winds_up}
+use Rattle.inf_message.specs.declared.ending.Ending.TheVariants as ending
+use Rattle.inf_message.specs.declared.turn.Turn.TheVariants as turn
+use Rattle.inf_duty.specs.ClientState.{ClientState, Stage, act, compose, ended, rest_of, result_of, round, winds, wound}
+use Rattle.inf_duty.specs.Flow.{clean_up}
+use Rattle.inf_duty.specs.Group.{Course, composed_stage, keys_of, next_course}
+use Rattle.inf_duty.specs.Turn.{act_turn, after_round, recorded, served, turn_at, turned}
+use Rattle.inf_message.specs.Who.{Who}
+use Rattle.inf_message.specs.declared.ending.Ending.{Ending}
+use Rattle.inf_message.specs.declared.turn.Turn.{Turn}
 use Rattle.inf_laws_history.specs.Decisions.{decided_at_stage, decided_by_turn, decided_for, is_of_tree, of_tree}
 use Rattle.inf_laws_history.specs.Decisions.{decided_call as decides}
 use Rattle.inf_laws_history.specs.Replayed.{decided_by, decided_call, decided_of}
@@ -28,6 +33,7 @@ use Rattle.inf_duty.proofs.BegunKept.{IsKept, kept_all_given_up, kept_begun}
 use Rattle.inf_laws_history.proofs.ClientSteps.{Lasts, begun_lasts, by_serve, lasts_kept, served_lasts}
 use Rattle.inf_laws_history.proofs.Open.{IsOpen, TellsFlow, told_completes}
 use Rattle.inf_laws_history.proofs.Turns.{IsAt, IsOfRound, TurnOf, act_turn_at, round_turn_is, weaker_turn}
+use Rattle.inf_duty.specs.declared.flow.Flow.{Flow}
 
 -- ---- what a client reads off its line of the setup
 
@@ -156,24 +162,24 @@ none_only place at these none = ap (only_at place at) none ∙ no_more (eqb plac
 
 -- the results of a call that is decided
 abbrev pub by_ending : ℕ → Caller → List Call → Ending → List Decided
-by_ending place caller left (answers given at) = if_at place at (called caller left given)
-by_ending place caller left retries = []
+by_ending place caller left (ending.Answers given at) = if_at place at (called caller left given)
+by_ending place caller left ending.Retries = []
 
 abbrev pub by_stage : ℕ → Caller → List Call → Stage → List Decided
-by_stage place caller left (winds ending m ms) = by_ending place caller left ending
+by_stage place caller left (winds end m ms) = by_ending place caller left end
 by_stage place caller left other_stage = []
 
 -- what a client's calls come to at a place: those that ended, and the one that is decided and winds up
 abbrev pub comes_to : World → ℕ → ClientState → List Decided
 comes_to world place s = tree_at world place s.results ++ by_stage place s.who.caller s.left s.stage
 
-none_called : (place : ℕ) (caller : Caller) (ending : Ending) → by_ending place caller [] ending ≡ []
-none_called place caller (answers given None) = refl
-none_called place caller (answers given (Some at)) = no_more (eqb place at)
-none_called place caller retries = refl
+none_called : (place : ℕ) (caller : Caller) (end : Ending) → by_ending place caller [] end ≡ []
+none_called place caller (ending.Answers given None) = refl
+none_called place caller (ending.Answers given (Some at)) = no_more (eqb place at)
+none_called place caller ending.Retries = refl
 
 none_staged : (place : ℕ) (caller : Caller) (stage : Stage) → by_stage place caller [] stage ≡ []
-none_staged place caller (winds ending m ms) = none_called place caller ending
+none_staged place caller (winds end m ms) = none_called place caller end
 none_staged place caller compose = refl
 none_staged place caller (round keys) = refl
 none_staged place caller (act flow) = refl
@@ -196,8 +202,8 @@ module _ (world : World) (client : ℕ) (line : Option ClientLine) (found : slic
   -- ---- what is decided so far
 
   so_far_at : (stage : Stage) (s : ClientState) → Reads world client line s → tree_at world place (so_far stage s ∷ []) ≡ by_stage place s.who.caller s.left stage
-  so_far_at (winds (answers given at) m ms) s reads = one_result given at None s reads
-  so_far_at (winds retries m ms) s reads = refl
+  so_far_at (winds (ending.Answers given at) m ms) s reads = one_result given at None s reads
+  so_far_at (winds ending.Retries m ms) s reads = refl
   so_far_at compose s reads = refl
   so_far_at (round keys) s reads = refl
   so_far_at (act flow) s reads = refl
@@ -224,20 +230,20 @@ module _ (world : World) (client : ℕ) (line : Option ClientLine) (found : slic
   composed_at compose s = keys_at s.who s.who.caller s.left (next_course s.left)
   composed_at (round keys) s = refl
   composed_at (act flow) s = refl
-  composed_at (winds ending m ms) s = refl
+  composed_at (winds end m ms) s = refl
 
   gave_up_at : (s : ClientState) → comes_to world place (ended answer.NoMemory None s) ≡ tree_at world place s.results ++ []
   gave_up_at s =
       append-nil (tree_at world place (ended answer.NoMemory None s).results)
       ∙ tree_at_both world place s.results _
 
-  winding_at : (more : List Message) (s : ClientState) → comes_to world place (wound (answers answer.NoMemory None) more s) ≡ tree_at world place s.results ++ []
+  winding_at : (more : List Message) (s : ClientState) → comes_to world place (wound (ending.Answers answer.NoMemory None) more s) ≡ tree_at world place s.results ++ []
   winding_at [] s = gave_up_at s
   winding_at (m ∷ ms) s = refl
 
   given_up_at : (stage : Stage) (s : ClientState) → s.stage ≡ stage → comes_to world place (given_up_in s stage) ≡ tree_at world place s.results ++ by_stage place s.who.caller s.left stage
   given_up_at (act flow) s is = winding_at (clean_up s.who flow) s
-  given_up_at (winds ending m ms) s is = ap (λ stage. tree_at world place s.results ++ by_stage place s.who.caller s.left stage) is
+  given_up_at (winds end m ms) s is = ap (λ stage. tree_at world place s.results ++ by_stage place s.who.caller s.left stage) is
   given_up_at compose s is = gave_up_at s
   given_up_at (round keys) s is = gave_up_at s
 
@@ -270,15 +276,15 @@ module _ (world : World) (client : ℕ) (line : Option ClientLine) (found : slic
 
   -- ---- the turn after a group
 
-  wound_comes : (ending : Ending) (more : List Message) (s : ClientState) → Reads world client line s
-      → comes_to world place (wound ending more s) ≡ tree_at world place s.results ++ by_ending place s.who.caller s.left ending
-  wound_comes (answers given at) [] s reads =
+  wound_comes : (end : Ending) (more : List Message) (s : ClientState) → Reads world client line s
+      → comes_to world place (wound end more s) ≡ tree_at world place s.results ++ by_ending place s.who.caller s.left end
+  wound_comes (ending.Answers given at) [] s reads =
       append-nil (tree_at world place (ended given at s).results)
       ∙ tree_at_both world place s.results _
       ∙ ap (λ more. tree_at world place s.results ++ more) (one_result given at s.counts.last s reads)
-  wound_comes retries [] s reads = refl
-  wound_comes (answers given at) (m ∷ ms) s reads = refl
-  wound_comes retries (m ∷ ms) s reads = refl
+  wound_comes ending.Retries [] s reads = refl
+  wound_comes (ending.Answers given at) (m ∷ ms) s reads = refl
+  wound_comes ending.Retries (m ∷ ms) s reads = refl
 
   -- an answer with a place has this one, or is not the tree's
   abbrev IsSaidAt : ℕ → Answer → ℕ → Type 0
@@ -298,18 +304,17 @@ module _ (world : World) (client : ℕ) (line : Option ClientLine) (found : slic
       none_only place at _ none ∙ sym (none_only place now _ (called_is s s.left given ∙ none)))
       said
 
-  turned_comes : (now : ℕ) (turn : Turn) (s : ClientState) → Reads world client line s → TurnOf (IsSaidAt now) turn
-      → comes_to world place (turned turn s) ≡ tree_at world place s.results ++ only_at place now (decided_by_turn s turn)
-  turned_comes now (goes_on (act flow)) s reads is = ap (λ more. tree_at world place s.results ++ more) (sym (no_more (eqb place now)))
-  turned_comes now (goes_on other_stage) s reads is = absurd is
-  turned_comes now (winds_up (answers given (Some at)) more) s reads is =
-      wound_comes (answers given (Some at)) more s reads
+  turned_comes : (now : ℕ) (t : Turn Flow) (s : ClientState) → Reads world client line s → TurnOf (IsSaidAt now) t
+      → comes_to world place (turned t s) ≡ tree_at world place s.results ++ only_at place now (decided_by_turn s t)
+  turned_comes now (turn.GoesOn step) s reads is = ap (λ more. tree_at world place s.results ++ more) (sym (no_more (eqb place now)))
+  turned_comes now (turn.WindsUp (ending.Answers given (Some at)) more) s reads is =
+      wound_comes (ending.Answers given (Some at)) more s reads
       ∙ ap (λ these. tree_at world place s.results ++ these) (said_at now at given s is)
-  turned_comes now (winds_up (answers given None) more) s reads is =
-      wound_comes (answers given None) more s reads
+  turned_comes now (turn.WindsUp (ending.Answers given None) more) s reads is =
+      wound_comes (ending.Answers given None) more s reads
       ∙ ap (λ these. tree_at world place s.results ++ these) (sym (no_more (eqb place now)))
-  turned_comes now (winds_up retries more) s reads is =
-      wound_comes retries more s reads
+  turned_comes now (turn.WindsUp ending.Retries more) s reads is =
+      wound_comes ending.Retries more s reads
       ∙ ap (λ these. tree_at world place s.results ++ these) (sym (no_more (eqb place now)))
 
   stage_comes : (told : Told) (stage : Stage) (s : ClientState) → Reads world client line s → TellsFlow told stage s.sent
@@ -325,10 +330,10 @@ module _ (world : World) (client : ℕ) (line : Option ClientLine) (found : slic
       turned_comes told.serve_place (act_turn world.digest s.who flow s.sent) s reads
       (weaker_turn (IsAt told.serve_place) (IsSaidAt told.serve_place) (λ given at is. inl is) _ (act_turn_at world.digest s.who flow s.sent told tells))
       ∙ ap (λ front. front ++ only_at place told.serve_place (decided_by_turn s (act_turn world.digest s.who flow s.sent))) (sym (append-nil (tree_at world place s.results)))
-  stage_comes told (winds ending m ms) s reads tells =
-      wound_comes ending ms s reads
+  stage_comes told (winds end m ms) s reads tells =
+      wound_comes end ms s reads
       ∙ sym (append-nil _)
-      ∙ ap (λ more. (tree_at world place s.results ++ by_ending place s.who.caller s.left ending) ++ more) (sym (no_more (eqb place told.serve_place)))
+      ∙ ap (λ more. (tree_at world place s.results ++ by_ending place s.who.caller s.left end) ++ more) (sym (no_more (eqb place told.serve_place)))
 
   -- a Serve adds what it decides, at its own place
   pub served_comes : (ask_place : ℕ) (told : Told) (s : ClientState) → IsOpen s → Reads world client line s

@@ -3,11 +3,13 @@ use Rattle.std.proofs.Common.{◌≡◌, ℕ, ◌||◌, Bool, true, false, if◌
 use Rattle.inf_base.specs.declared.call.Call.{Call}
 use Rattle.inf_base.specs.declared.caller.Caller.{Caller}
 use Rattle.inf_base.specs.declared.id.Id.{Id}
-use Rattle.inf_flow_dir.specs.Client.{ClientState, Sent, Stage, act, compose, has_place, round, told_at, winds}
-use Rattle.inf_flow_dir.specs.Flow.{Flow, message_of}
-use Rattle.inf_flow_dir.specs.Group.{group, next_course}
-use Rattle.inf_flow_dir.specs.Heard.{heard}
-use Rattle.inf_flow_dir.specs.Turn.{is_complete, recorded}
+use Rattle.inf_duty.specs.ClientState.{ClientState, Stage, act, compose, round, winds}
+use Rattle.inf_duty.specs.Flow.{message_of}
+use Rattle.inf_duty.specs.Group.{group, next_course}
+use Rattle.inf_duty.specs.Turn.{is_complete, recorded}
+use Rattle.inf_duty.specs.declared.flow.Flow.{Flow}
+use Rattle.inf_message.specs.Heard.{heard}
+use Rattle.inf_message.specs.Sent.{Sent, has_place, told_at}
 use Rattle.inf_laws_client.specs.Asked.{AreAskedFor, AsksItsGroup}
 use Rattle.inf_laws_directory.specs.Owes.{Goes, Moment, Owes}
 use Rattle.inf_laws_directory.specs.Phases.{Phase, has_made, has_reserved, has_sealed, has_unlinked, idle}

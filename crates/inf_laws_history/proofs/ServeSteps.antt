@@ -11,9 +11,9 @@ use Rattle.inf_base.specs.declared.key.LookKey.TheVariants as look
 use Rattle.inf_base.specs.Same.{dir_of}
 use Rattle.inf_duty.specs.After.{client_after}
 use Rattle.inf_duty.specs.World.{World}
-use Rattle.inf_flow_dir.specs.Client.{call_ref, ClientState}
-use Rattle.inf_flow_dir.specs.Flow.{Who}
-use Rattle.inf_flow_dir.specs.Heard.{heard}
+use Rattle.inf_duty.specs.ClientState.{ClientState, call_ref}
+use Rattle.inf_message.specs.Heard.{heard}
+use Rattle.inf_message.specs.Who.{Who}
 use Rattle.inf_laws_client.specs.Asked.{AnswersAsked}
 use Rattle.inf_laws_client.specs.Paths.{AnswersLookup, IsToldFor, KeepsToPath, name_of}
 use Rattle.inf_laws_client.specs.Told.{KnowsOnly, TellsOnly}

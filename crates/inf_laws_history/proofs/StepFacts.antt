@@ -6,7 +6,7 @@ use Rattle.inf_base.specs.declared.call.Call.{Call}
 use Rattle.inf_base.specs.declared.caller.CallRef.{CallRef}
 use Rattle.inf_duty.specs.After.{client_after}
 use Rattle.inf_duty.specs.World.{World}
-use Rattle.inf_flow_dir.specs.Flow.{Who}
+use Rattle.inf_message.specs.Who.{Who}
 use Rattle.inf_laws_client.specs.Asked.{AsksItsGroup}
 use Rattle.inf_laws_client.specs.Paths.{KeepsToPath}
 use Rattle.inf_laws_client.specs.Told.{KnowsOnly}

@@ -16,11 +16,22 @@ use Rattle.inf_duty.specs.Duty.{asked, begun, given_up_in}
 use Rattle.inf_duty.specs.Outcome.{Agrees, Outcome, OutcomeFrom, all_given_up, come_to, results_of, so_far, unanswered}
 use Rattle.inf_duty.specs.Start.{starting}
 use Rattle.inf_duty.specs.World.{World}
-use Rattle.inf_flow_dir.specs.Client.{ClientState, Ending, Sent, Stage, act, answers, call_ref, compose, ended, has_place, result_of, retries, round, told_at, winds, wound}
-use Rattle.inf_flow_dir.specs.Flow.{Flow, Who, birth_of, clean_up, finishes, links, makes, message_of, reserves, seals, unlinks}
-use Rattle.inf_flow_dir.specs.Group.{Course, composed_stage, group, keys_of, next_course}
-use Rattle.inf_flow_dir.specs.Heard.{heard}
-use Rattle.inf_flow_dir.specs.Turn.{Next, Turn, act_turn, after_act, after_make, after_round, by_next, fails, follow, from_root, goes_on, is_busy, is_wanting, links_to, next_entry, recorded, served, steps, stops, told_entry, turn_at, turned, winds_up}
+use Rattle.inf_flow_dir.specs.declared.dir_flow.DirFlow.TheVariants as dir_flow
+use Rattle.inf_message.specs.declared.ending.Ending.TheVariants as ending
+use Rattle.inf_flow_file.specs.declared.file_flow.FileFlow.TheVariants as file_flow
+use Rattle.inf_duty.specs.declared.flow.Flow.TheVariants as flow
+use Rattle.inf_message.specs.declared.turn.Turn.TheVariants as turn
+use Rattle.inf_duty.specs.ClientState.{ClientState, Stage, act, call_ref, compose, ended, result_of, round, winds, wound}
+use Rattle.inf_duty.specs.Flow.{after_act, clean_up, message_of}
+use Rattle.inf_duty.specs.Group.{Course, composed_stage, group, keys_of, next_course}
+use Rattle.inf_duty.specs.Turn.{Next, act_turn, after_round, by_next, follow, from_root, is_busy, links_to, next_entry, recorded, served, steps, stops, told_entry, turn_at, turned}
+use Rattle.inf_duty.specs.declared.flow.Flow.{Flow}
+use Rattle.inf_message.specs.Heard.{heard}
+use Rattle.inf_message.specs.Sent.{Sent, has_place, is_wanting, told_at}
+use Rattle.inf_message.specs.Turn.{fails, turn_as}
+use Rattle.inf_message.specs.Who.{Who, birth_of}
+use Rattle.inf_message.specs.declared.ending.Ending.{Ending}
+use Rattle.inf_message.specs.declared.turn.Turn.{Turn}
 use Rattle.inf_laws_client.specs.Asked.{AreAskedFor}
 use Rattle.inf_laws_history.specs.Legal.{Legal, MayServe}
 use Rattle.inf_laws_history.specs.Objects.{WasAskedIn}
@@ -57,14 +68,14 @@ module _ (h : List Event) where
     sent = tt;
   }
 
-  wound_caused : (ending : Ending) (more : List Message) (s : ClientState) → AllCaused h s.results → EndsCaused h (call_ref s) ending → IsCaused h (wound ending more s)
-  wound_caused (answers given at) [] s all new = ended_caused given at s all new
-  wound_caused retries [] s all new = record { results = all; stage = tt; sent = tt }
-  wound_caused ending (m ∷ ms) s all new = record { results = all; stage = new; sent = tt }
+  wound_caused : (end : Ending) (more : List Message) (s : ClientState) → AllCaused h s.results → EndsCaused h (call_ref s) end → IsCaused h (wound end more s)
+  wound_caused (ending.Answers given at) [] s all new = ended_caused given at s all new
+  wound_caused ending.Retries [] s all new = record { results = all; stage = tt; sent = tt }
+  wound_caused end (m ∷ ms) s all new = record { results = all; stage = new; sent = tt }
 
   given_up_caused : (stage : Stage) (s : ClientState) → IsCaused h s → IsCaused h (given_up_in s stage)
-  given_up_caused (act flow) s is = wound_caused (answers answer.NoMemory None) (clean_up s.who flow) s is.results tt
-  given_up_caused (winds ending m ms) s is = is
+  given_up_caused (act step) s is = wound_caused (ending.Answers answer.NoMemory None) (clean_up s.who step) s is.results tt
+  given_up_caused (winds end m ms) s is = is
   given_up_caused compose s is = ended_caused answer.NoMemory None s is.results tt
   given_up_caused (round keys) s is = ended_caused answer.NoMemory None s is.results tt
 
@@ -75,9 +86,9 @@ module _ (h : List Event) where
   -- ---- what comes of a group
 
   module _ (call : CallRef) where
-    abbrev TurnCaused : Turn → Type 0
-    TurnCaused (goes_on next) = StageCaused h call next
-    TurnCaused (winds_up ending more) = EndsCaused h call ending
+    abbrev TurnCaused : Turn Flow → Type 0
+    TurnCaused (turn.GoesOn next) = StageCaused h call (act next)
+    TurnCaused (turn.WindsUp end more) = EndsCaused h call end
 
     heard_busy : (given : Reply) (by : CallRef) (at : Spot) (born : ℕ) → heard given ≡ reply.Busy by at born → given ≡ reply.Busy by at born
     heard_busy (reply.Listing items) by at born is = absurd cc
@@ -119,17 +130,12 @@ module _ (h : List Event) where
           makes = ap (λ (p : Posted). p.ask.request) same ∙ was.is;
         }
 
-    fails_caused : (who : Who) (flow : Flow) (place : ℕ) (told : Told) (given : Reply) → IsServedFor h call place told → told.reply ≡ given
-        → TurnCaused (fails who flow told.serve_place given)
-    fails_caused who flow place told (reply.Busy by at born) is reads = busy_for place told by at born is reads
-    fails_caused who flow place told (reply.Refused error) is reads = tt
-    fails_caused who flow place told reply.NoMem is reads = tt
-    fails_caused who flow place told any_reply is reads = tt
-
-    make_caused : (who : Who) (flow : Flow) (own : Triple) (place : ℕ) (told : Told) (given : Reply) → IsServedFor h call place told
-        → WasAskedIn h place (request.Make own) → told.reply ≡ given → TurnCaused (after_make who flow own told.serve_place given)
-    make_caused who flow own place told (reply.Clash kept) is was reads = clash_for place told own kept is was reads
-    make_caused who flow own place told any_reply is was reads = fails_caused who flow place told any_reply is reads
+    fails_caused : {F : Type 0} (wrap : F → Flow) (who : Who) (step : Flow) (place : ℕ) (told : Told) (given : Reply) → IsServedFor h call place told → told.reply ≡ given
+        → TurnCaused (turn_as wrap (fails (clean_up who step) told.serve_place given))
+    fails_caused wrap who step place told (reply.Busy by at born) is reads = busy_for place told by at born is reads
+    fails_caused wrap who step place told (reply.Refused error) is reads = tt
+    fails_caused wrap who step place told reply.NoMem is reads = tt
+    fails_caused wrap who step place told any_reply is reads = tt
 
     -- ---- a round
 
@@ -154,7 +160,7 @@ module _ (h : List Event) where
     next_caused ahead place None is = tt
     next_caused ahead place (Some told) is = next_by ahead place told.serve_place told.reply is
 
-    by_next_caused : (course : Course) (chain : List Entry) (name : List ℕ) (names : List (List ℕ)) (go : Entry → Turn) (next : Next) → NextCaused next
+    by_next_caused : (course : Course) (chain : List Entry) (name : List ℕ) (names : List (List ℕ)) (go : Entry → Turn Flow) (next : Next) → NextCaused next
         → ((e : Entry) → TurnCaused (go e)) → TurnCaused (by_next course chain name names go next)
     by_next_caused course chain name names go (steps e) is rest = rest e
     by_next_caused course chain name names go stops is rest = tt
@@ -176,24 +182,24 @@ module _ (h : List Event) where
     root_caused course place told (reply.Busy by at born) xs is reads are = busy_for place told by at born is reads
     root_caused course place told any_reply xs is reads are = tt
 
-    turn_if : (b : Bool) (x y : Turn) → TurnCaused x → TurnCaused y → TurnCaused (if b then x else y)
+    turn_if : (b : Bool) (x y : Turn Flow) → TurnCaused x → TurnCaused y → TurnCaused (if b then x else y)
     turn_if true x y one two = one
     turn_if false x y one two = two
 
     first_caused : (course : Course) (place : ℕ) (told : Option Told) (xs : List Sent) → IsServedIf h call place told → AreServed h call xs
         → TurnCaused (after_round (Some course) (record { place = place; told = told } ∷ xs))
-    first_caused course place None xs is are = turn_if _ (winds_up (answers answer.NoMemory None) []) (winds_up retries []) tt tt
+    first_caused course place None xs is are = turn_if _ (turn.WindsUp (ending.Answers answer.NoMemory None) []) (turn.WindsUp ending.Retries []) tt tt
     first_caused course place (Some told) xs is are =
-        turn_if _ (winds_up (answers answer.NoMemory None) []) (from_root course xs told told.reply) tt (root_caused course place told told.reply xs is refl are)
+        turn_if _ (turn.WindsUp (ending.Answers answer.NoMemory None) []) (from_root course xs told told.reply) tt (root_caused course place told told.reply xs is refl are)
 
     round_caused : (found : Option Course) (sent : List Sent) → AreServed h call sent → TurnCaused (after_round found sent)
     round_caused None sent are = tt
     round_caused (Some course) [] are = tt
     round_caused (Some course) (x ∷ xs) are = first_caused course x.place x.told xs are.0 are.1
 
-  turned_caused : (turn : Turn) (s : ClientState) → AllCaused h s.results → TurnCaused (call_ref s) turn → IsCaused h (turned turn s)
-  turned_caused (goes_on next) s all is = record { results = all; stage = is; sent = tt }
-  turned_caused (winds_up ending more) s all is = wound_caused ending more s all is
+  turned_caused : (t : Turn Flow) (s : ClientState) → AllCaused h s.results → TurnCaused (call_ref s) t → IsCaused h (turned t s)
+  turned_caused (turn.GoesOn next) s all is = record { results = all; stage = is; sent = tt }
+  turned_caused (turn.WindsUp end more) s all is = wound_caused end more s all is
 
 module _ (digest : List ℕ → Id) (h : List Event) where
   keys_caused : (call : CallRef) (who : Who) (course : Option Course) → StageCaused h call (keys_of digest who course)
@@ -203,8 +209,8 @@ module _ (digest : List ℕ → Id) (h : List Event) where
   composed_caused : (stage : Stage) (s : ClientState) → StageCaused h (call_ref s) stage → StageCaused h (call_ref s) (composed_stage digest s stage)
   composed_caused compose s is = keys_caused (call_ref s) s.who (next_course s.left)
   composed_caused (round keys) s is = tt
-  composed_caused (act flow) s is = tt
-  composed_caused (winds ending m ms) s is = is
+  composed_caused (act step) s is = tt
+  composed_caused (winds end m ms) s is = is
 
   keeps_causes : IsKept digest (IsCaused h)
   keeps_causes = record {
@@ -219,35 +225,36 @@ module _ (digest : List ℕ → Id) (h : List Event) where
       record { results = now.results; stage = now.stage; sent = newly_sent h (call_ref t) place t.sent now.sent }
 
   module _ (call : CallRef) where
-    after_act_caused : (who : Who) (flow : Flow) (place : ℕ) (told : Told) (given : Reply) → IsServedFor h call place told
-        → WasAskedIn h place (message_of who flow).request → told.reply ≡ given → TurnCaused h call (after_act digest who flow place told.serve_place given)
-    after_act_caused who (finishes chain (op.Create name mode)) place told reply.Fine is was reads = tt
-    after_act_caused who (finishes chain (op.Stat name)) place told (reply.Stat kind meta) is was reads = tt
-    after_act_caused who (reserves chain name mode) place told (reply.Reserved version) is was reads = tt
-    after_act_caused who (makes chain name mode version id) place told reply.Fine is was reads = tt
-    after_act_caused who (makes chain name mode version id) place told given is was reads =
-        make_caused h call who (makes chain name mode version id) (birth_of who chain name version) place told given is was reads
-    after_act_caused who (links chain name mode version dir) place told reply.Fine is was reads = tt
-    after_act_caused who (seals chain) place told reply.Fine is was reads = tt
-    after_act_caused who (unlinks chain) place told reply.Fine is was reads = tt
-    after_act_caused who flow place told given is was reads = fails_caused h call who flow place told given is reads
+    after_act_caused : (who : Who) (step : Flow) (place : ℕ) (told : Told) (given : Reply) → IsServedFor h call place told
+        → WasAskedIn h place (message_of who step).request → told.reply ≡ given → TurnCaused h call (after_act digest who step place told.serve_place given)
+    after_act_caused who (flow.File (file_flow.Finishes chain (op.Create name mode))) place told reply.Fine is was reads = tt
+    after_act_caused who (flow.File (file_flow.Finishes chain (op.Stat name))) place told (reply.Stat kind meta) is was reads = tt
+    after_act_caused who (flow.Dir (dir_flow.Reserves chain name mode)) place told (reply.Reserved version) is was reads = tt
+    after_act_caused who (flow.Dir (dir_flow.Makes chain name mode version id)) place told reply.Fine is was reads = tt
+    after_act_caused who (flow.Dir (dir_flow.Makes chain name mode version id)) place told (reply.Clash kept) is was reads =
+        clash_for h call place told (birth_of who chain name version) kept is was reads
+    after_act_caused who (flow.Dir (dir_flow.Links chain name mode version dir)) place told reply.Fine is was reads = tt
+    after_act_caused who (flow.Dir (dir_flow.Seals chain)) place told reply.Fine is was reads = tt
+    after_act_caused who (flow.Dir (dir_flow.Unlinks chain)) place told reply.Fine is was reads = tt
+    after_act_caused who (flow.File step) place told given is was reads = fails_caused h call flow.File who (flow.File step) place told given is reads
+    after_act_caused who (flow.Dir step) place told given is was reads = fails_caused h call flow.Dir who (flow.Dir step) place told given is reads
 
-    told_act_caused : (who : Who) (flow : Flow) (place : ℕ) (told : Option Told) (xs : List Sent) → IsServedIf h call place told
-        → WasAskedIn h place (message_of who flow).request → TurnCaused h call (act_turn digest who flow (record { place = place; told = told } ∷ xs))
-    told_act_caused who flow place None xs is was = tt
-    told_act_caused who flow place (Some told) xs is was = after_act_caused who flow place told told.reply is was refl
+    told_act_caused : (who : Who) (step : Flow) (place : ℕ) (told : Option Told) (xs : List Sent) → IsServedIf h call place told
+        → WasAskedIn h place (message_of who step).request → TurnCaused h call (act_turn digest who step (record { place = place; told = told } ∷ xs))
+    told_act_caused who step place None xs is was = tt
+    told_act_caused who step place (Some told) xs is was = after_act_caused who step place told told.reply is was refl
 
-    act_caused : (who : Who) (flow : Flow) (sent : List Sent) → AreServed h call sent → AreAskedFor (WasAskedIn h) (message_of who flow ∷ []) sent
-        → TurnCaused h call (act_turn digest who flow sent)
-    act_caused who flow [] are asks = tt
-    act_caused who flow (x ∷ xs) are asks = told_act_caused who flow x.place x.told xs are.0 asks.0
+    act_caused : (who : Who) (step : Flow) (sent : List Sent) → AreServed h call sent → AreAskedFor (WasAskedIn h) (message_of who step ∷ []) sent
+        → TurnCaused h call (act_turn digest who step sent)
+    act_caused who step [] are asks = tt
+    act_caused who step (x ∷ xs) are asks = told_act_caused who step x.place x.told xs are.0 asks.0
 
   stage_caused : (stage : Stage) (s : ClientState) → StageCaused h (call_ref s) stage → AreServed h (call_ref s) s.sent
       → AreAskedFor (WasAskedIn h) (group s.who stage) s.sent → TurnCaused h (call_ref s) (turn_at digest s stage)
   stage_caused compose s is are asks = tt
   stage_caused (round keys) s is are asks = round_caused h (call_ref s) (next_course s.left) s.sent are
-  stage_caused (act flow) s is are asks = act_caused (call_ref s) s.who flow s.sent are asks
-  stage_caused (winds ending m ms) s is are asks = is
+  stage_caused (act step) s is are asks = act_caused (call_ref s) s.who step s.sent are asks
+  stage_caused (winds end m ms) s is are asks = is
 
 -- ---- an answer more
 
@@ -327,15 +334,15 @@ caused_after world (event.Serve number ask_place given ∷ h) legal client =
 
 so_far_caused : (h : List Event) (stage : Stage) (s : ClientState) → StageCaused h (call_ref s) stage
     → IsCausedFor h (so_far stage s).call (so_far stage s).answer (so_far stage s).place
-so_far_caused h (winds (answers given at) m ms) s is = is
-so_far_caused h (winds retries m ms) s is = tt
+so_far_caused h (winds (ending.Answers given at) m ms) s is = is
+so_far_caused h (winds ending.Retries m ms) s is = tt
 so_far_caused h compose s is = tt
 so_far_caused h (round keys) s is = by (is_wanting s.sent)
   where
     by : (b : Bool) → IsCausedFor h (call_ref s) (come_to b) None
     by true = tt
     by false = tt
-so_far_caused h (act flow) s is = tt
+so_far_caused h (act step) s is = tt
 
 unanswered_caused : (h : List Event) (calls : List Call) (s : ClientState) → StageCaused h (call_ref s) s.stage → AllCaused h (unanswered calls s)
 unanswered_caused h [] s is = tt

@@ -6,12 +6,20 @@ use Rattle.std.proofs.lemmas.Bool.{or_left, or_right}
 use Rattle.inf_base.specs.declared.answer.Answer.{Answer}
 use Rattle.inf_base.specs.declared.answer.Answer.TheVariants as answer
 use Rattle.inf_base.specs.declared.entry.Entry.{Entry}
-use Rattle.inf_base.specs.declared.triple.Triple.{Triple}
 use Rattle.inf_base.specs.Same.{dir_of}
-use Rattle.inf_flow_dir.specs.Client.{Sent, act, answers, retries}
-use Rattle.inf_flow_dir.specs.Flow.{Flow, Who, birth_of, finishes, links, makes, reserves, seals, unlinks}
-use Rattle.inf_flow_dir.specs.Group.{Course}
-use Rattle.inf_flow_dir.specs.Turn.{Next, Turn, act_turn, after_act, after_make, after_round, by_next, fails, follow, from_root, goes_on, is_busy, links_to, next_entry, steps, stops, told_entry, winds_up}
+use Rattle.inf_flow_dir.specs.declared.dir_flow.DirFlow.TheVariants as dir_flow
+use Rattle.inf_message.specs.declared.ending.Ending.TheVariants as ending
+use Rattle.inf_flow_file.specs.declared.file_flow.FileFlow.TheVariants as file_flow
+use Rattle.inf_duty.specs.declared.flow.Flow.TheVariants as flow
+use Rattle.inf_message.specs.declared.turn.Turn.TheVariants as turn
+use Rattle.inf_duty.specs.Flow.{after_act, clean_up}
+use Rattle.inf_duty.specs.Group.{Course}
+use Rattle.inf_duty.specs.Turn.{Next, act_turn, after_round, by_next, follow, from_root, is_busy, links_to, next_entry, steps, stops, told_entry}
+use Rattle.inf_duty.specs.declared.flow.Flow.{Flow}
+use Rattle.inf_message.specs.Sent.{Sent}
+use Rattle.inf_message.specs.Turn.{fails, turn_as}
+use Rattle.inf_message.specs.Who.{Who}
+use Rattle.inf_message.specs.declared.turn.Turn.{Turn}
 use Rattle.inf_laws_history.specs.Decisions.{is_of_tree}
 use Rattle.inf_message.specs.declared.op.Op.TheVariants as op
 use Rattle.inf_message.specs.declared.reply.Reply.{Reply}
@@ -20,65 +28,60 @@ use Rattle.inf_message.specs.History.{Told}
 use Rattle.inf_message.proofs.HistoryLaws.{itself}
 
 -- it goes on with a flow's message; and where it ends with an answer and a place, this holds of them
-abbrev pub TurnOf : (Answer → ℕ → Type 0) → Turn → Type 0
-TurnOf A (goes_on (act flow)) = Unit {0}
-TurnOf A (goes_on other_stage) = ⊥
-TurnOf A (winds_up (answers given (Some place)) more) = A given place
-TurnOf A (winds_up other_ending more) = Unit {0}
+abbrev pub TurnOf : (Answer → ℕ → Type 0) → Turn Flow → Type 0
+TurnOf A (turn.GoesOn step) = Unit {0}
+TurnOf A (turn.WindsUp (ending.Answers given (Some place)) more) = A given place
+TurnOf A (turn.WindsUp other_ending more) = Unit {0}
 
-pub weaker_turn : (A B : Answer → ℕ → Type 0) → ((given : Answer) (place : ℕ) → A given place → B given place) → (turn : Turn) → TurnOf A turn → TurnOf B turn
-weaker_turn A B weaker (goes_on (act flow)) is = tt
-weaker_turn A B weaker (goes_on other_stage) is = absurd is
-weaker_turn A B weaker (winds_up (answers given (Some place)) more) is = weaker given place is
-weaker_turn A B weaker (winds_up other_ending more) is = tt
+pub weaker_turn : (A B : Answer → ℕ → Type 0) → ((given : Answer) (place : ℕ) → A given place → B given place) → (t : Turn Flow) → TurnOf A t → TurnOf B t
+weaker_turn A B weaker (turn.GoesOn step) is = tt
+weaker_turn A B weaker (turn.WindsUp (ending.Answers given (Some place)) more) is = weaker given place is
+weaker_turn A B weaker (turn.WindsUp other_ending more) is = tt
 
 -- ---- after a message of a flow
 
 abbrev pub IsAt : ℕ → Answer → ℕ → Type 0
 IsAt place given other = other ≡ place
 
-fails_at : (who : Who) (flow : Flow) (place : ℕ) (given : Reply) → TurnOf (IsAt place) (fails who flow place given)
-fails_at who flow place (reply.Busy by at born) = refl
-fails_at who flow place (reply.Refused error) = refl
-fails_at who flow place reply.NoMem = tt
-fails_at who flow place any_reply = tt
+fails_at : {F : Type 0} (wrap : F → Flow) (who : Who) (step : Flow) (place : ℕ) (given : Reply) → TurnOf (IsAt place) (turn_as wrap (fails (clean_up who step) place given))
+fails_at wrap who step place (reply.Busy by at born) = refl
+fails_at wrap who step place (reply.Refused error) = refl
+fails_at wrap who step place reply.NoMem = tt
+fails_at wrap who step place any_reply = tt
 
-make_at : (who : Who) (flow : Flow) (own : Triple) (place : ℕ) (given : Reply) → TurnOf (IsAt place) (after_make who flow own place given)
-make_at who flow own place (reply.Clash kept) = refl
-make_at who flow own place any_reply = fails_at who flow place any_reply
-
-after_act_at : (digest : List ℕ → Id) (who : Who) (flow : Flow) (asked place : ℕ) (given : Reply) → TurnOf (IsAt place) (after_act digest who flow asked place given)
-after_act_at digest who (finishes chain (op.Create name mode)) asked place reply.Fine = refl
-after_act_at digest who (finishes chain (op.Stat name)) asked place (reply.Stat kind meta) = refl
-after_act_at digest who (reserves chain name mode) asked place (reply.Reserved version) = tt
-after_act_at digest who (makes chain name mode version id) asked place reply.Fine = tt
-after_act_at digest who (makes chain name mode version id) asked place given =
-    make_at who (makes chain name mode version id) (birth_of who chain name version) place given
-after_act_at digest who (links chain name mode version dir) asked place reply.Fine = refl
-after_act_at digest who (seals chain) asked place reply.Fine = tt
-after_act_at digest who (unlinks chain) asked place reply.Fine = refl
-after_act_at digest who flow asked place given = fails_at who flow place given
+after_act_at : (digest : List ℕ → Id) (who : Who) (step : Flow) (asked place : ℕ) (given : Reply) → TurnOf (IsAt place) (after_act digest who step asked place given)
+after_act_at digest who (flow.File (file_flow.Finishes chain (op.Create name mode))) asked place reply.Fine = refl
+after_act_at digest who (flow.File (file_flow.Finishes chain (op.Stat name))) asked place (reply.Stat kind meta) = refl
+after_act_at digest who (flow.Dir (dir_flow.Reserves chain name mode)) asked place (reply.Reserved version) = tt
+after_act_at digest who (flow.Dir (dir_flow.Makes chain name mode version id)) asked place reply.Fine = tt
+after_act_at digest who (flow.Dir (dir_flow.Makes chain name mode version id)) asked place (reply.Clash kept) =
+    refl
+after_act_at digest who (flow.Dir (dir_flow.Links chain name mode version dir)) asked place reply.Fine = refl
+after_act_at digest who (flow.Dir (dir_flow.Seals chain)) asked place reply.Fine = tt
+after_act_at digest who (flow.Dir (dir_flow.Unlinks chain)) asked place reply.Fine = refl
+after_act_at digest who (flow.File step) asked place given = fails_at flow.File who (flow.File step) place given
+after_act_at digest who (flow.Dir step) asked place given = fails_at flow.Dir who (flow.Dir step) place given
 
 abbrev pub first_told : List Sent → Option Told
 first_told [] = None
 first_told (x ∷ xs) = x.told
 
-abbrev IsAtTold : Option Told → Turn → Type 0
-IsAtTold None turn = turn ≡ winds_up retries []
-IsAtTold (Some told) turn = TurnOf (IsAt told.serve_place) turn
+abbrev IsAtTold : Option Told → Turn Flow → Type 0
+IsAtTold None t = t ≡ turn.WindsUp ending.Retries []
+IsAtTold (Some told) t = TurnOf (IsAt told.serve_place) t
 
-told_turn : (digest : List ℕ → Id) (who : Who) (flow : Flow) (place : ℕ) (told : Option Told) (xs : List Sent)
-    → IsAtTold told (act_turn digest who flow (record { place = place; told = told } ∷ xs))
-told_turn digest who flow place None xs = refl
-told_turn digest who flow place (Some told) xs = after_act_at digest who flow place told.serve_place told.reply
+told_turn : (digest : List ℕ → Id) (who : Who) (step : Flow) (place : ℕ) (told : Option Told) (xs : List Sent)
+    → IsAtTold told (act_turn digest who step (record { place = place; told = told } ∷ xs))
+told_turn digest who step place None xs = refl
+told_turn digest who step place (Some told) xs = after_act_at digest who step place told.serve_place told.reply
 
-act_turn_is : (digest : List ℕ → Id) (who : Who) (flow : Flow) (sent : List Sent) → IsAtTold (first_told sent) (act_turn digest who flow sent)
-act_turn_is digest who flow [] = refl
-act_turn_is digest who flow (x ∷ xs) = told_turn digest who flow x.place x.told xs
+act_turn_is : (digest : List ℕ → Id) (who : Who) (step : Flow) (sent : List Sent) → IsAtTold (first_told sent) (act_turn digest who step sent)
+act_turn_is digest who step [] = refl
+act_turn_is digest who step (x ∷ xs) = told_turn digest who step x.place x.told xs
 
 -- what comes of a flow's message has the place of its Serve
-pub act_turn_at : (digest : List ℕ → Id) (who : Who) (flow : Flow) (sent : List Sent) (told : Told) → first_told sent ≡ Some told → TurnOf (IsAt told.serve_place) (act_turn digest who flow sent)
-act_turn_at digest who flow sent told is = subst (λ known. IsAtTold known (act_turn digest who flow sent)) is (act_turn_is digest who flow sent)
+pub act_turn_at : (digest : List ℕ → Id) (who : Who) (step : Flow) (sent : List Sent) (told : Told) → first_told sent ≡ Some told → TurnOf (IsAt told.serve_place) (act_turn digest who step sent)
+act_turn_at digest who step sent told is = subst (λ known. IsAtTold known (act_turn digest who step sent)) is (act_turn_is digest who step sent)
 
 -- ---- the places that a group was told
 
@@ -97,17 +100,17 @@ at_first : (place at : ℕ) (told : Told) (xs : List Sent) → at ≡ told.serve
 at_first place at told xs same =
     or_left (eqb at told.serve_place) (told_there at xs) (subst (λ p. eqb p told.serve_place ≡ true) (sym same) (itself told.serve_place))
 
-told_turn_there : (digest : List ℕ → Id) (who : Who) (flow : Flow) (place : ℕ) (told : Option Told) (xs : List Sent)
-    → TurnOf (IsThere (record { place = place; told = told } ∷ xs)) (act_turn digest who flow (record { place = place; told = told } ∷ xs))
-told_turn_there digest who flow place None xs = tt
-told_turn_there digest who flow place (Some told) xs =
+told_turn_there : (digest : List ℕ → Id) (who : Who) (step : Flow) (place : ℕ) (told : Option Told) (xs : List Sent)
+    → TurnOf (IsThere (record { place = place; told = told } ∷ xs)) (act_turn digest who step (record { place = place; told = told } ∷ xs))
+told_turn_there digest who step place None xs = tt
+told_turn_there digest who step place (Some told) xs =
     weaker_turn (IsAt told.serve_place) (IsThere (record { place = place; told = Some told } ∷ xs)) (λ given at same. at_first place at told xs same)
-    (after_act digest who flow place told.serve_place told.reply)
-    (after_act_at digest who flow place told.serve_place told.reply)
+    (after_act digest who step place told.serve_place told.reply)
+    (after_act_at digest who step place told.serve_place told.reply)
 
-pub act_turn_there : (digest : List ℕ → Id) (who : Who) (flow : Flow) (sent : List Sent) → TurnOf (IsThere sent) (act_turn digest who flow sent)
-act_turn_there digest who flow [] = tt
-act_turn_there digest who flow (x ∷ xs) = told_turn_there digest who flow x.place x.told xs
+pub act_turn_there : (digest : List ℕ → Id) (who : Who) (step : Flow) (sent : List Sent) → TurnOf (IsThere sent) (act_turn digest who step sent)
+act_turn_there digest who step [] = tt
+act_turn_there digest who step (x ∷ xs) = told_turn_there digest who step x.place x.told xs
 
 -- ---- after a round
 
@@ -141,7 +144,7 @@ next_is : (before : Entry) (place : ℕ) (told : Option Told) (xs : List Sent) �
 next_is before place None xs = tt
 next_is before place (Some told) xs = reply_is before place told.serve_place told.reply xs
 
-by_next_is : (course : Course) (chain : List Entry) (name : List ℕ) (names : List (List ℕ)) (go : Entry → Turn) (sent : List Sent) (next : Next)
+by_next_is : (course : Course) (chain : List Entry) (name : List ℕ) (names : List (List ℕ)) (go : Entry → Turn Flow) (sent : List Sent) (next : Next)
     → NextIs sent next → ((e : Entry) → TurnOf (IsOfRound sent) (go e)) → TurnOf (IsOfRound sent) (by_next course chain name names go next)
 by_next_is course chain name names go sent (steps e) is goes = goes e
 by_next_is course chain name names go sent stops is goes = tt
@@ -169,15 +172,15 @@ root_is course place serve_place (reply.Busy by at born) xs =
     record { other = refl; there = at_first place serve_place (record { serve_place = serve_place; reply = reply.Busy by at born }) xs refl }
 root_is course place serve_place any_reply xs = tt
 
-turn_if : (A : Answer → ℕ → Type 0) (b : Bool) (first second : Turn) → TurnOf A first → TurnOf A second → TurnOf A (if b then first else second)
+turn_if : (A : Answer → ℕ → Type 0) (b : Bool) (first second : Turn Flow) → TurnOf A first → TurnOf A second → TurnOf A (if b then first else second)
 turn_if A true first second one other = one
 turn_if A false first second one other = other
 
 first_is : (course : Course) (place : ℕ) (told : Option Told) (xs : List Sent)
     → TurnOf (IsOfRound (record { place = place; told = told } ∷ xs)) (after_round (Some course) (record { place = place; told = told } ∷ xs))
-first_is course place None xs = turn_if _ _ (winds_up (answers answer.NoMemory None) []) (winds_up retries []) tt tt
+first_is course place None xs = turn_if _ _ (turn.WindsUp (ending.Answers answer.NoMemory None) []) (turn.WindsUp ending.Retries []) tt tt
 first_is course place (Some told) xs =
-    turn_if _ _ (winds_up (answers answer.NoMemory None) []) (from_root course xs told told.reply) tt (root_is course place told.serve_place told.reply xs)
+    turn_if _ _ (turn.WindsUp (ending.Answers answer.NoMemory None) []) (from_root course xs told told.reply) tt (root_is course place told.serve_place told.reply xs)
 
 pub round_turn_is : (found : Option Course) (sent : List Sent) → TurnOf (IsOfRound sent) (after_round found sent)
 round_turn_is None sent = tt

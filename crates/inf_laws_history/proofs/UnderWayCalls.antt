@@ -8,8 +8,13 @@ use Rattle.inf_duty.specs.After.{client_after}
 use Rattle.inf_duty.specs.Messages.{are_none}
 use Rattle.inf_duty.specs.Outcome.{Outcome, is_free}
 use Rattle.inf_duty.specs.World.{World}
-use Rattle.inf_flow_dir.specs.Client.{ClientState, Stage, act, call_ref, compose, round, winds}
-use Rattle.inf_flow_dir.specs.Flow.{Flow, Who, clean_up, finishes, links, makes, reserves, seals, unlinks}
+use Rattle.inf_flow_dir.specs.declared.dir_flow.DirFlow.TheVariants as dir_flow
+use Rattle.inf_flow_file.specs.declared.file_flow.FileFlow.TheVariants as file_flow
+use Rattle.inf_duty.specs.declared.flow.Flow.TheVariants as flow
+use Rattle.inf_duty.specs.ClientState.{ClientState, Stage, act, call_ref, compose, round, winds}
+use Rattle.inf_duty.specs.Flow.{clean_up}
+use Rattle.inf_duty.specs.declared.flow.Flow.{Flow}
+use Rattle.inf_message.specs.Who.{Who}
 use Rattle.inf_laws_directory.specs.Phases.{Phase, idle}
 use Rattle.inf_laws_history.specs.Causes.{before}
 use Rattle.inf_laws_history.specs.Kept.{Kept}
@@ -30,30 +35,30 @@ use Rattle.inf_laws_history.proofs.UnderWayFacts.{BeganBefore, IsMet, before_sho
 
 -- ---- a call that has something in hand
 
-flow_holds : (who : Who) (flow : Flow) (phase : Phase) → FlowHas who flow phase → phase ≢ idle → are_none (clean_up who flow) ≡ false
-flow_holds who (finishes chain what) phase has acts = absurd (acts has)
-flow_holds who (reserves chain name mode) phase has acts = absurd (acts has)
-flow_holds who (makes chain name mode version id) phase has acts = refl
-flow_holds who (links chain name mode version dir) phase has acts = refl
-flow_holds who (seals chain) phase has acts = absurd (acts has)
-flow_holds who (unlinks chain) phase has acts = refl
+flow_holds : (who : Who) (step : Flow) (phase : Phase) → FlowHas who step phase → phase ≢ idle → are_none (clean_up who step) ≡ false
+flow_holds who (flow.File (file_flow.Finishes chain what)) phase has acts = absurd (acts has)
+flow_holds who (flow.Dir (dir_flow.Reserves chain name mode)) phase has acts = absurd (acts has)
+flow_holds who (flow.Dir (dir_flow.Makes chain name mode version id)) phase has acts = refl
+flow_holds who (flow.Dir (dir_flow.Links chain name mode version dir)) phase has acts = refl
+flow_holds who (flow.Dir (dir_flow.Seals chain)) phase has acts = absurd (acts has)
+flow_holds who (flow.Dir (dir_flow.Unlinks chain)) phase has acts = refl
 
 holds_at : (digest : List ℕ → Id) (who : Who) (stage : Stage) (phase : Phase) → HasPhase digest who stage phase → phase ≢ idle → is_free who stage ≡ false
 holds_at digest who compose phase has acts = absurd (acts has)
 holds_at digest who (round keys) phase has acts = absurd (acts has)
-holds_at digest who (act flow) phase has acts = flow_holds who flow phase has.0 acts
+holds_at digest who (act step) phase has acts = flow_holds who step phase has.0 acts
 holds_at digest who (winds ending m ms) phase has acts = refl
 
 flows_at : (who : Who) (stage : Stage) → is_free who stage ≡ false → IsInFlow stage
 flows_at who compose holds = absurd cc
 flows_at who (round keys) holds = absurd cc
-flows_at who (act flow) holds = tt
+flows_at who (act step) holds = tt
 flows_at who (winds ending m ms) holds = tt
 
 under_in : (left : List Call) (stage : Stage) → IsInFlow stage → IsUnder left stage → 0 < length left
 under_in left compose flows under = absurd flows
 under_in left (round keys) flows under = absurd flows
-under_in left (act flow) flows under = under
+under_in left (act step) flows under = under
 under_in left (winds ending m ms) flows under = under
 
 began_within : (first : Option ℕ) (most place : ℕ) → IfSome first (λ at. at ≤ most) → is_some first ≡ true → most < place → (at : ℕ) × (first ≡ Some at) × (at < place)

@@ -16,11 +16,16 @@ use Rattle.inf_duty.specs.Messages.{are_none}
 use Rattle.inf_duty.specs.Outcome.{Agrees, OutcomeFrom, all_given_up, is_free, results_of, so_far, unanswered}
 use Rattle.inf_duty.specs.World.{World}
 use Rattle.inf_duty.proofs.BegunKept.{IsKept, if_both, kept_all_given_up, kept_begun}
-use Rattle.inf_flow_dir.specs.Client.{ClientState, Counts, Ending, Stage, act, answers, call_ref, compose, ended, first_place, placed, result_of, retries, round, winds, wound}
-use Rattle.inf_flow_dir.specs.Flow.{Who, clean_up}
-use Rattle.inf_flow_dir.specs.Group.{Course, composed_stage, keys_of, next_course}
-use Rattle.inf_flow_dir.specs.Heard.{heard}
-use Rattle.inf_flow_dir.specs.Turn.{Turn, goes_on, later_place, recorded, served, turn_at, turned, winds_up}
+use Rattle.inf_message.specs.declared.ending.Ending.TheVariants as ending
+use Rattle.inf_message.specs.declared.turn.Turn.TheVariants as turn
+use Rattle.inf_duty.specs.ClientState.{ClientState, Counts, Stage, act, call_ref, compose, ended, first_place, placed, result_of, round, winds, wound}
+use Rattle.inf_duty.specs.Flow.{clean_up}
+use Rattle.inf_duty.specs.Group.{Course, composed_stage, keys_of, next_course}
+use Rattle.inf_duty.specs.Turn.{later_place, recorded, served, turn_at, turned}
+use Rattle.inf_message.specs.Heard.{heard}
+use Rattle.inf_message.specs.Who.{Who}
+use Rattle.inf_message.specs.declared.ending.Ending.{Ending}
+use Rattle.inf_message.specs.declared.turn.Turn.{Turn}
 use Rattle.inf_laws_history.specs.Causes.{before}
 use Rattle.inf_laws_history.specs.UnderWay.{IsAround}
 use Rattle.inf_laws_history.proofs.ClientSteps.{Lasts, by_answer, lasts_kept, turned_lasts}
@@ -35,6 +40,7 @@ use Rattle.inf_message.specs.declared.reply.Reply.{Reply}
 use Rattle.inf_message.specs.declared.step.Message.{Message}
 use Rattle.inf_message.specs.History.{Posted, Told, asked_at, event_at, told_reply}
 use Rattle.inf_message.proofs.HistoryLaws.{event_within}
+use Rattle.inf_duty.specs.declared.flow.Flow.{Flow}
 
 -- ---- a client from the place on
 
@@ -106,7 +112,7 @@ module _ (digest : List ℕ → Id) (call : CallRef) (place : ℕ) where
   composed_free s compose = free_keys s.who (next_course s.left)
   composed_free s (round keys) = refl
   composed_free s (act flow) = refl
-  composed_free s (winds ending m ms) = refl
+  composed_free s (winds end m ms) = refl
 
   composed_met : (s : ClientState) → Met s → Met (record s { stage = composed_stage digest s s.stage })
   composed_met s (inl past) = inl (past_lasts.composing s past)
@@ -123,13 +129,13 @@ module _ (digest : List ℕ → Id) (call : CallRef) (place : ℕ) where
   behind_if s free is (inr behind) = behind
 
   cleans_up : (s : ClientState) (more : List Message) → IsGoing call place s → (are_none more ≡ false) ⊎ ServedBehind place s.counts
-      → Met (wound (answers answer.NoMemory None) more s)
+      → Met (wound (ending.Answers answer.NoMemory None) more s)
   cleans_up s [] going holds = ends_around answer.NoMemory None s going.is going.began (behind_if s true refl holds)
   cleans_up s (m ∷ ms) going holds = inr (record { is = going.is; left = going.left; began = going.began; holds = inl refl })
 
   given_up_going : (s : ClientState) (stage : Stage) → IsGoing call place s → (is_free s.who stage ≡ false) ⊎ ServedBehind place s.counts → Met (given_up_in s stage)
   given_up_going s (act flow) going holds = cleans_up s (clean_up s.who flow) going holds
-  given_up_going s (winds ending m ms) going holds = inr going
+  given_up_going s (winds end m ms) going holds = inr going
   given_up_going s compose going holds = ends_around answer.NoMemory None s going.is going.began (behind_if s true refl holds)
   given_up_going s (round keys) going holds = ends_around answer.NoMemory None s going.is going.began (behind_if s true refl holds)
 
@@ -158,20 +164,20 @@ module _ (digest : List ℕ → Id) (call : CallRef) (place : ℕ) where
 
   -- ---- after a group
 
-  wound_met : (ending : Ending) (more : List Message) (s : ClientState) → call_ref s ≡ call → 0 < length s.left → BeganBefore place s.counts
-      → ServedBehind place s.counts → Met (wound ending more s)
-  wound_met (answers given at) [] s is left began behind = ends_around given at s is began behind
-  wound_met retries [] s is left began behind = inr (record {
+  wound_met : (end : Ending) (more : List Message) (s : ClientState) → call_ref s ≡ call → 0 < length s.left → BeganBefore place s.counts
+      → ServedBehind place s.counts → Met (wound end more s)
+  wound_met (ending.Answers given at) [] s is left began behind = ends_around given at s is began behind
+  wound_met ending.Retries [] s is left began behind = inr (record {
     is = is;
     left = left;
     began = record { first = began.first; is = began.is; less = began.less };
     holds = inr (record { last = behind.last; is = behind.is; less = behind.less });
   })
-  wound_met ending (m ∷ ms) s is left began behind = inr (record { is = is; left = left; began = began; holds = inl refl })
+  wound_met end (m ∷ ms) s is left began behind = inr (record { is = is; left = left; began = began; holds = inl refl })
 
-  turned_met : (turn : Turn) (s : ClientState) → call_ref s ≡ call → 0 < length s.left → BeganBefore place s.counts → ServedBehind place s.counts → Met (turned turn s)
-  turned_met (goes_on next) s is left began behind = inr (record { is = is; left = left; began = began; holds = inr behind })
-  turned_met (winds_up ending more) s is left began behind = wound_met ending more s is left began behind
+  turned_met : (t : Turn Flow) (s : ClientState) → call_ref s ≡ call → 0 < length s.left → BeganBefore place s.counts → ServedBehind place s.counts → Met (turned t s)
+  turned_met (turn.GoesOn next) s is left began behind = inr (record { is = is; left = left; began = began; holds = inr behind })
+  turned_met (turn.WindsUp end more) s is left began behind = wound_met end more s is left began behind
 
   later_one : (last : Option ℕ) (at : ℕ) → place < at → (l : ℕ) × (later_place last at ≡ Some l) × (place < l)
   later_one None at less = (at, refl, less)
@@ -208,8 +214,8 @@ module _ (digest : List ℕ → Id) (call : CallRef) (place : ℕ) where
     pub around : IsAround place result
 
   so_far_around : (stage : Stage) (s : ClientState) → BeganBefore place s.counts → IsAround place (so_far stage s)
-  so_far_around (winds (answers given at) m ms) s began = record { first = began.first; began = began.is; earlier = began.less; later = tt }
-  so_far_around (winds retries m ms) s began = record { first = began.first; began = began.is; earlier = began.less; later = tt }
+  so_far_around (winds (ending.Answers given at) m ms) s began = record { first = began.first; began = began.is; earlier = began.less; later = tt }
+  so_far_around (winds ending.Retries m ms) s began = record { first = began.first; began = began.is; earlier = began.less; later = tt }
   so_far_around compose s began = record { first = began.first; began = began.is; earlier = began.less; later = tt }
   so_far_around (round keys) s began = record { first = began.first; began = began.is; earlier = began.less; later = tt }
   so_far_around (act flow) s began = record { first = began.first; began = began.is; earlier = began.less; later = tt }

@@ -6,13 +6,19 @@ use Rattle.inf_base.specs.declared.call.Call.{Call}
 use Rattle.inf_base.specs.declared.id.Id.{Id}
 use Rattle.inf_duty.specs.After.{client_after}
 use Rattle.inf_duty.specs.World.{World}
-use Rattle.inf_flow_dir.specs.Client.{ClientState, Ending, Stage, answers, has_place, retries, winds}
-use Rattle.inf_flow_dir.specs.Heard.{heard}
-use Rattle.inf_flow_dir.specs.Turn.{Turn, goes_on, is_complete, recorded, turn_at, winds_up}
+use Rattle.inf_message.specs.declared.ending.Ending.TheVariants as ending
+use Rattle.inf_message.specs.declared.turn.Turn.TheVariants as turn
+use Rattle.inf_duty.specs.ClientState.{ClientState, Stage, winds}
+use Rattle.inf_duty.specs.Turn.{is_complete, recorded, turn_at}
+use Rattle.inf_message.specs.Heard.{heard}
+use Rattle.inf_message.specs.Sent.{has_place}
+use Rattle.inf_message.specs.declared.ending.Ending.{Ending}
+use Rattle.inf_message.specs.declared.turn.Turn.{Turn}
 use Rattle.inf_message.specs.declared.event.Event.{Event}
 use Rattle.inf_message.specs.declared.event.Event.TheVariants as event
 use Rattle.inf_message.specs.History.{Posted, Told, asked_at, told_reply}
 use Rattle.inf_tree.specs.Replay.{Decided}
+use Rattle.inf_duty.specs.declared.flow.Flow.{Flow}
 
 -- an answer that is the tree's; any other says that the call was given up
 abbrev pub is_of_tree : Answer → Bool
@@ -31,17 +37,17 @@ decided_call s (call ∷ calls) given = record { caller = s.who.caller; call = c
 
 -- a call that has an answer with a place is decided, whatever is still to be sent for it
 abbrev pub decided_by_end : ClientState → Ending → List Decided
-decided_by_end s (answers given (Some place)) = of_tree (decided_call s s.left given)
-decided_by_end s (answers given None) = []
-decided_by_end s retries = []
+decided_by_end s (ending.Answers given (Some place)) = of_tree (decided_call s s.left given)
+decided_by_end s (ending.Answers given None) = []
+decided_by_end s ending.Retries = []
 
 -- what winds up a call that was decided before decides nothing more
-abbrev pub decided_by_turn : ClientState → Turn → List Decided
-decided_by_turn s (goes_on next) = []
-decided_by_turn s (winds_up ending more) = decided_by_end s ending
+abbrev pub decided_by_turn : ClientState → Turn Flow → List Decided
+decided_by_turn s (turn.GoesOn next) = []
+decided_by_turn s (turn.WindsUp end more) = decided_by_end s end
 
 abbrev pub decided_at_stage : (List ℕ → Id) → ClientState → Stage → List Decided
-decided_at_stage digest s (winds ending m ms) = []
+decided_at_stage digest s (winds end m ms) = []
 decided_at_stage digest s other_stage = decided_by_turn s (turn_at digest s other_stage)
 
 abbrev pub decided_if : (List ℕ → Id) → Bool → ClientState → List Decided

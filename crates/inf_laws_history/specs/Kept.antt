@@ -6,7 +6,7 @@ use Rattle.inf_base.specs.declared.key.Key.{Key}
 use Rattle.inf_duty.specs.After.{client_after}
 use Rattle.inf_duty.specs.Start.{who_in}
 use Rattle.inf_duty.specs.World.{World}
-use Rattle.inf_flow_dir.specs.Client.{ClientState, call_ref}
+use Rattle.inf_duty.specs.ClientState.{ClientState, call_ref}
 use Rattle.inf_laws_client.specs.Asked.{AsksItsGroup}
 use Rattle.inf_laws_client.specs.Paths.{KeepsToPath}
 use Rattle.inf_laws_client.specs.Told.{KnowsOnly}

@@ -2,8 +2,8 @@
 use Rattle.std.specs.Prelude.{◌≡◌, ◌<◌, ℕ, false, List, length, slice_get, Some, None}
 use Rattle.inf_duty.specs.After.{client_after}
 use Rattle.inf_duty.specs.World.{World}
-use Rattle.inf_flow_dir.specs.Client.{ClientState, call_ref}
-use Rattle.inf_flow_dir.specs.Group.{group}
+use Rattle.inf_duty.specs.ClientState.{ClientState, call_ref}
+use Rattle.inf_duty.specs.Group.{group}
 use Rattle.inf_message.specs.declared.ask.Ask.{Ask}
 use Rattle.inf_message.specs.declared.event.Event.{Event}
 use Rattle.inf_message.specs.History.{Posted, asked_at, is_served}

@@ -5,8 +5,14 @@ use Rattle.inf_base.specs.declared.directory.DirRef.{DirRef}
 use Rattle.inf_base.specs.declared.entry.Entry.{Entry}
 use Rattle.inf_base.specs.declared.id.Id.{Id}
 use Rattle.inf_base.specs.Identity.{server_of}
-use Rattle.inf_flow_dir.specs.Client.{Stage, act, compose, round, winds}
-use Rattle.inf_flow_dir.specs.Flow.{Flow, HasBirthId, Who, birth_of, finishes, last_dir, links, makes, reserves, seals, unlinks, way_to}
+use Rattle.inf_flow_dir.specs.declared.dir_flow.DirFlow.TheVariants as dir_flow
+use Rattle.inf_flow_file.specs.declared.file_flow.FileFlow.TheVariants as file_flow
+use Rattle.inf_duty.specs.declared.flow.Flow.TheVariants as flow
+use Rattle.inf_duty.specs.ClientState.{Stage, act, compose, round, winds}
+use Rattle.inf_duty.specs.Flow.{HasBirthId}
+use Rattle.inf_duty.specs.declared.flow.Flow.{Flow}
+use Rattle.inf_message.specs.Chain.{last_dir, way_to}
+use Rattle.inf_message.specs.Who.{Who, birth_of}
 use Rattle.inf_laws_directory.specs.Owes.{MayWriteAt}
 use Rattle.inf_laws_directory.specs.Phases.{Phase, has_made, has_reserved, has_sealed, has_unlinked, idle}
 use Rattle.inf_message.specs.declared.request.Request.{Request}
@@ -49,29 +55,29 @@ pub record SealsIn (chain : List Entry) (phase : Phase) : Type 0 where
   pub is : phase ≡ has_sealed (last_dir (way_to chain)) name (last_dir chain)
 
 abbrev pub FlowHas : Who → Flow → Phase → Type 0
-FlowHas who (finishes chain what) phase = phase ≡ idle
-FlowHas who (reserves chain name mode) phase = phase ≡ idle
-FlowHas who (makes chain name mode version id) phase =
+FlowHas who (flow.File (file_flow.Finishes chain what)) phase = phase ≡ idle
+FlowHas who (flow.Dir (dir_flow.Reserves chain name mode)) phase = phase ≡ idle
+FlowHas who (flow.Dir (dir_flow.Makes chain name mode version id)) phase =
     phase ≡ has_reserved (last_dir chain) name (birth_of who chain name version)
-FlowHas who (links chain name mode version dir) phase =
+FlowHas who (flow.Dir (dir_flow.Links chain name mode version dir)) phase =
     phase ≡ has_made (last_dir chain) name (birth_of who chain name version) dir
-FlowHas who (seals chain) phase = phase ≡ idle
-FlowHas who (unlinks chain) phase = SealsIn chain phase
+FlowHas who (flow.Dir (dir_flow.Seals chain)) phase = phase ≡ idle
+FlowHas who (flow.Dir (dir_flow.Unlinks chain)) phase = SealsIn chain phase
 
 -- a flow carries the identifier that its birth is given
 abbrev pub HasPhase : (List ℕ → Id) → Who → Stage → Phase → Type 0
 HasPhase digest who compose phase = phase ≡ idle
 HasPhase digest who (round keys) phase = phase ≡ idle
-HasPhase digest who (act flow) phase = FlowHas who flow phase × HasBirthId digest who flow
+HasPhase digest who (act step) phase = FlowHas who step phase × HasBirthId digest who step
 HasPhase digest who (winds ending m ms) phase = Lifts who.servers phase (m ∷ ms)
 
 -- what a flow that goes on rests on: an earlier message asked whether the caller may write
 abbrev pub FlowMay : Caller → Flow → Type 0
-FlowMay caller (makes chain name mode version id) = MayWriteAt caller chain
-FlowMay caller (links chain name mode version dir) = MayWriteAt caller chain
-FlowMay caller (unlinks chain) = MayWriteAt caller (before_last chain)
+FlowMay caller (flow.Dir (dir_flow.Makes chain name mode version id)) = MayWriteAt caller chain
+FlowMay caller (flow.Dir (dir_flow.Links chain name mode version dir)) = MayWriteAt caller chain
+FlowMay caller (flow.Dir (dir_flow.Unlinks chain)) = MayWriteAt caller (before_last chain)
 FlowMay caller other_flow = Unit {0}
 
 abbrev pub StageMay : Caller → Stage → Type 0
-StageMay caller (act flow) = FlowMay caller flow
+StageMay caller (act step) = FlowMay caller step
 StageMay caller other_stage = Unit {0}

@@ -6,7 +6,7 @@ ghost use Rattle.inf_duty.specs.Outcome.{Outcome};
 ghost use Rattle.inf_duty.specs.Own.{client_of, own_asks};
 ghost use Rattle.inf_duty.specs.Places.{HaveOwnPlaces};
 ghost use Rattle.inf_duty.specs.World.{World};
-ghost use Rattle.inf_flow_dir.specs.Client.{has_place};
+ghost use Rattle.inf_message.specs.Sent.{has_place};
 ghost use Rattle.inf_laws_history.specs.Decisions.{decided_in, of_tree};
 ghost use Rattle.inf_laws_history.specs.Kept.{Kept};
 ghost use Rattle.inf_laws_history.specs.Legal.{Legal};

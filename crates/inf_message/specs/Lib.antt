@@ -1,3 +1,9 @@
+pub mod Chain
+pub mod CleanUp
 pub mod Examples
+pub mod Heard
 pub mod History
+pub mod Sent
 pub mod Shown
+pub mod Turn
+pub mod Who

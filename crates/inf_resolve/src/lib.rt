@@ -15,6 +15,6 @@ mod walked;
 
 pub use known::Known;
 pub use looked::Looked;
-pub use resolved::{LookKeys, Resolved};
+pub use resolved::Resolved;
 pub use resolver::Resolver;
 pub use walked::Walked;

@@ -1,10 +1,7 @@
 //! What becomes of an attempt that looks up paths.
 
 use crate::walked::Walked;
-use inf_base::{CallRef, LookKey, Place, Sequence};
-
-/// Keys in the order of their asks.
-pub type LookKeys = Sequence<LookKey>;
+use inf_base::{CallRef, LookKeys, Place};
 
 /// What an attempt comes to by what it was told so far.
 #[derive(Debug, Drop)]

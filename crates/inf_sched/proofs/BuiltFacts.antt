@@ -12,11 +12,16 @@ use Rattle.inf_duty.specs.Messages.{are_none}
 use Rattle.inf_duty.specs.Outcome.{all_given_up, is_free, may_pass, results_of}
 use Rattle.inf_duty.specs.Start.{starting}
 use Rattle.inf_duty.specs.World.{World}
-use Rattle.inf_flow_dir.specs.Client.{ClientState, Ending, Stage, act, answers, compose, ended, retries, round, winds, wound}
-use Rattle.inf_flow_dir.specs.Flow.{Who, clean_up}
-use Rattle.inf_flow_dir.specs.Group.{Course, composed_stage, keys_of, next_course}
-use Rattle.inf_flow_dir.specs.Heard.{heard}
-use Rattle.inf_flow_dir.specs.Turn.{Turn, goes_on, recorded, turn_at, turned, winds_up}
+use Rattle.inf_message.specs.declared.ending.Ending.TheVariants as ending
+use Rattle.inf_message.specs.declared.turn.Turn.TheVariants as turn
+use Rattle.inf_duty.specs.ClientState.{ClientState, Stage, act, compose, ended, round, winds, wound}
+use Rattle.inf_duty.specs.Flow.{clean_up}
+use Rattle.inf_duty.specs.Group.{Course, composed_stage, keys_of, next_course}
+use Rattle.inf_duty.specs.Turn.{recorded, turn_at, turned}
+use Rattle.inf_message.specs.Heard.{heard}
+use Rattle.inf_message.specs.Who.{Who}
+use Rattle.inf_message.specs.declared.ending.Ending.{Ending}
+use Rattle.inf_message.specs.declared.turn.Turn.{Turn}
 use Rattle.inf_message.specs.declared.call_result.CallResult.{CallResult}
 use Rattle.inf_message.specs.declared.event.Event.{Event}
 use Rattle.inf_message.specs.declared.event.Event.TheVariants as event
@@ -27,6 +32,7 @@ use Rattle.inf_duty.proofs.BegunKept.{IsKept, if_both, kept_all_given_up, kept_b
 use Rattle.inf_laws_history.proofs.ClientSteps.{Lasts, by_answer, lasts_kept}
 use Rattle.inf_sched.specs.Laws.{gave_up}
 use Rattle.inf_sched.proofs.OrderLaws.{IsLeft}
+use Rattle.inf_duty.specs.declared.flow.Flow.{Flow}
 
 -- ---- what is asked for is built
 
@@ -41,7 +47,7 @@ any_built : (left : List Call) (next : Stage) → is_some (next_course left) ≡
 any_built left compose some = tt
 any_built left (round keys) some = some
 any_built left (act flow) some = some
-any_built left (winds ending m ms) some = some
+any_built left (winds end m ms) some = some
 
 keys_built : (digest : List ℕ → Id) (left : List Call) (who : Who) (course : Option Course) → next_course left ≡ course → IsBuilt left (keys_of digest who course)
 keys_built digest left who None is = tt
@@ -51,26 +57,26 @@ composed_built : (digest : List ℕ → Id) (s : ClientState) (stage : Stage) �
 composed_built digest s compose built = keys_built digest s.left s.who (next_course s.left) refl
 composed_built digest s (round keys) built = built
 composed_built digest s (act flow) built = built
-composed_built digest s (winds ending m ms) built = built
+composed_built digest s (winds end m ms) built = built
 
-wound_built : (ending : Ending) (more : List Message) (s : ClientState) → is_some (next_course s.left) ≡ true → IsBuiltFor (wound ending more s)
-wound_built (answers given place) [] s some = tt
-wound_built retries [] s some = tt
-wound_built ending (m ∷ ms) s some = some
+wound_built : (end : Ending) (more : List Message) (s : ClientState) → is_some (next_course s.left) ≡ true → IsBuiltFor (wound end more s)
+wound_built (ending.Answers given place) [] s some = tt
+wound_built ending.Retries [] s some = tt
+wound_built end (m ∷ ms) s some = some
 
-turned_built : (turn : Turn) (s : ClientState) → is_some (next_course s.left) ≡ true → IsBuiltFor (turned turn s)
-turned_built (goes_on next) s some = any_built s.left next some
-turned_built (winds_up ending more) s some = wound_built ending more s some
+turned_built : (t : Turn Flow) (s : ClientState) → is_some (next_course s.left) ≡ true → IsBuiltFor (turned t s)
+turned_built (turn.GoesOn next) s some = any_built s.left (act next) some
+turned_built (turn.WindsUp end more) s some = wound_built end more s some
 
 over_built : (digest : List ℕ → Id) (s t : ClientState) (stage : Stage) → IsBuilt t.left stage → IsBuiltFor (turned (turn_at digest s stage) t)
 over_built digest s t compose built = tt
 over_built digest s t (round keys) built = turned_built (turn_at digest s (round keys)) t built
 over_built digest s t (act flow) built = turned_built (turn_at digest s (act flow)) t built
-over_built digest s t (winds ending m ms) built = turned_built (turn_at digest s (winds ending m ms)) t built
+over_built digest s t (winds end m ms) built = turned_built (turn_at digest s (winds end m ms)) t built
 
 given_up_built : (s : ClientState) (stage : Stage) → IsBuilt s.left stage → IsBuiltFor s → IsBuiltFor (given_up_in s stage)
-given_up_built s (act flow) built now = wound_built (answers answer.NoMemory None) (clean_up s.who flow) s built
-given_up_built s (winds ending m ms) built now = now
+given_up_built s (act flow) built now = wound_built (ending.Answers answer.NoMemory None) (clean_up s.who flow) s built
+given_up_built s (winds end m ms) built now = now
 given_up_built s compose built now = tt
 given_up_built s (round keys) built now = tt
 
@@ -144,13 +150,13 @@ none_joined xs ys none none_more = list_any-append gave_up xs ys ∙ neither _ _
 
 -- ---- a client that is gone has given up a call
 
-none_wound : (more : List Message) (s : ClientState) → are_none more ≡ true → wound (answers answer.NoMemory None) more s ≡ ended answer.NoMemory None s
+none_wound : (more : List Message) (s : ClientState) → are_none more ≡ true → wound (ending.Answers answer.NoMemory None) more s ≡ ended answer.NoMemory None s
 none_wound [] s none = refl
 none_wound (m ∷ ms) s none = absurd (cc)
 
 free_ends : (s : ClientState) (stage : Stage) → is_free s.who stage ≡ true → given_up_in s stage ≡ ended answer.NoMemory None s
 free_ends s (act flow) free = none_wound (clean_up s.who flow) s free
-free_ends s (winds ending m ms) free = absurd (cc)
+free_ends s (winds end m ms) free = absurd (cc)
 free_ends s compose free = refl
 free_ends s (round keys) free = refl
 

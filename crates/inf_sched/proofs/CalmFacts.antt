@@ -17,11 +17,21 @@ use Rattle.inf_duty.specs.Messages.{is_winding}
 use Rattle.inf_duty.specs.Outcome.{come_to, results_of, so_far, unanswered}
 use Rattle.inf_duty.specs.Start.{starting}
 use Rattle.inf_duty.specs.World.{World}
-use Rattle.inf_flow_dir.specs.Client.{ClientState, Ending, Sent, Stage, act, answers, compose, ended, result_of, retries, round, told_at, winds, wound}
-use Rattle.inf_flow_dir.specs.Flow.{Flow, Who, clean_up, finishes, links, makes, message_of, reserves, seals, unlinks}
-use Rattle.inf_flow_dir.specs.Group.{Course, composed, composed_stage, group, keys_of, lookup_of, next_course}
-use Rattle.inf_flow_dir.specs.Heard.{heard}
-use Rattle.inf_flow_dir.specs.Turn.{Turn, goes_on, is_wanting, recorded, served, turn_at, turned, wants_memory, winds_up}
+use Rattle.inf_flow_dir.specs.declared.dir_flow.DirFlow.TheVariants as dir_flow
+use Rattle.inf_message.specs.declared.ending.Ending.TheVariants as ending
+use Rattle.inf_flow_file.specs.declared.file_flow.FileFlow.TheVariants as file_flow
+use Rattle.inf_duty.specs.declared.flow.Flow.TheVariants as flow
+use Rattle.inf_message.specs.declared.turn.Turn.TheVariants as turn
+use Rattle.inf_duty.specs.ClientState.{ClientState, Stage, act, compose, ended, result_of, round, winds, wound}
+use Rattle.inf_duty.specs.Flow.{clean_up, message_of}
+use Rattle.inf_duty.specs.Group.{Course, composed, composed_stage, group, keys_of, next_course}
+use Rattle.inf_duty.specs.Turn.{recorded, served, turn_at, turned}
+use Rattle.inf_duty.specs.declared.flow.Flow.{Flow}
+use Rattle.inf_message.specs.Heard.{heard}
+use Rattle.inf_message.specs.Sent.{Sent, is_wanting, told_at, wants_memory}
+use Rattle.inf_message.specs.Who.{Who, lookup_of}
+use Rattle.inf_message.specs.declared.ending.Ending.{Ending}
+use Rattle.inf_message.specs.declared.turn.Turn.{Turn}
 use Rattle.inf_message.specs.declared.ask.Ask.{Ask}
 use Rattle.inf_message.specs.declared.event.Event.{Event}
 use Rattle.inf_message.specs.declared.event.Event.TheVariants as event
@@ -50,17 +60,17 @@ pub record ShowsNoWant (s : ClientState) : Type 0 where
 -- ---- by the results
 
 no_want_stage : (s : ClientState) (stage : Stage) → is_no_memory (so_far stage s).answer ≡ false → StageHas IsNoWant stage
-no_want_stage s (winds (answers given place) m ms) none = none
-no_want_stage s (winds retries m ms) none = tt
+no_want_stage s (winds (ending.Answers given place) m ms) none = none
+no_want_stage s (winds ending.Retries m ms) none = tt
 no_want_stage s compose none = tt
 no_want_stage s (round keys) none = tt
-no_want_stage s (act flow) none = tt
+no_want_stage s (act step) none = tt
 
 no_call_left : (stage : Stage) → IsBuilt [] stage → StageHas IsNoWant stage
 no_call_left compose built = tt
 no_call_left (round keys) built = tt
-no_call_left (act flow) built = tt
-no_call_left (winds ending m ms) built = absurd (cc)
+no_call_left (act step) built = tt
+no_call_left (winds end m ms) built = absurd (cc)
 
 none_left : (s : ClientState) (left : List Call) → IsBuilt left s.stage → HasNotGivenUp (unanswered left s) → StageHas IsNoWant s.stage
 none_left s [] built none = no_call_left s.stage built
@@ -74,11 +84,11 @@ from_results s built none = record {
 
 so_far_none : (s : ClientState) (stage : Stage) → is_wanting s.sent ≡ false → StageHas IsNoWant stage
     → is_no_memory (so_far stage s).answer ≡ false
-so_far_none s (winds (answers given place) m ms) plain none = none
-so_far_none s (winds retries m ms) plain none = refl
+so_far_none s (winds (ending.Answers given place) m ms) plain none = none
+so_far_none s (winds ending.Retries m ms) plain none = refl
 so_far_none s compose plain none = refl
 so_far_none s (round keys) plain none = ap (λ b. is_no_memory (come_to b)) plain
-so_far_none s (act flow) plain none = refl
+so_far_none s (act step) plain none = refl
 
 unanswered_none : (left : List Call) (s : ClientState) → is_wanting s.sent ≡ false → StageHas IsNoWant s.stage
     → HasNotGivenUp (unanswered left s)
@@ -99,25 +109,25 @@ last_none s given place none =
     false_before (is_no_memory given) false (none_behind s.results (result_of given place s.counts.last s ∷ []) none)
 
 -- a client that winds up so showed no want of memory
-record Wound (ending : Ending) (s : ClientState) : Type 0 where
+record Wound (end : Ending) (s : ClientState) : Type 0 where
   results : HasNotGivenUp s.results
-  has : EndingHas IsNoWant ending
+  has : EndingHas IsNoWant end
 
-before_wound : (ending : Ending) (more : List Message) (s : ClientState) → ShowsNoWant (wound ending more s) → Wound ending s
-before_wound (answers given place) [] s none = record { results = none_before s.results _ none.results; has = last_none s given place none.results }
-before_wound retries [] s none = record { results = none.results; has = tt }
-before_wound ending (m ∷ ms) s none = record { results = none.results; has = none.stage }
+before_wound : (end : Ending) (more : List Message) (s : ClientState) → ShowsNoWant (wound end more s) → Wound end s
+before_wound (ending.Answers given place) [] s none = record { results = none_before s.results _ none.results; has = last_none s given place none.results }
+before_wound ending.Retries [] s none = record { results = none.results; has = tt }
+before_wound end (m ∷ ms) s none = record { results = none.results; has = none.stage }
 
-before_turn : (turn : Turn) (s : ClientState) → ShowsNoWant (turned turn s) → HasNotGivenUp s.results
-before_turn (goes_on next) s none = none.results
-before_turn (winds_up ending more) s none = (before_wound ending more s none).results
+before_turn : (t : Turn Flow) (s : ClientState) → ShowsNoWant (turned t s) → HasNotGivenUp s.results
+before_turn (turn.GoesOn next) s none = none.results
+before_turn (turn.WindsUp end more) s none = (before_wound end more s none).results
 
 before_over : (digest : List ℕ → Id) (s t : ClientState) (stage : Stage) → ShowsNoWant (turned (turn_at digest s stage) t) → HasNotGivenUp t.results × StageHas IsNoWant stage
 before_over digest s t compose none = (before_turn (turn_at digest s compose) t none, tt)
 before_over digest s t (round keys) none = (before_turn (turn_at digest s (round keys)) t none, tt)
-before_over digest s t (act flow) none = (before_turn (turn_at digest s (act flow)) t none, tt)
-before_over digest s t (winds ending m ms) none =
-    let before = before_wound ending ms t none in
+before_over digest s t (act step) none = (before_turn (turn_at digest s (act step)) t none, tt)
+before_over digest s t (winds end m ms) none =
+    let before = before_wound end ms t none in
     (before.results, before.has)
 
 pub before_served : (digest : List ℕ → Id) (place : ℕ) (told : Told) (s : ClientState) → ShowsNoWant (served digest place told s) → ShowsNoWant s
@@ -130,17 +140,17 @@ before_served digest place told s =
     record { results = before.0; stage = before.1 })
 
 before_giving_up : (s : ClientState) (stage : Stage) → ShowsNoWant (given_up_in s stage) → given_up_in s stage ≡ s
-before_giving_up s (act flow) none =
-    absurd (let want = (before_wound (answers answer.NoMemory None) (clean_up s.who flow) s none).has in cc)
-before_giving_up s (winds ending m ms) none = refl
+before_giving_up s (act step) none =
+    absurd (let want = (before_wound (ending.Answers answer.NoMemory None) (clean_up s.who step) s none).has in cc)
+before_giving_up s (winds end m ms) none = refl
 before_giving_up s compose none = absurd (let want = last_none s answer.NoMemory None none.results in cc)
 before_giving_up s (round keys) none = absurd (let want = last_none s answer.NoMemory None none.results in cc)
 
 before_composed_stage : (digest : List ℕ → Id) (s : ClientState) (stage : Stage) → StageHas IsNoWant (composed_stage digest s stage) → StageHas IsNoWant stage
 before_composed_stage digest s compose none = tt
 before_composed_stage digest s (round keys) none = none
-before_composed_stage digest s (act flow) none = none
-before_composed_stage digest s (winds ending m ms) none = none
+before_composed_stage digest s (act step) none = none
+before_composed_stage digest s (winds end m ms) none = none
 
 before_composed : (digest : List ℕ → Id) (s : ClientState) → ShowsNoWant (composed digest s) → ShowsNoWant s
 before_composed digest s none = record { results = none.results; stage = before_composed_stage digest s s.stage none.stage }
@@ -189,8 +199,8 @@ before_asked digest place ask s none =
 composed_same : (digest : List ℕ → Id) (s : ClientState) (stage : Stage) (m : Message) → slice_get (group s.who stage) (length s.sent) ≡ Some m → composed_stage digest s stage ≡ stage
 composed_same digest s compose m found = absurd (cc)
 composed_same digest s (round keys) m found = refl
-composed_same digest s (act flow) m found = refl
-composed_same digest s (winds ending m ms) at found = refl
+composed_same digest s (act step) m found = refl
+composed_same digest s (winds end m ms) at found = refl
 
 settled : (digest : List ℕ → Id) (s : ClientState) (number : ℕ) (ask : Ask) → next_step s ≡ asks number ask → composed digest s ≡ s
 settled digest s number ask next = ap (λ (stage : Stage). record s { stage = stage }) (composed_same digest s s.stage _ (goes s number ask next).message)
@@ -213,13 +223,13 @@ pub after_planned : (digest : List ℕ → Id) (sent : List Sent) (s : ClientSta
 after_planned digest [] s none = record { results = none.results; stage = composed_has digest IsNoWant s s.stage none.stage }
 after_planned digest (x ∷ sent) s none = none
 
-no_lift : (who : Who) (flow : Flow) → lifts (message_of who flow).request ≡ false
-no_lift who (finishes chain op) = refl
-no_lift who (reserves chain name mode) = refl
-no_lift who (makes chain name mode version id) = refl
-no_lift who (links chain name mode version dir) = refl
-no_lift who (seals chain) = refl
-no_lift who (unlinks chain) = refl
+no_lift : (who : Who) (step : Flow) → lifts (message_of who step).request ≡ false
+no_lift who (flow.File (file_flow.Finishes chain op)) = refl
+no_lift who (flow.Dir (dir_flow.Reserves chain name mode)) = refl
+no_lift who (flow.Dir (dir_flow.Makes chain name mode version id)) = refl
+no_lift who (flow.Dir (dir_flow.Links chain name mode version dir)) = refl
+no_lift who (flow.Dir (dir_flow.Seals chain)) = refl
+no_lift who (flow.Dir (dir_flow.Unlinks chain)) = refl
 
 no_lookup_lifts : (who : Who) (keys : List LookKey) (index : ℕ) (m : Message) → slice_get (map (lookup_of who) keys) index ≡ Some m → lifts m.request ≡ false
 no_lookup_lifts who [] index m found = absurd (cc)
@@ -242,10 +252,10 @@ finds_composed : (digest : List ℕ → Id) (s : ClientState) (stage : Stage) (m
     → found_at digest m.request s ≡ composed digest s
 finds_composed digest s compose m is found = found_composed digest m.request s (no_key_lifts digest s.who (next_course s.left) m found)
 finds_composed digest s (round keys) m is found = found_composed digest m.request s (no_lookup_lifts s.who keys 0 m found)
-finds_composed digest s (act flow) m is found =
-    let same : message_of s.who flow ≡ m = cc in
-    found_composed digest m.request s (subst (λ (n : Message). lifts n.request ≡ false) same (no_lift s.who flow))
-finds_composed digest s (winds ending m ms) n is found =
+finds_composed digest s (act step) m is found =
+    let same : message_of s.who step ≡ m = cc in
+    found_composed digest m.request s (subst (λ (n : Message). lifts n.request ≡ false) same (no_lift s.who step))
+finds_composed digest s (winds end m ms) n is found =
     let same : s ≡ composed digest s = sym (ap (λ (stage : Stage). record s { stage = stage }) (ap (composed_stage digest s) is ∙ sym is)) in
     if_both (λ (t : ClientState). t ≡ composed digest s) (lifts n.request) (if may_give_up s then given_up s else s) (composed digest s)
     (ap (λ b. if b then given_up s else s) (winding_goes s (ap is_winding is)) ∙ same) refl
@@ -281,17 +291,17 @@ no_want = record {
   clash = λ own kept. refl;
 }
 
-after_wound : (ending : Ending) (more : List Message) (s : ClientState) → EndingHas IsNoWant ending → HasNotGivenUp s.results → ShowsNoWant (wound ending more s)
-after_wound (answers given place) [] s none before = record {
+after_wound : (end : Ending) (more : List Message) (s : ClientState) → EndingHas IsNoWant end → HasNotGivenUp s.results → ShowsNoWant (wound end more s)
+after_wound (ending.Answers given place) [] s none before = record {
   results = none_joined s.results (result_of given place s.counts.last s ∷ []) before (neither (is_no_memory given) false none refl);
   stage = tt;
 }
-after_wound retries [] s none before = record { results = before; stage = tt }
-after_wound ending (m ∷ ms) s none before = record { results = before; stage = none }
+after_wound ending.Retries [] s none before = record { results = before; stage = tt }
+after_wound end (m ∷ ms) s none before = record { results = before; stage = none }
 
-after_turn : (turn : Turn) (s : ClientState) → TurnHas IsNoWant turn → HasNotGivenUp s.results → ShowsNoWant (turned turn s)
-after_turn (goes_on next) s none before = record { results = before; stage = none }
-after_turn (winds_up ending more) s none before = after_wound ending more s none before
+after_turn : (t : Turn Flow) (s : ClientState) → TurnHas IsNoWant t → HasNotGivenUp s.results → ShowsNoWant (turned t s)
+after_turn (turn.GoesOn next) s none before = record { results = before; stage = none }
+after_turn (turn.WindsUp end more) s none before = after_wound end more s none before
 
 pub after_served : (digest : List ℕ → Id) (place : ℕ) (told : Told) (s : ClientState) → is_wanting (map (told_at place told) s.sent) ≡ false → ShowsNoWant s → ShowsNoWant (served digest place told s)
 after_served digest place told s plain none =

@@ -3,11 +3,12 @@ use Rattle.std.proofs.Common.{◌≡◌, ℕ, suc, ◌+◌, Bool, true, false, c
 use Rattle.inf_base.specs.declared.id.Id.{Id}
 use Rattle.std.proofs.lemmas.Bool.Decides.{Decides-eqb}
 use Rattle.inf_base.specs.declared.setup.ClientLine.{ClientLine}
-use Rattle.inf_flow_dir.specs.Client.{ClientState, has_place}
+use Rattle.inf_duty.specs.ClientState.{ClientState}
+use Rattle.inf_message.specs.Heard.{heard}
+use Rattle.inf_message.specs.Sent.{has_place}
 use Rattle.inf_laws_history.specs.Legal.{Legal}
 use Rattle.inf_duty.specs.After.{client_after}
 use Rattle.inf_duty.specs.Outcome.{Agrees, Outcome, OutcomeFrom, may_pass}
-use Rattle.inf_flow_dir.specs.Heard.{heard}
 use Rattle.inf_duty.specs.World.{World}
 use Rattle.inf_laws_history.proofs.ByIndex.{got_apart}
 use Rattle.inf_message.specs.declared.call_result.CallResult.{CallResult}

@@ -6,7 +6,7 @@ use Rattle.std.proofs.lemmas.List.{length-set, map-append, map-set}
 use mathlib.Core.List.{reverse-cons}
 use Rattle.std.proofs.lemmas.Option.{slice_get-map, slice_get_within}
 use Rattle.inf_base.specs.declared.id.Id.{Id}
-use Rattle.inf_flow_dir.specs.Client.{ClientState}
+use Rattle.inf_duty.specs.ClientState.{ClientState}
 use Rattle.inf_core.specs.Core.{world_in}
 use Rattle.inf_duty.specs.Duty.{asked, next_step}
 use Rattle.inf_laws_history.specs.Legal.{Legal}

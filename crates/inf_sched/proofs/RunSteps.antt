@@ -4,9 +4,10 @@ use Rattle.inf_base.specs.declared.id.Id.{Id}
 use Rattle.std.specs.List.{list_any}
 use Rattle.std.proofs.lemmas.Bool.Decides.{Decides-eqb}
 use Rattle.inf_base.specs.declared.caller.CallRef.{CallRef}
-use Rattle.inf_flow_dir.specs.Client.{ClientState, Sent}
-use Rattle.inf_flow_dir.specs.Flow.{Who}
-use Rattle.inf_flow_dir.specs.Heard.{heard}
+use Rattle.inf_duty.specs.ClientState.{ClientState}
+use Rattle.inf_message.specs.Heard.{heard}
+use Rattle.inf_message.specs.Sent.{Sent}
+use Rattle.inf_message.specs.Who.{Who}
 use Rattle.inf_duty.specs.Duty.{Duty, Next, asked, asks, begun, is_over, next_step, waits}
 use Rattle.inf_duty.specs.After.{client_after}
 use Rattle.inf_duty.specs.World.{World}

@@ -1,14 +1,15 @@
 -- What comes of serving an Ask.
 use Rattle.std.proofs.Common.{◌≡◌, ℕ, suc, Bool, true, false, List, [], ◌∷◌, length, Option, Some, IsSome, refl, sym, ap, subst, ◌∙◌}
 use Rattle.inf_base.specs.declared.call.Call.{Call}
-use Rattle.inf_flow_dir.specs.Client.{ClientState, has_place}
-use Rattle.inf_flow_dir.specs.Heard.{heard}
+use Rattle.inf_duty.specs.ClientState.{ClientState}
+use Rattle.inf_duty.specs.Turn.{served}
+use Rattle.inf_message.specs.Heard.{heard}
+use Rattle.inf_message.specs.Sent.{has_place}
 use Rattle.inf_duty.specs.Outcome.{all_given_up}
 use Rattle.inf_base.specs.declared.id.Id.{Id}
 use Rattle.inf_core.specs.Core.{IsSameRun, IsServedNext, Running, world_in}
 use Rattle.inf_laws_history.specs.Legal.{Legal, MayServe}
 use Rattle.inf_duty.specs.After.{client_after}
-use Rattle.inf_flow_dir.specs.Turn.{served}
 use Rattle.inf_duty.specs.World.{World}
 use Rattle.inf_duty.proofs.BegunKept.{kept_all_given_up}
 use Rattle.inf_laws_history.proofs.ClientSteps.{Lasts, lasts_kept, served_apart}

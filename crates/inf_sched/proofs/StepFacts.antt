@@ -4,7 +4,7 @@ use Rattle.inf_base.specs.declared.id.Id.{Id}
 use Rattle.std.proofs.lemmas.Bool.Decides.{Decides-eqb}
 use Rattle.std.proofs.lemmas.List.Elements.{All-head, All-nil, All-push, All-tail, All-weaker}
 use mathlib.Core.List.{reverse-cons}
-use Rattle.inf_flow_dir.specs.Client.{ClientState, placed}
+use Rattle.inf_duty.specs.ClientState.{ClientState, placed}
 use Rattle.inf_duty.specs.Outcome.{all_given_up}
 use Rattle.inf_sched.specs.Scene.{planned}
 use Rattle.inf_duty.specs.ClientStep.{is_ask}

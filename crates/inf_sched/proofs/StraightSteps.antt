@@ -6,8 +6,9 @@ use Rattle.std.proofs.lemmas.Bool.Decides.{Decides-eqb}
 use Rattle.std.proofs.lemmas.List.{length-set}
 use Rattle.std.proofs.lemmas.Option.{slice_get_within}
 use Rattle.inf_base.specs.declared.setup.ClientLine.{ClientLine}
-use Rattle.inf_flow_dir.specs.Client.{ClientState, Sent, rest_of}
-use Rattle.inf_flow_dir.specs.Heard.{heard}
+use Rattle.inf_duty.specs.ClientState.{ClientState, rest_of}
+use Rattle.inf_message.specs.Heard.{heard}
+use Rattle.inf_message.specs.Sent.{Sent}
 use Rattle.inf_duty.specs.Duty.{Duty, Next, asked, asks, next_in, next_step}
 use Rattle.inf_duty.specs.After.{client_after}
 use Rattle.inf_duty.specs.Start.{starting}

@@ -10,10 +10,21 @@ use Rattle.inf_base.specs.declared.file.FileMeta.{FileMeta}
 use Rattle.inf_base.specs.declared.item.Kind.{Kind}
 use Rattle.inf_base.specs.declared.triple.Triple.{Triple}
 use Rattle.inf_base.specs.Same.{dir_of}
-use Rattle.inf_flow_dir.specs.Client.{ClientState, Ending, Sent, Stage, act, answers, compose, retries, round, winds}
-use Rattle.inf_flow_dir.specs.Flow.{Flow, Who, birth_of, finishes, links, makes, reserves, seals, unlinks}
-use Rattle.inf_flow_dir.specs.Group.{Course, composed_stage, keys_of, next_course}
-use Rattle.inf_flow_dir.specs.Turn.{Next, Turn, act_turn, after_act, after_make, after_round, by_next, fails, follow, from_root, goes_on, is_busy, is_wanting, links_to, next_entry, steps, stops, told_entry, turn_at, winds_up}
+use Rattle.inf_flow_dir.specs.declared.dir_flow.DirFlow.TheVariants as dir_flow
+use Rattle.inf_message.specs.declared.ending.Ending.TheVariants as ending
+use Rattle.inf_flow_file.specs.declared.file_flow.FileFlow.TheVariants as file_flow
+use Rattle.inf_duty.specs.declared.flow.Flow.TheVariants as flow
+use Rattle.inf_message.specs.declared.turn.Turn.TheVariants as turn
+use Rattle.inf_duty.specs.ClientState.{ClientState, Stage, act, compose, round, winds}
+use Rattle.inf_duty.specs.Flow.{after_act, clean_up}
+use Rattle.inf_duty.specs.Group.{Course, composed_stage, keys_of, next_course}
+use Rattle.inf_duty.specs.Turn.{Next, act_turn, after_round, by_next, follow, from_root, is_busy, links_to, next_entry, steps, stops, told_entry, turn_at}
+use Rattle.inf_duty.specs.declared.flow.Flow.{Flow}
+use Rattle.inf_message.specs.Sent.{Sent, is_wanting}
+use Rattle.inf_message.specs.Turn.{fails, turn_as}
+use Rattle.inf_message.specs.Who.{Who, birth_of}
+use Rattle.inf_message.specs.declared.ending.Ending.{Ending}
+use Rattle.inf_message.specs.declared.turn.Turn.{Turn}
 use Rattle.inf_message.specs.declared.op.Op.TheVariants as op
 use Rattle.inf_message.specs.declared.reply.Reply.{Reply}
 use Rattle.inf_message.specs.declared.reply.Reply.TheVariants as reply
@@ -22,16 +33,16 @@ use Rattle.inf_message.specs.History.{Told}
 -- ---- what the answer is that a call winds up with
 
 abbrev pub EndingHas : (Answer → Type 0) → Ending → Type 0
-EndingHas P (answers given place) = P given
-EndingHas P retries = Unit {0}
+EndingHas P (ending.Answers given place) = P given
+EndingHas P ending.Retries = Unit {0}
 
 abbrev pub StageHas : (Answer → Type 0) → Stage → Type 0
-StageHas P (winds ending m ms) = EndingHas P ending
+StageHas P (winds end m ms) = EndingHas P end
 StageHas P other_stage = Unit {0}
 
-abbrev pub TurnHas : (Answer → Type 0) → Turn → Type 0
-TurnHas P (goes_on next) = StageHas P next
-TurnHas P (winds_up ending more) = EndingHas P ending
+abbrev pub TurnHas : (Answer → Type 0) → Turn Flow → Type 0
+TurnHas P (turn.GoesOn next) = StageHas P (act next)
+TurnHas P (turn.WindsUp end more) = EndingHas P end
 
 keys_have : (digest : List ℕ → Id) (P : Answer → Type 0) (who : Who) (course : Option Course) → StageHas P (keys_of digest who course)
 keys_have digest P who None = tt
@@ -41,10 +52,10 @@ keys_have digest P who (Some course) = tt
 pub composed_has : (digest : List ℕ → Id) (P : Answer → Type 0) (s : ClientState) (stage : Stage) → StageHas P stage → StageHas P (composed_stage digest s stage)
 composed_has digest P s compose has = keys_have digest P s.who (next_course s.left)
 composed_has digest P s (round keys) has = has
-composed_has digest P s (act flow) has = has
-composed_has digest P s (winds ending m ms) has = has
+composed_has digest P s (act step) has = has
+composed_has digest P s (winds end m ms) has = has
 
--- so are the answers that a server's reply may bring, but for want of memory
+-- so are the ending.Answers that a server's reply may bring, but for want of memory
 pub record IsOfReplies (P : Answer → Type 0) : Type 0 where
   pub done : P answer.Done
   pub stat : (kind : Kind) (meta : FileMeta) → P (answer.Stat kind meta)
@@ -55,29 +66,25 @@ pub record IsOfReplies (P : Answer → Type 0) : Type 0 where
 module _ (digest : List ℕ → Id) (P : Answer → Type 0) (of : IsOfReplies P) where
   -- ---- after a message of a flow
 
-  fails_has : (who : Who) (flow : Flow) (place : ℕ) (given : Reply) → (given ≡ reply.NoMem → P answer.NoMemory) → TurnHas P (fails who flow place given)
-  fails_has who flow place (reply.Busy by at born) wanting = of.again by
-  fails_has who flow place (reply.Refused error) wanting = of.refused error
-  fails_has who flow place reply.NoMem wanting = wanting refl
-  fails_has who flow place any_reply wanting = tt
+  fails_has : {F : Type 0} (wrap : F → Flow) (who : Who) (step : Flow) (place : ℕ) (given : Reply) → (given ≡ reply.NoMem → P answer.NoMemory) → TurnHas P (turn_as wrap (fails (clean_up who step) place given))
+  fails_has wrap who step place (reply.Busy by at born) wanting = of.again by
+  fails_has wrap who step place (reply.Refused error) wanting = of.refused error
+  fails_has wrap who step place reply.NoMem wanting = wanting refl
+  fails_has wrap who step place any_reply wanting = tt
 
-  make_has : (who : Who) (flow : Flow) (own : Triple) (place : ℕ) (given : Reply) → (given ≡ reply.NoMem → P answer.NoMemory)
-      → TurnHas P (after_make who flow own place given)
-  make_has who flow own place (reply.Clash kept) wanting = of.clash own kept
-  make_has who flow own place any_reply wanting = fails_has who flow place any_reply wanting
-
-  act_has : (who : Who) (flow : Flow) (asked place : ℕ) (given : Reply) → (given ≡ reply.NoMem → P answer.NoMemory)
-      → TurnHas P (after_act digest who flow asked place given)
-  act_has who (finishes chain (op.Create name mode)) asked place reply.Fine wanting = of.done
-  act_has who (finishes chain (op.Stat name)) asked place (reply.Stat kind meta) wanting = of.stat kind meta
-  act_has who (reserves chain name mode) asked place (reply.Reserved version) wanting = tt
-  act_has who (makes chain name mode version id) asked place reply.Fine wanting = tt
-  act_has who (makes chain name mode version id) asked place given wanting =
-      make_has who (makes chain name mode version id) (birth_of who chain name version) place given wanting
-  act_has who (links chain name mode version dir) asked place reply.Fine wanting = of.done
-  act_has who (seals chain) asked place reply.Fine wanting = tt
-  act_has who (unlinks chain) asked place reply.Fine wanting = of.done
-  act_has who flow asked place given wanting = fails_has who flow place given wanting
+  act_has : (who : Who) (step : Flow) (asked place : ℕ) (given : Reply) → (given ≡ reply.NoMem → P answer.NoMemory)
+      → TurnHas P (after_act digest who step asked place given)
+  act_has who (flow.File (file_flow.Finishes chain (op.Create name mode))) asked place reply.Fine wanting = of.done
+  act_has who (flow.File (file_flow.Finishes chain (op.Stat name))) asked place (reply.Stat kind meta) wanting = of.stat kind meta
+  act_has who (flow.Dir (dir_flow.Reserves chain name mode)) asked place (reply.Reserved version) wanting = tt
+  act_has who (flow.Dir (dir_flow.Makes chain name mode version id)) asked place reply.Fine wanting = tt
+  act_has who (flow.Dir (dir_flow.Makes chain name mode version id)) asked place (reply.Clash kept) wanting =
+      of.clash (birth_of who chain name version) kept
+  act_has who (flow.Dir (dir_flow.Links chain name mode version dir)) asked place reply.Fine wanting = of.done
+  act_has who (flow.Dir (dir_flow.Seals chain)) asked place reply.Fine wanting = tt
+  act_has who (flow.Dir (dir_flow.Unlinks chain)) asked place reply.Fine wanting = of.done
+  act_has who (flow.File step) asked place given wanting = fails_has flow.File who (flow.File step) place given wanting
+  act_has who (flow.Dir step) asked place given wanting = fails_has flow.Dir who (flow.Dir step) place given wanting
 
   -- ---- after a round
 
@@ -98,7 +105,7 @@ module _ (digest : List ℕ → Id) (P : Answer → Type 0) (of : IsOfReplies P)
   next_has before None = tt
   next_has before (Some told) = reply_has before told.serve_place told.reply
 
-  by_next_has : (course : Course) (chain : List Entry) (name : List ℕ) (names : List (List ℕ)) (go : Entry → Turn) (next : Next) → NextHas next
+  by_next_has : (course : Course) (chain : List Entry) (name : List ℕ) (names : List (List ℕ)) (go : Entry → Turn Flow) (next : Next) → NextHas next
       → ((e : Entry) → TurnHas P (go e)) → TurnHas P (by_next course chain name names go next)
   by_next_has course chain name names go (steps e) has goes = goes e
   by_next_has course chain name names go stops has goes = tt
@@ -117,7 +124,7 @@ module _ (digest : List ℕ → Id) (P : Answer → Type 0) (of : IsOfReplies P)
   root_has course xs told (reply.Busy by at born) = of.again by
   root_has course xs told any_reply = tt
 
-  turn_if : (b : Bool) (first second : Turn) → (b ≡ true → TurnHas P first) → TurnHas P second → TurnHas P (if b then first else second)
+  turn_if : (b : Bool) (first second : Turn Flow) → (b ≡ true → TurnHas P first) → TurnHas P second → TurnHas P (if b then first else second)
   turn_if true first second one other = one refl
   turn_if false first second one other = other
 
@@ -127,9 +134,9 @@ module _ (digest : List ℕ → Id) (P : Answer → Type 0) (of : IsOfReplies P)
       → (is_wanting (record { place = place; told = told } ∷ xs) ≡ true → P answer.NoMemory)
       → TurnHas P (after_round (Some course) (record { place = place; told = told } ∷ xs))
   first_has course place None xs wanting =
-      turn_if (is_wanting (record { place = place; told = None } ∷ xs)) (winds_up (answers answer.NoMemory None) []) (winds_up retries []) wanting tt
+      turn_if (is_wanting (record { place = place; told = None } ∷ xs)) (turn.WindsUp (ending.Answers answer.NoMemory None) []) (turn.WindsUp ending.Retries []) wanting tt
   first_has course place (Some told) xs wanting =
-      turn_if (is_wanting (record { place = place; told = Some told } ∷ xs)) (winds_up (answers answer.NoMemory None) []) (from_root course xs told told.reply) wanting
+      turn_if (is_wanting (record { place = place; told = Some told } ∷ xs)) (turn.WindsUp (ending.Answers answer.NoMemory None) []) (from_root course xs told told.reply) wanting
       (root_has course xs told told.reply)
 
   round_has : (course : Option Course) (sent : List Sent) → (is_wanting sent ≡ true → P answer.NoMemory) → TurnHas P (after_round course sent)
@@ -143,19 +150,19 @@ module _ (digest : List ℕ → Id) (P : Answer → Type 0) (of : IsOfReplies P)
   wanted_first place serve_place given xs wanting is =
       wanting (ap (λ (r : Reply). is_wanting (record { place = place; told = Some (record { serve_place = serve_place; reply = r }) } ∷ xs)) is)
 
-  told_has : (who : Who) (flow : Flow) (place : ℕ) (told : Option Told) (xs : List Sent)
+  told_has : (who : Who) (step : Flow) (place : ℕ) (told : Option Told) (xs : List Sent)
       → (is_wanting (record { place = place; told = told } ∷ xs) ≡ true → P answer.NoMemory)
-      → TurnHas P (act_turn digest who flow (record { place = place; told = told } ∷ xs))
-  told_has who flow place None xs wanting = tt
-  told_has who flow place (Some told) xs wanting =
-      act_has who flow place told.serve_place told.reply (wanted_first place told.serve_place told.reply xs wanting)
+      → TurnHas P (act_turn digest who step (record { place = place; told = told } ∷ xs))
+  told_has who step place None xs wanting = tt
+  told_has who step place (Some told) xs wanting =
+      act_has who step place told.serve_place told.reply (wanted_first place told.serve_place told.reply xs wanting)
 
-  flow_has : (who : Who) (flow : Flow) (sent : List Sent) → (is_wanting sent ≡ true → P answer.NoMemory) → TurnHas P (act_turn digest who flow sent)
-  flow_has who flow [] wanting = tt
-  flow_has who flow (x ∷ xs) wanting = told_has who flow x.place x.told xs wanting
+  flow_has : (who : Who) (step : Flow) (sent : List Sent) → (is_wanting sent ≡ true → P answer.NoMemory) → TurnHas P (act_turn digest who step sent)
+  flow_has who step [] wanting = tt
+  flow_has who step (x ∷ xs) wanting = told_has who step x.place x.told xs wanting
 
   pub turn_has : (s : ClientState) (stage : Stage) → StageHas P stage → (is_wanting s.sent ≡ true → P answer.NoMemory) → TurnHas P (turn_at digest s stage)
   turn_has s compose has wanting = tt
   turn_has s (round keys) has wanting = round_has (next_course s.left) s.sent wanting
-  turn_has s (act flow) has wanting = flow_has s.who flow s.sent wanting
-  turn_has s (winds ending m ms) has wanting = has
+  turn_has s (act step) has wanting = flow_has s.who step s.sent wanting
+  turn_has s (winds end m ms) has wanting = has

@@ -9,8 +9,9 @@ use Rattle.inf_base.specs.declared.caller.CallRef.{CallRef}
 use Rattle.inf_base.specs.declared.setup.ClientLine.{ClientLine}
 use Rattle.inf_duty.specs.Outcome.{come_to, results_of, so_far, unanswered}
 use Rattle.inf_duty.specs.World.{World}
-use Rattle.inf_flow_dir.specs.Client.{ClientState, Stage, act, answers, compose, ended, retries, round, winds}
-use Rattle.inf_flow_dir.specs.Turn.{is_wanting}
+use Rattle.inf_message.specs.declared.ending.Ending.TheVariants as ending
+use Rattle.inf_duty.specs.ClientState.{ClientState, Stage, act, compose, ended, round, winds}
+use Rattle.inf_message.specs.Sent.{is_wanting}
 use Rattle.inf_laws_history.proofs.Numbered.{IsNumbered, all_given_up_is, numbered_after, so_far_call, total_of}
 use Rattle.inf_laws_history.proofs.PlacedAnswers.{AllAre, IsOfServes, StageIs, all_given_up_are, answers_after}
 use Rattle.inf_message.specs.declared.call_result.CallResult.{CallResult}
@@ -72,8 +73,8 @@ module _ (client : ℕ) (s : ClientState) where
   -- the one under way
   open_if : (stage : Stage) → StageIs IsAnswer stage → (so_far stage s).answer ≡ answer.Unanswered
       → is_open s.sent stage ≡ true
-  open_if (winds (answers given at) m ms) is e = absurd (is e)
-  open_if (winds retries m ms) is e = refl
+  open_if (winds (ending.Answers given at) m ms) is e = absurd (is e)
+  open_if (winds ending.Retries m ms) is e = refl
   open_if compose is e = refl
   open_if (round keys) is e = by (is_wanting s.sent) e
     where
@@ -83,8 +84,8 @@ module _ (client : ℕ) (s : ClientState) where
   open_if (act flow) is e = refl
 
   open_so : (stage : Stage) → is_open s.sent stage ≡ true → (so_far stage s).answer ≡ answer.Unanswered
-  open_so (winds (answers given at) m ms) is = absurd (cc)
-  open_so (winds retries m ms) is = refl
+  open_so (winds (ending.Answers given at) m ms) is = absurd (cc)
+  open_so (winds ending.Retries m ms) is = refl
   open_so compose is = refl
   open_so (round keys) is = by (is_wanting s.sent) is
     where

@@ -2,8 +2,9 @@
 use Rattle.std.specs.Prelude.{◌≡◌, ℕ, ◌+◌, ◌<◌, Bool, true, false, not, List, length}
 use Rattle.inf_duty.specs.Outcome.{all_given_up}
 use Rattle.inf_duty.specs.World.{World}
-use Rattle.inf_flow_dir.specs.Client.{ClientState, Sent, Stage, answers, round, winds}
-use Rattle.inf_flow_dir.specs.Turn.{is_wanting}
+use Rattle.inf_message.specs.declared.ending.Ending.TheVariants as ending
+use Rattle.inf_duty.specs.ClientState.{ClientState, Stage, round, winds}
+use Rattle.inf_message.specs.Sent.{Sent, is_wanting}
 use Rattle.inf_message.specs.declared.call_result.CallResult.{CallResult}
 use Rattle.inf_sched.specs.Scene.{Scene, client_in, is_gone}
 
@@ -19,7 +20,7 @@ standing_in world scene client = left_by (is_gone scene client) (client_in world
 -- no answer has come to the call under way, nor want of memory
 abbrev pub is_open : List Sent → Stage → Bool
 is_open sent (round keys) = not (is_wanting sent)
-is_open sent (winds (answers given place) m ms) = false
+is_open sent (winds (ending.Answers given place) m ms) = false
 is_open sent other_stage = true
 
 abbrev pub is_undecided : ClientState → Bool

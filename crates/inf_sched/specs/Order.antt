@@ -1,7 +1,7 @@
 -- The outcomes that an order makes.
 use Rattle.std.specs.Prelude.{◌≡◌, ℕ, ◌+◌, Bool, true, false, List, [], ◌∷◌, ◌++◌}
 use Rattle.inf_base.specs.declared.setup.ClientLine.{ClientLine}
-use Rattle.inf_flow_dir.specs.Client.{ClientState}
+use Rattle.inf_duty.specs.ClientState.{ClientState}
 use Rattle.inf_duty.specs.Outcome.{all_given_up, results_of}
 use Rattle.inf_duty.specs.World.{World}
 use Rattle.inf_message.specs.declared.call_result.CallResult.{CallResult}

@@ -1,6 +1,6 @@
 -- What contracts see of a run, and what it keeps behind that.
 use Rattle.std.specs.Prelude.{◌≡◌, ◌⊎◌, ℕ, zero, suc, ◌+◌, Bool, true, false, List, [], ◌∷◌, ◌++◌, length, map, reverse, slice_get, Some, None}
-use Rattle.inf_flow_dir.specs.Client.{ClientState}
+use Rattle.inf_duty.specs.ClientState.{ClientState}
 use Rattle.inf_duty.specs.Start.{start}
 use Rattle.inf_core.specs.Core.{IsSameRun, Running}
 use Rattle.inf_laws_history.specs.Legal.{Legal, MayAsk, MayServe}

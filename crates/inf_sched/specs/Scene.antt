@@ -1,7 +1,7 @@
 -- Where a run stands, and the steps that it takes: a client asks, or wants memory; a server serves.
 use Rattle.std.specs.Prelude.{◌≡◌, ◌⊎◌, ℕ, Bool, true, false, ◌&&◌, ◌||◌, not, nat_lt, List, [], ◌∷◌, length, map, slice_get, slice_set, Option, Some, None}
 use Rattle.inf_base.specs.declared.setup.ClientLine.{ClientLine}
-use Rattle.inf_flow_dir.specs.Client.{ClientState}
+use Rattle.inf_duty.specs.ClientState.{ClientState}
 pub use Rattle.inf_client.specs.Planned.{planned, planned_from}
 pub use Rattle.inf_duty.specs.ClientStep.{is_ask}
 use Rattle.inf_duty.specs.Duty.{next_step}

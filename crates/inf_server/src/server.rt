@@ -24,8 +24,9 @@ use crate::checks::{dir_of, have_entries, no_directory, unless_taken, unsealed};
 use crate::refusal::Refusal;
 use inf_base::{
     CallRef, Chain, DirRef, Entry, Id, Key, LookKey, Name, NoMemory, Place, Setup, Triple,
+    server_of,
 };
-use inf_birth::{IdRule, identify, server_of};
+use inf_birth::{IdRule, identify};
 use inf_content::{Contents, Seen};
 use inf_message::{Ask, Op, Reply, Request};
 use inf_renames::Renames;

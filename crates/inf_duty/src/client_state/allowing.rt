@@ -2,7 +2,8 @@
 
 ghost use Rattle.std.specs.Prelude.{◌≡◌, ◌↔◌, length, map, slice_get, IfOk, IsTrue};
 ghost use Rattle.inf_duty.specs.Duty.{Duty, asks, next_step};
-ghost use Rattle.inf_flow_dir.specs.Group.{group, lookup_of};
+ghost use Rattle.inf_duty.specs.Group.{group};
+ghost use Rattle.inf_message.specs.Who.{lookup_of};
 
 use super::ClientState;
 use crate::standing::Standing;

@@ -4,18 +4,18 @@ ghost use Rattle.std.specs.Prelude.{ℕ, List, ◌≡◌, ◌≢◌, ◌+◌, �
 ghost use Rattle.inf_base.specs.declared.id.Id.{Id};
 ghost use Rattle.inf_duty.specs.Duty.{asked, at_call, begun, found_at, lifts, may_give_up};
 ghost use Rattle.inf_duty.specs.Messages.{is_compose};
-ghost use Rattle.inf_flow_dir.specs.Client.{placed};
-ghost use Rattle.inf_flow_dir.specs.Draft.{course_with};
-ghost use Rattle.inf_flow_dir.specs.Group.{composed, next_course};
+ghost use Rattle.inf_duty.specs.ClientState.{placed};
+ghost use Rattle.inf_duty.specs.Draft.{course_with};
+ghost use Rattle.inf_duty.specs.Group.{composed, next_course};
 
 use super::ClientState;
+use crate::draft::Draft;
 use crate::group::{is_compose, is_round};
-use crate::recording::make_rooms;
+use crate::recording::{make_clash_room, make_rooms};
 use crate::standing::Standing;
 use inf_base::{NoMemory, Place};
 use inf_birth::IdRule;
-use inf_flow_dir::{Draft, Sending};
-use inf_message::{Ask, Request};
+use inf_message::{Ask, Request, Sending};
 use std::alloc::Global;
 
 /// Whether a request is one of a clean-up.
@@ -41,6 +41,7 @@ impl ClientState {
     {
         let keys = draft.keys(alloc, rule, &self.who)?;
         make_rooms(alloc, &mut self.rooms, keys.len())?;
+        make_clash_room(alloc, &mut self.clash_room)?;
         self.sent = Vec::with_capacity(alloc, keys.len())?;
         self.stands = Standing::Round(keys, draft);
         Ok(())

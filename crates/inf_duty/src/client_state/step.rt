@@ -7,17 +7,18 @@ ghost use Rattle.inf_duty.specs.Duty.{asks, given_up, has_ask, may_give_up, next
 ghost use Rattle.inf_duty.specs.Kept.{unserved};
 ghost use Rattle.inf_duty.specs.Messages.{is_compose, is_winding, post_of};
 ghost use Rattle.inf_duty.specs.Outcome.{come_to, results_of, so_far};
-ghost use Rattle.inf_flow_dir.specs.Client.{compose, placed, result_of};
-ghost use Rattle.inf_flow_dir.specs.Group.{composed, group, lookup_of};
-ghost use Rattle.inf_flow_dir.specs.Turn.{is_wanting};
+ghost use Rattle.inf_duty.specs.ClientState.{compose, placed, result_of};
+ghost use Rattle.inf_duty.specs.Group.{composed, group};
+ghost use Rattle.inf_message.specs.Sent.{is_wanting};
+ghost use Rattle.inf_message.specs.Who.{lookup_of};
 
 use super::ClientState;
 use crate::client_step::ClientStep;
+use crate::draft::has_course;
 use crate::group::{has_message, is_round, is_winding};
 use crate::standing::Standing;
 use inf_base::{Answer, CallRef, LookKey, NoMemory, Place};
-use inf_flow_dir::{Ending, Sending, has_course, is_one_wanting};
-use inf_message::{Ask, CallResult, Message};
+use inf_message::{Ask, CallResult, Ending, Message, Sending, is_one_wanting};
 use std::alloc::Global;
 use std::mem;
 

@@ -3,22 +3,24 @@
 ghost use Rattle.std.specs.Prelude.{ℕ, List, ◌≡◌, ◌==◌, ◌&&◌, ◌<◌, [], true, false, length, is_some};
 ghost use Rattle.inf_base.specs.declared.id.Id.{Id};
 ghost use Rattle.inf_duty.specs.Messages.{has_one_message};
-ghost use Rattle.inf_flow_dir.specs.Client.{act, begins_again, compose, finished, has_place, is_round, wound};
-ghost use Rattle.inf_flow_dir.specs.Ending.{ending_of};
-ghost use Rattle.inf_flow_dir.specs.Group.{next_course};
-ghost use Rattle.inf_flow_dir.specs.Heard.{heard};
-ghost use Rattle.inf_flow_dir.specs.Turn.{goes_on, is_complete, recorded, served, settled, turn_at, turned};
-ghost use Rattle.inf_flow_dir.specs.TurnOf.{turn_of};
+ghost use Rattle.inf_message.specs.declared.turn.Turn.TheVariants as turn;
+ghost use Rattle.inf_duty.specs.ClientState.{act, begins_again, compose, finished, is_round, wound};
+ghost use Rattle.inf_duty.specs.Group.{next_course};
+ghost use Rattle.inf_duty.specs.Turn.{is_complete, recorded, served, settled, turn_at, turned};
+ghost use Rattle.inf_message.specs.Heard.{heard};
+ghost use Rattle.inf_message.specs.Sent.{has_place};
+ghost use Rattle.inf_message.specs.Turn.{goes_on};
 ghost use Rattle.inf_message.specs.History.{told_reply};
 
 use super::ClientState;
+use crate::flow::Flow;
 use crate::group::{group_size, has_one_message};
 use crate::recording::record_answer;
+use crate::round::after_round;
 use crate::standing::Standing;
 use inf_base::Place;
 use inf_birth::IdRule;
-use inf_flow_dir::{CleanUps, DirFlow, Ending, Turn, after_round, are_told, has_place};
-use inf_message::Reply;
+use inf_message::{CleanUps, Ending, NameRoom, Reply, Turn, are_told, has_place};
 use std::mem;
 
 impl ClientState {
@@ -34,7 +36,7 @@ impl ClientState {
     /// The call has come to its end, or the attempt.
     fn finish(&mut self, ending: Ending)
         requires { 0 < length self.old.left }
-        ensures { self.new ≡ finished (ending_of ending) self.old }
+        ensures { self.new ≡ finished ending self.old }
     {
         match ending {
             Ending::Answers(answer, place) => self.end(answer, place),
@@ -45,7 +47,7 @@ impl ClientState {
     /// The messages that are left, and then the end.
     pub(super) fn wind(&mut self, ending: Ending, more: CleanUps)
         requires { is_some (next_course self.old.left) ≡ true }
-        ensures { self.new ≡ wound (ending_of ending) more self.old }
+        ensures { self.new ≡ wound ending more self.old }
     {
         match more.take_first() {
             None => self.finish(ending),
@@ -57,33 +59,46 @@ impl ClientState {
     }
 
     /// The next message of the attempt.
-    fn go_on(&mut self, flow: DirFlow)
-        requires { is_some (next_course self.old.left) ≡ true }
-        ensures { self.new ≡ turned (goes_on (act flow)) self.old }
+    fn go_on(&mut self, flow: Flow, room: Option<NameRoom>)
+        requires call { is_some (next_course self.old.left) ≡ true }
+        requires room { is_some room ≡ true }
+        ensures { self.new ≡ turned (turn.GoesOn flow) self.old }
     {
         self.stands = Standing::Act(flow);
+        self.clash_room = room;
         self.sent.clear();
     }
 
-    fn follow(&mut self, turn: Turn)
-        requires { is_some (next_course self.old.left) ≡ true }
-        ensures { self.new ≡ turned (turn_of turn) self.old }
+    /// What comes of a turn, with the room that it has left for the triple of a clash.
+    fn follow(&mut self, turn: Turn<Flow>, room: Option<NameRoom>)
+        requires call { is_some (next_course self.old.left) ≡ true }
+        requires room { goes_on turn ≡ true → is_some room ≡ true }
+        ensures { self.new ≡ turned turn self.old }
     {
         match turn {
-            Turn::GoesOn(flow) => self.go_on(flow),
-            Turn::WindsUp(ending, more) => self.wind(ending, more),
+            Turn::GoesOn(flow) => self.go_on(flow, room),
+            Turn::WindsUp(ending, more) => {
+                if room.is_some() {
+                    self.clash_room = room;
+                }
+                self.wind(ending, more);
+            }
         }
     }
 
     /// What comes of the answers to a round, which is over.
-    fn take_round(&mut self) -> Turn
+    fn take_round(&mut self) -> (Turn<Flow>, Option<NameRoom>)
         requires round { is_round self.old.stage ≡ true }
-        ensures turn { (digest : List ℕ → Id) → turn_of result ≡ turn_at digest self.old self.old.stage }
+        ensures turn { (digest : List ℕ → Id) → result.0 ≡ turn_at digest self.old self.old.stage }
+        ensures room { is_some result.1 ≡ true }
         ensures after { self.new ≡ record self.old { stage = compose; sent = [] } }
         ensures call { is_some (next_course self.old.left) ≡ true }
     {
         match mem::replace(&mut self.stands, Standing::Compose) {
-            Standing::Round(_, draft) => after_round(draft, &mut self.sent),
+            Standing::Round(_, draft) => {
+                let room = self.clash_room.take();
+                (after_round(draft, &mut self.sent), room)
+            }
             _ => unreachable!(),
         }
     }
@@ -96,21 +111,27 @@ impl ClientState {
         ask_place: Place,
         serve_place: Place,
         reply: &Reply,
-    ) -> Turn
+    ) -> (Turn<Flow>, Option<NameRoom>)
         requires alone { length self.old.sent ≡ 1 }
         requires here { has_place ask_place self.old.sent ≡ true }
         requires stage { has_one_message self.old.stage ≡ true }
-        ensures turn { turn_of result
-            ≡ turn_at (R.digest_of rule.now) (recorded ask_place (told_reply serve_place (heard reply.now)) self.old) self.old.stage }
+        ensures turn { result.0
+            ≡ turn_at (R.digest_of rule.now)
+            (recorded ask_place (told_reply serve_place (heard reply.now)) self.old) self.old.stage }
+        ensures room { goes_on result.0 ≡ true → is_some result.1 ≡ true }
         ensures after { self.new ≡ record self.old { stage = compose; sent = [] } }
         ensures call { is_some (next_course self.old.left) ≡ true }
     {
         self.sent.clear();
-        match mem::replace(&mut self.stands, Standing::Compose) {
-            Standing::Act(flow) => flow.next(rule, &self.who, ask_place, serve_place, reply),
+        let mut room = self.clash_room.take();
+        let turn = match mem::replace(&mut self.stands, Standing::Compose) {
+            Standing::Act(flow) => {
+                flow.next(rule, &self.who, ask_place, serve_place, reply, &mut room)
+            }
             Standing::Winds(ending, _, rest) => Turn::WindsUp(ending, rest),
             _ => unreachable!(),
-        }
+        };
+        (turn, room)
     }
 
     /// Whether a group of one message, and no round, waits for its answer.
@@ -157,9 +178,9 @@ impl ClientState {
         ensures { self.new
             ≡ served (R.digest_of rule.now) ask_place (told_reply serve_place (heard reply.now)) self.old }
     {
-        let turn = self.take_answer(rule, ask_place, serve_place, reply);
+        let (turn, room) = self.take_answer(rule, ask_place, serve_place, reply);
         self.counts.count_serve(serve_place);
-        self.follow(turn);
+        self.follow(turn, room);
     }
 
     #[tactic(auto, using(crate::proofs::TurnFacts::turned_afresh))]
@@ -167,8 +188,8 @@ impl ClientState {
         requires { is_round self.old.stage ≡ true }
         ensures { (digest : List ℕ → Id) → self.new ≡ settled digest true self.old }
     {
-        let turn = self.take_round();
-        self.follow(turn);
+        let (turn, room) = self.take_round();
+        self.follow(turn, room);
     }
 
     /// The Ask at a place was served. Only an Ask of the present group is waited for.

@@ -1,36 +1,33 @@
 //! What is cleaned up behind a flow.
 
-ghost use Rattle.std.specs.Prelude.{◌≡◌, ◌<◌, ◌∷◌, Some, length};
+ghost use Rattle.std.specs.Prelude.{◌≡◌, ◌∷◌, Some};
 ghost use Rattle.inf_message.specs.declared.request.Request.TheVariants as request;
-ghost use Rattle.inf_flow_dir.specs.Flow.{after_unlink, clean_up, last_dir, lift, lives_at, row_of};
+ghost use Rattle.inf_message.specs.Chain.{last_dir};
+ghost use Rattle.inf_message.specs.Who.{lift};
+ghost use Rattle.inf_flow_dir.specs.DirFlow.{after_unlink, clean_up, lives_at, row_of};
 
 use super::DirFlow;
-use crate::chain::{dir_of, last_dir, way_to};
-use crate::clean_up::{CleanUp, CleanUps};
-use crate::lift::Lift;
-use crate::phase::Phase;
-use crate::who::Who;
 use inf_base::{DirRef, Entry, Id, Key, Triple};
+use inf_message::{CleanUp, CleanUps, Lift, Who, dir_of, last_dir, way_to};
 
 impl DirFlow {
     /// What is cleaned up where the next message does not succeed, or is not sent for want of memory.
     pub fn clean_up(&self, who: &Who) -> CleanUps
         ensures { result ≡ clean_up who.now self.now }
     {
-        match &self.phase {
-            Phase::Finishes(_, _) | Phase::Reserves(_) | Phase::Seals(_) => CleanUps::none(),
-            Phase::Makes(new, _, _) => CleanUps::one(cancel(who, new.chain.as_slice())),
-            Phase::Links(new, _, dir) => {
-                CleanUps::two(drops(who, *dir), cancel(who, new.chain.as_slice()))
+        match self {
+            DirFlow::Reserves { .. } | DirFlow::Seals(_) => CleanUps::none(),
+            DirFlow::Makes { chain, .. } => CleanUps::one(cancel(who, chain.as_slice())),
+            DirFlow::Links { chain, dir, .. } => {
+                CleanUps::two(drops(who, *dir), cancel(who, chain.as_slice()))
             }
-            Phase::Unlinks(chain) => CleanUps::one(unseal(who, chain.as_slice())),
+            DirFlow::Unlinks(chain) => CleanUps::one(unseal(who, chain.as_slice())),
         }
     }
 }
 
 /// Gives the name back that was kept in the directory that the chain leads to.
 pub fn cancel(who: &Who, chain: &[Entry]) -> CleanUp
-    requires { 0 < length chain.now }
     ensures { result ≡ lift who.now (last_dir chain.now) request.Cancel }
 {
     let dir = last_dir(chain);
@@ -46,7 +43,6 @@ pub fn drops(who: &Who, dir: DirRef) -> CleanUp
 
 /// Opens the directory again that the chain leads to.
 pub fn unseal(who: &Who, chain: &[Entry]) -> CleanUp
-    requires { 0 < length chain.now }
     ensures { result ≡ lift who.now (last_dir chain.now) request.Unseal }
 {
     let dir = last_dir(chain);
@@ -73,14 +69,13 @@ fn lives_at(parent: &Id, key: &Key, birth: &Triple) -> bool
 /// What follows the unlinking of the directory that the chain leads to: its content goes, and the row of its birth
 /// place, if it had left that.
 pub fn after_unlink(who: &Who, chain: &[Entry]) -> CleanUps
-    requires { 0 < length chain.now }
     ensures { result ≡ after_unlink who.now chain.now }
 {
     let parent = who.last_id(way_to(chain));
     let content = drops(who, last_dir(chain));
     match chain.last() {
         Some(entry) => with_row(who, content, &parent, entry),
-        None => unreachable!(),
+        None => CleanUps::one(content),
     }
 }
 

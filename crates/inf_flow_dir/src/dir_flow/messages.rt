@@ -2,15 +2,13 @@
 
 ghost use Rattle.std.specs.Prelude.{◌≡◌, IfOk};
 ghost use Rattle.inf_message.specs.declared.request.Request.TheVariants as request;
-ghost use Rattle.inf_flow_dir.specs.Flow.{birth_of, finishes, last_id, makes, message_of, reserves, seals, to, unlinks};
+ghost use Rattle.inf_message.specs.Chain.{way_to};
+ghost use Rattle.inf_message.specs.Who.{birth_of, last_id, to};
+ghost use Rattle.inf_flow_dir.specs.DirFlow.{message_of};
 
 use super::DirFlow;
-use crate::chain::way_to;
-use crate::new_dir::NewDir;
-use crate::phase::Phase;
-use crate::who::Who;
-use inf_base::{Chain, DirRef, Id, NoMemory, Triple, TryClone};
-use inf_message::{Message, Op, Request};
+use inf_base::{Chain, DirRef, Id, Name, NoMemory, Triple, TryClone};
+use inf_message::{Message, Request, Who, way_to};
 use std::alloc::Global;
 
 impl DirFlow {
@@ -18,83 +16,88 @@ impl DirFlow {
     pub fn message(&self, alloc: Global, who: &Who) -> Result<Message, NoMemory>
         ensures { IfOk result (λ made. made ≡ message_of who.now self.now) }
     {
-        match &self.phase {
-            Phase::Finishes(chain, op) => finish(alloc, who, chain, op),
-            Phase::Reserves(new) => reserve(alloc, who, new),
-            Phase::Makes(new, version, id) => make(alloc, who, new, *version, id),
-            Phase::Links(new, _, dir) => link(alloc, who, new, dir),
-            Phase::Seals(chain) => seal(alloc, who, chain),
-            Phase::Unlinks(chain) => unlink(alloc, who, chain),
+        match self {
+            DirFlow::Reserves { chain, name, .. } => reserve(alloc, who, chain, name),
+            DirFlow::Makes {
+                chain,
+                name,
+                version,
+                id,
+                ..
+            } => make(alloc, who, chain, name, *version, id),
+            DirFlow::Links {
+                chain,
+                name,
+                mode,
+                dir,
+                ..
+            } => link(alloc, who, chain, name, *mode, dir),
+            DirFlow::Seals(chain) => seal(alloc, who, chain),
+            DirFlow::Unlinks(chain) => unlink(alloc, who, chain),
         }
     }
 }
 
-fn finish(alloc: Global, who: &Who, chain: &Chain, op: &Op) -> Result<Message, NoMemory>
-    ensures { IfOk result (λ made. made ≡ message_of who.now (finishes chain.now op.now)) }
+fn reserve(alloc: Global, who: &Who, chain: &Chain, name: &Name) -> Result<Message, NoMemory>
+    ensures { IfOk result (λ made.
+        made ≡ to who.now (last_id who.now chain.now) (request.Reserve chain.now name.now)) }
 {
     Ok(Message {
         number: who.server(&who.last_id(chain.as_slice())),
-        request: Request::Finish {
-            chain: chain.try_clone(alloc)?,
-            op: op.try_clone(alloc)?,
-        },
-    })
-}
-
-fn reserve(alloc: Global, who: &Who, new: &NewDir) -> Result<Message, NoMemory>
-    ensures { IfOk result (λ made.
-        made ≡ message_of who.now (reserves new.now.chain new.now.name new.now.mode)) }
-{
-    Ok(Message {
-        number: who.server(&who.last_id(new.chain.as_slice())),
         request: Request::Reserve {
-            chain: new.chain.try_clone(alloc)?,
-            name: new.name.try_clone(alloc)?,
+            chain: chain.try_clone(alloc)?,
+            name: name.try_clone(alloc)?,
         },
     })
 }
 
-/// The triple that a new directory's identifier is the digest of.
-fn birth(alloc: Global, who: &Who, new: &NewDir, version: u64) -> Result<Triple, NoMemory>
-    ensures { IfOk result (λ birth.
-        birth ≡ birth_of who.now new.now.chain new.now.name version) }
-{
-    Ok(Triple::Of {
-        parent: who.last_id(new.chain.as_slice()),
-        name: new.name.try_clone(alloc)?,
-        version,
-    })
-}
-
-fn make(alloc: Global, who: &Who, new: &NewDir, version: u64, id: &Id) -> Result<Message, NoMemory>
+/// The message that makes a directory: the triple is that which its identifier is the digest of.
+fn make(
+    alloc: Global,
+    who: &Who,
+    chain: &Chain,
+    name: &Name,
+    version: u64,
+    id: &Id,
+) -> Result<Message, NoMemory>
     ensures { IfOk result (λ made.
-        made ≡ message_of who.now (makes new.now.chain new.now.name new.now.mode version id.now)) }
+        made ≡ to who.now id.now (request.Make (birth_of who.now chain.now name.now version))) }
 {
+    let triple = Triple::Of {
+        parent: who.last_id(chain.as_slice()),
+        name: name.try_clone(alloc)?,
+        version,
+    };
     Ok(Message {
         number: who.server(id),
-        request: Request::Make {
-            triple: birth(alloc, who, new, version)?,
-        },
+        request: Request::Make { triple },
     })
 }
 
-fn link(alloc: Global, who: &Who, new: &NewDir, dir: &DirRef) -> Result<Message, NoMemory>
+fn link(
+    alloc: Global,
+    who: &Who,
+    chain: &Chain,
+    name: &Name,
+    mode: u16,
+    dir: &DirRef,
+) -> Result<Message, NoMemory>
     ensures { IfOk result (λ made.
-        made ≡ to who.now (last_id who.now new.now.chain) (request.Link new.now.chain new.now.name dir.now new.now.mode)) }
+        made ≡ to who.now (last_id who.now chain.now) (request.Link chain.now name.now dir.now mode)) }
 {
     Ok(Message {
-        number: who.server(&who.last_id(new.chain.as_slice())),
+        number: who.server(&who.last_id(chain.as_slice())),
         request: Request::Link {
-            chain: new.chain.try_clone(alloc)?,
-            name: new.name.try_clone(alloc)?,
+            chain: chain.try_clone(alloc)?,
+            name: name.try_clone(alloc)?,
             dir: *dir,
-            mode: new.mode,
+            mode,
         },
     })
 }
 
 fn seal(alloc: Global, who: &Who, chain: &Chain) -> Result<Message, NoMemory>
-    ensures { IfOk result (λ made. made ≡ message_of who.now (seals chain.now)) }
+    ensures { IfOk result (λ made. made ≡ to who.now (last_id who.now chain.now) (request.Seal chain.now)) }
 {
     Ok(Message {
         number: who.server(&who.last_id(chain.as_slice())),
@@ -105,7 +108,8 @@ fn seal(alloc: Global, who: &Who, chain: &Chain) -> Result<Message, NoMemory>
 }
 
 fn unlink(alloc: Global, who: &Who, chain: &Chain) -> Result<Message, NoMemory>
-    ensures { IfOk result (λ made. made ≡ message_of who.now (unlinks chain.now)) }
+    ensures { IfOk result (λ made.
+        made ≡ to who.now (last_id who.now (way_to chain.now)) (request.Unlink chain.now)) }
 {
     let parent = who.last_id(way_to(chain.as_slice()));
     Ok(Message {

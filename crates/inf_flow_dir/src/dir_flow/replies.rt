@@ -1,27 +1,22 @@
 //! What comes of the replies to the messages of a flow.
 
-ghost use Rattle.std.specs.Prelude.{◌≡◌, ◌<◌, ℕ, List, length};
-ghost use Rattle.inf_base.specs.declared.entry.Entry.{Entry};
+ghost use Rattle.std.specs.Prelude.{◌≡◌, ℕ, List, true, false, is_some};
+ghost use Rattle.inf_base.specs.declared.id.Id.{Id};
 ghost use Rattle.inf_message.specs.declared.reply.Reply.TheVariants as reply;
-ghost use Rattle.inf_flow_dir.specs.Flow.{Who as Whom, finishes, links, makes, reserves, seals, unlinks};
-ghost use Rattle.inf_flow_dir.specs.Turn.{after_act};
-ghost use Rattle.inf_flow_dir.specs.TurnOf.{turn_of};
+ghost use Rattle.inf_message.specs.Turn.{goes_on};
+ghost use Rattle.inf_message.specs.Who.{Who as Whom};
+ghost use Rattle.inf_flow_dir.specs.declared.dir_flow.DirFlow.TheVariants as step;
+ghost use Rattle.inf_flow_dir.specs.DirFlow.{after};
 
 use super::DirFlow;
 use super::cleaning::{after_unlink, cancel, drops, unseal};
-use crate::clean_up::CleanUps;
-use crate::ending::Ending;
-use crate::identity::identity_of;
-use crate::new_dir::NewDir;
-use crate::phase::Phase;
-use crate::turn::{Turn, done, ends, failed};
-use crate::who::Who;
-use inf_base::{Answer, Chain, DirRef, Id, Place, Triple};
-use inf_birth::IdRule;
-use inf_message::{Op, Reply};
+use inf_base::{Answer, Chain, DirRef, Name, Place, Triple};
+use inf_birth::{IdRule, identity_of};
+use inf_message::{CleanUps, Ending, NameRoom, Reply, Turn, Who, done, failed};
 
 impl DirFlow {
-    /// What comes of the reply to the message that was sent.
+    /// What comes of the reply to the message that was sent. The room is for the triple that a clash names, and is
+    /// used up by that alone.
     pub fn next<R: IdRule>(
         self,
         rule: &R,
@@ -29,101 +24,92 @@ impl DirFlow {
         ask_place: Place,
         serve_place: Place,
         reply: &Reply,
-    ) -> Turn
-        ensures { turn_of result ≡ after_act (R.digest_of rule.now) who.now self ask_place serve_place reply.now }
+        room: &mut Option<NameRoom>,
+    ) -> Turn<DirFlow>
+        requires room { is_some room.old ≡ true }
+        ensures turn { result ≡ after (R.digest_of rule.now) who.now self ask_place serve_place reply.now }
+        ensures room { goes_on result ≡ true → is_some room.new ≡ true }
     {
-        let DirFlow { phase } = self;
-        match phase {
-            Phase::Finishes(_, op) => after_finish(&op, serve_place, reply),
-            Phase::Reserves(new) => after_reserve(rule, who, new, serve_place, reply),
-            Phase::Makes(new, version, id) => {
-                after_make(who, new, version, id, ask_place, serve_place, reply)
+        match self {
+            DirFlow::Reserves { chain, name, mode } => {
+                after_reserve(rule, who, chain, name, mode, serve_place, reply)
             }
-            Phase::Links(new, _, dir) => after_link(who, new, dir, serve_place, reply),
-            Phase::Seals(chain) => after_seal(chain, serve_place, reply),
-            Phase::Unlinks(chain) => after_unlinking(who, chain, serve_place, reply),
+            DirFlow::Makes {
+                chain,
+                name,
+                mode,
+                version,
+                id,
+            } => match reply {
+                Reply::Fine => Turn::GoesOn(DirFlow::Links {
+                    chain,
+                    name,
+                    mode,
+                    version,
+                    dir: DirRef {
+                        id,
+                        born: ask_place,
+                    },
+                }),
+                Reply::Clash(kept) => clash(who, chain, name, version, kept, serve_place, room),
+                _ => failed(
+                    CleanUps::one(cancel(who, chain.as_slice())),
+                    serve_place,
+                    reply,
+                ),
+            },
+            DirFlow::Links { chain, dir, .. } => after_link(who, chain, dir, serve_place, reply),
+            DirFlow::Seals(chain) => after_seal(chain, serve_place, reply),
+            DirFlow::Unlinks(chain) => after_unlinking(who, chain, serve_place, reply),
         }
     }
 }
 
-fn after_finish(op: &Op, place: Place, reply: &Reply) -> Turn
-    ensures { (digest : List ℕ → Id) (who : Whom) (chain : List Entry) (asked : ℕ)
-        → turn_of result ≡ after_act digest who (finishes chain op.now) asked place reply.now }
-{
-    match op {
-        Op::Create(_, _) => match reply {
-            Reply::Fine => done(place, CleanUps::none()),
-            _ => failed(CleanUps::none(), place, reply),
-        },
-        Op::Stat(_) => match reply {
-            Reply::Stat { kind, meta } => {
-                let answer = Answer::Stat {
-                    kind: *kind,
-                    meta: *meta,
-                };
-                ends(answer, place)
-            }
-            _ => failed(CleanUps::none(), place, reply),
-        },
-        _ => failed(CleanUps::none(), place, reply),
-    }
-}
-
-fn after_reserve<R: IdRule>(rule: &R, who: &Who, new: NewDir, place: Place, reply: &Reply) -> Turn
-    requires { 0 < length new.chain }
-    ensures { (asked : ℕ) → turn_of result ≡ after_act (R.digest_of rule.now) who.now (reserves new.chain new.name new.mode) asked place reply.now }
+fn after_reserve<R: IdRule>(
+    rule: &R,
+    who: &Who,
+    chain: Chain,
+    name: Name,
+    mode: u16,
+    place: Place,
+    reply: &Reply,
+) -> Turn<DirFlow>
+    ensures { (asked : ℕ) → result
+        ≡ after (R.digest_of rule.now) who.now (step.Reserves chain name mode) asked place reply.now }
 {
     match reply {
         Reply::Reserved(version) => {
-            let parent = who.last_id(new.chain.as_slice());
-            let id = identity_of(rule, &parent, &new.name, *version);
-            Turn::GoesOn(DirFlow::new(Phase::Makes(new, *version, id)))
+            let id = identity_of(rule, &who.last_id(chain.as_slice()), &name, *version);
+            Turn::GoesOn(DirFlow::Makes {
+                chain,
+                name,
+                mode,
+                version: *version,
+                id,
+            })
         }
         _ => failed(CleanUps::none(), place, reply),
-    }
-}
-
-fn after_make(
-    who: &Who,
-    new: NewDir,
-    version: u64,
-    id: Id,
-    ask_place: Place,
-    serve_place: Place,
-    reply: &Reply,
-) -> Turn
-    requires { 0 < length new.chain }
-    ensures { (digest : List ℕ → Id) → turn_of result
-        ≡ after_act digest who.now (makes new.chain new.name new.mode version id) ask_place serve_place reply.now }
-{
-    match reply {
-        Reply::Fine => {
-            let dir = DirRef {
-                id,
-                born: ask_place,
-            };
-            Turn::GoesOn(DirFlow::new(Phase::Links(new, version, dir)))
-        }
-        Reply::Clash(kept) => clash(who, new, version, kept, serve_place),
-        _ => {
-            let clean_ups = CleanUps::one(cancel(who, new.chain.as_slice()));
-            failed(clean_ups, serve_place, reply)
-        }
     }
 }
 
 /// Another triple has the same digest: the answer names both, and the name that was kept is given back.
-fn clash(who: &Who, new: NewDir, version: u64, kept: &Triple, place: Place) -> Turn
-    requires { 0 < length new.chain }
-    ensures { (digest : List ℕ → Id) (id : Id) (asked : ℕ) → turn_of result
-        ≡ after_act digest who.now (makes new.chain new.name new.mode version id) asked place (reply.Clash kept.now) }
+fn clash(
+    who: &Who,
+    chain: Chain,
+    name: Name,
+    version: u64,
+    kept: &Triple,
+    place: Place,
+    room: &mut Option<NameRoom>,
+) -> Turn<DirFlow>
+    requires room { is_some room.old ≡ true }
+    ensures turn { (digest : List ℕ → Id) (mode asked : ℕ) (id : Id) → result
+        ≡ after digest who.now (step.Makes chain name mode version id) asked place (reply.Clash kept.now) }
+    ensures over { goes_on result ≡ false }
 {
-    let NewDir {
-        chain,
-        name,
-        room,
-        ..
-    } = new;
+    let Some(room) = room.take() else {
+        unreachable!();
+    };
     let clean_ups = CleanUps::one(cancel(who, chain.as_slice()));
     let own = Triple::Of {
         parent: who.last_id(chain.as_slice()),
@@ -134,33 +120,32 @@ fn clash(who: &Who, new: NewDir, version: u64, kept: &Triple, place: Place) -> T
     Turn::WindsUp(Ending::Answers(answer, Some(place)), clean_ups)
 }
 
-fn after_link(who: &Who, new: NewDir, dir: DirRef, place: Place, reply: &Reply) -> Turn
-    requires { 0 < length new.chain }
-    ensures { (digest : List ℕ → Id) (version asked : ℕ)
-        → turn_of result ≡ after_act digest who.now (links new.chain new.name new.mode version dir) asked place reply.now }
+fn after_link(who: &Who, chain: Chain, dir: DirRef, place: Place, reply: &Reply) -> Turn<DirFlow>
+    ensures { (digest : List ℕ → Id) (name : List ℕ) (mode version asked : ℕ) → result
+        ≡ after digest who.now (step.Links chain name mode version dir) asked place reply.now }
 {
     match reply {
         Reply::Fine => done(place, CleanUps::none()),
         _ => {
-            let clean_ups = CleanUps::two(drops(who, dir), cancel(who, new.chain.as_slice()));
+            let clean_ups = CleanUps::two(drops(who, dir), cancel(who, chain.as_slice()));
             failed(clean_ups, place, reply)
         }
     }
 }
 
-fn after_seal(chain: Chain, place: Place, reply: &Reply) -> Turn
-    requires { 0 < length chain }
-    ensures { (digest : List ℕ → Id) (who : Whom) (asked : ℕ) → turn_of result ≡ after_act digest who (seals chain) asked place reply.now }
+fn after_seal(chain: Chain, place: Place, reply: &Reply) -> Turn<DirFlow>
+    ensures { (digest : List ℕ → Id) (who : Whom) (asked : ℕ) → result
+        ≡ after digest who (step.Seals chain) asked place reply.now }
 {
     match reply {
-        Reply::Fine => Turn::GoesOn(DirFlow::new(Phase::Unlinks(chain))),
+        Reply::Fine => Turn::GoesOn(DirFlow::Unlinks(chain)),
         _ => failed(CleanUps::none(), place, reply),
     }
 }
 
-fn after_unlinking(who: &Who, chain: Chain, place: Place, reply: &Reply) -> Turn
-    requires { 0 < length chain }
-    ensures { (digest : List ℕ → Id) (asked : ℕ) → turn_of result ≡ after_act digest who.now (unlinks chain) asked place reply.now }
+fn after_unlinking(who: &Who, chain: Chain, place: Place, reply: &Reply) -> Turn<DirFlow>
+    ensures { (digest : List ℕ → Id) (asked : ℕ) → result
+        ≡ after digest who.now (step.Unlinks chain) asked place reply.now }
 {
     match reply {
         Reply::Fine => done(place, after_unlink(who, chain.as_slice())),

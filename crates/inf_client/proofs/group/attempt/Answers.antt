@@ -3,7 +3,7 @@ use Rattle.inf_client.specs.Group.{IsFound}
 use Rattle.inf_client.proofs.GroupFacts.{given_up_found}
 use Rattle.inf_duty.specs.Duty.{given_up, next_step}
 use Rattle.inf_duty.specs.Messages.{is_winding}
-use Rattle.inf_flow_dir.specs.Client.{ClientState}
+use Rattle.inf_duty.specs.ClientState.{ClientState}
 use Rattle.inf_client.proofs.group.attempt.Goals as goal
 
 pub returns-then-is_winding-2-clause-found : goal.returns-then-is_winding-2-clause-found

@@ -5,8 +5,8 @@ use Rattle.inf_client.proofs.GroupFacts.{composed_found, composed_goes, whole_re
 use Rattle.inf_duty.specs.ClientStep.{is_ask}
 use Rattle.inf_duty.specs.Duty.{next_step}
 use Rattle.inf_duty.specs.Messages.{is_winding}
-use Rattle.inf_flow_dir.specs.Client.{ClientState}
-use Rattle.inf_flow_dir.specs.Group.{composed}
+use Rattle.inf_duty.specs.ClientState.{ClientState}
+use Rattle.inf_duty.specs.Group.{composed}
 use Rattle.inf_client.proofs.group.whole_group.Goals as goal
 
 pub returns-clause-readied : goal.returns-clause-readied

@@ -1,5 +1,5 @@
 use Rattle.std.proofs.Common.{◌<◌, length, arith}
-use Rattle.inf_flow_dir.specs.Heard.{heard}
+use Rattle.inf_message.specs.Heard.{heard}
 use Rattle.inf_message.specs.History.{told_reply}
 use Rattle.inf_duty.proofs.AnswerFacts.{keeps_answer}
 use Rattle.inf_duty.proofs.recording.record_answer.Goals as goal

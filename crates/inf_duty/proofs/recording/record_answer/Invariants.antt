@@ -1,7 +1,7 @@
 use Rattle.std.proofs.Common.{◌≡◌, vec_len}
 use Rattle.std.specs.Prelude.{vec_capacity}
 use Rattle.inf_duty.proofs.RecordFacts.{HasKept}
-use Rattle.inf_flow_dir.specs.Heard.{heard}
+use Rattle.inf_message.specs.Heard.{heard}
 use Rattle.inf_message.specs.History.{told_reply}
 use Rattle.inf_duty.proofs.recording.record_answer.Given as goal
 

@@ -1,7 +1,7 @@
 use Rattle.std.proofs.Common.{sym, ap, ◌∙◌, subst}
 use Rattle.inf_duty.specs.Duty.{Duty}
 use Rattle.inf_duty.specs.Own.{client_of}
-use Rattle.inf_flow_dir.specs.Client.{ClientState}
+use Rattle.inf_duty.specs.ClientState.{ClientState}
 use Rattle.inf_laws_author.proofs.clients.own_asks_decide_what_is_next.Goals as goal
 
 pub returns-clause-state : goal.returns-clause-state

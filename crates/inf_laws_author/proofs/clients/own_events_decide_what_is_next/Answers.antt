@@ -1,6 +1,6 @@
 use Rattle.std.proofs.Common.{subst}
 use Rattle.inf_duty.specs.Duty.{Duty}
-use Rattle.inf_flow_dir.specs.Client.{ClientState}
+use Rattle.inf_duty.specs.ClientState.{ClientState}
 use Rattle.inf_laws_author.proofs.OwnEventFacts.{same_client}
 use Rattle.inf_laws_author.proofs.clients.own_events_decide_what_is_next.Goals as goal
 

@@ -1,6 +1,6 @@
 use Rattle.std.proofs.Common.{subst}
 use Rattle.inf_duty.specs.Duty.{Duty}
-use Rattle.inf_flow_dir.specs.Client.{ClientState}
+use Rattle.inf_duty.specs.ClientState.{ClientState}
 use Rattle.inf_duty.specs.Own.{own_asks}
 use Rattle.inf_laws_author.proofs.LaterAnswers.{duty_stays}
 use Rattle.inf_laws_author.proofs.OwnOrder.{known_asks_rise}

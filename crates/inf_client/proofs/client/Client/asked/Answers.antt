@@ -3,7 +3,7 @@ use Rattle.inf_client.specs.AskLog.{AskLog}
 use Rattle.inf_client.specs.Client.{Client}
 use Rattle.inf_client.specs.Group.{IsKept}
 use Rattle.inf_client.proofs.ClientFacts.{kept_asked}
-use Rattle.inf_flow_dir.specs.Client.{ClientState, placed}
+use Rattle.inf_duty.specs.ClientState.{ClientState, placed}
 use Rattle.inf_client.proofs.client.Client.asked.Goals as goal
 
 pub invariant_of-self : goal.invariant_of-self

@@ -2,9 +2,9 @@ use Rattle.std.proofs.Common.{sym, subst}
 use Rattle.inf_client.specs.AskLog.{AskLog}
 use Rattle.inf_client.specs.Group.{IsKept}
 use Rattle.inf_client.proofs.ToldFacts.{kept_told}
-use Rattle.inf_flow_dir.specs.Client.{ClientState}
-use Rattle.inf_flow_dir.specs.Heard.{heard}
-use Rattle.inf_flow_dir.specs.Turn.{served}
+use Rattle.inf_duty.specs.ClientState.{ClientState}
+use Rattle.inf_duty.specs.Turn.{served}
+use Rattle.inf_message.specs.Heard.{heard}
 use Rattle.inf_message.specs.History.{told_reply}
 use Rattle.inf_client.proofs.client.Client.told.Goals as goal
 

@@ -1,5 +1,5 @@
 use Rattle.std.proofs.Common.{◌≡◌, ◌≢◌, [], refl, ap, ◌∙◌}
-use Rattle.inf_flow_dir.specs.Client.{ClientState}
+use Rattle.inf_duty.specs.ClientState.{ClientState}
 use Rattle.inf_duty.proofs.BeginFacts.{begun_over, begun_stopped}
 use Rattle.inf_duty.proofs.client_state.ClientState.begin.Goals.{then-is_over-via-then-is_over, then-is_over-via-else-is_over+then-self-ask}
 use Rattle.inf_duty.proofs.client_state.ClientState.begin.Goals as goal

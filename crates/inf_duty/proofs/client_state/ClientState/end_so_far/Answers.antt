@@ -1,6 +1,6 @@
 use Rattle.std.proofs.Common.{◌≡◌, ◌<◌, [], length, ap, ◌∙◌}
 use Rattle.inf_duty.specs.Outcome.{results_of}
-use Rattle.inf_flow_dir.specs.Client.{ClientState, compose, ended}
+use Rattle.inf_duty.specs.ClientState.{ClientState, compose, ended}
 use Rattle.inf_duty.proofs.AnswerFacts.{some_left}
 use Rattle.inf_duty.proofs.ResultFacts.{ended_one}
 use Rattle.inf_duty.proofs.client_state.ClientState.end_so_far.Goals as goal

@@ -1,6 +1,6 @@
 use Rattle.std.proofs.Common.{◌≡◌, ◌<◌, length, None}
 use Rattle.inf_duty.specs.Outcome.{results_of}
-use Rattle.inf_flow_dir.specs.Client.{compose}
+use Rattle.inf_duty.specs.ClientState.{compose}
 use Rattle.inf_duty.proofs.client_state.ClientState.into_results.Given as goal
 
 abbrev pub invariant-loop-state : goal.invariant-loop-state

@@ -1,6 +1,6 @@
 use Rattle.std.proofs.Common.{◌≡◌, map, take}
 use Rattle.inf_duty.specs.Messages.{post_of}
-use Rattle.inf_flow_dir.specs.Group.{lookup_of}
+use Rattle.inf_message.specs.Who.{lookup_of}
 use Rattle.inf_duty.proofs.client_state.ClientState.lookups.Given as goal
 
 abbrev pub invariant-loop-key : goal.invariant-loop-key

@@ -2,7 +2,7 @@ use Rattle.std.proofs.Common.{◌≡◌, ◌≢◌, true, ap, sym, ◌∙◌}
 use Rattle.inf_duty.specs.Duty.{may_give_up}
 use Rattle.inf_duty.proofs.BegunFacts.{given_sent, may_goes}
 use Rattle.inf_duty.proofs.BeginFacts.{gave_up}
-use Rattle.inf_flow_dir.specs.Client.{ClientState}
+use Rattle.inf_duty.specs.ClientState.{ClientState}
 use Rattle.inf_duty.proofs.client_state.ClientState.pass_to.Goals as goal
 
 pub loop-self-preserved : goal.loop-self-preserved
