@@ -7,6 +7,7 @@ use crate::id::Place;
 use crate::key::Key;
 use crate::memory::{NoMemory, TryClone};
 use crate::sequence::Sequence;
+use crate::shared::Shared;
 use std::alloc::Global;
 
 /// An access object as it was told under its key.
@@ -18,8 +19,8 @@ pub struct Entry {
     pub stamp: Place,
 }
 
-/// The entries of a path's directories, the root's first.
-pub type Chain = Sequence<Entry>;
+/// The entries of a path's directories, the root's first. Every message of a call holds them, so copies share them.
+pub type Chain = Shared<Sequence<Entry>>;
 
 impl TryClone for Entry {
     fn try_clone(&self, alloc: Global) -> Result<Self, NoMemory> {

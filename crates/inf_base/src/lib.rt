@@ -17,6 +17,7 @@ mod memory;
 mod name;
 mod sequence;
 mod setup;
+mod shared;
 mod text;
 mod triple;
 
@@ -39,5 +40,6 @@ pub use memory::{NoMemory, TryClone};
 pub use name::{Name, Names};
 pub use sequence::Sequence;
 pub use setup::{ClientLine, Clients, Setup};
+pub use shared::Shared;
 pub use text::Text;
 pub use triple::Triple;

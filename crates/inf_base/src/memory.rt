@@ -1,4 +1,4 @@
-//! Want of memory, and deep copies, which may meet it.
+//! Want of memory, and copies, which may meet it.
 
 ghost use Rattle.std.specs.Prelude.{◌≡◌, IfOk};
 
@@ -30,7 +30,7 @@ impl<T: Drop> From<AllocFailed<T>> for NoMemory {
     }
 }
 
-/// A deep copy: an equal value that shares no memory with its source.
+/// A copy: an equal value. It may share with its source what neither can change.
 pub trait TryClone {
     fn try_clone(&self, alloc: Global) -> Result<Self, NoMemory>
         ensures { IfOk result (λ copy. copy ≡ self.now) };

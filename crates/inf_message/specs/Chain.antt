@@ -1,5 +1,5 @@
 -- The end of a chain, and the way to it.
-use Rattle.std.specs.Prelude.{ℕ, ◌-◌, List, length, replicate, take, slice_get, Option, Some, None}
+use Rattle.std.specs.Prelude.{◌-◌, List, length, replicate, take, slice_get, Option, Some, None}
 use Rattle.inf_base.specs.declared.directory.DirRef.{DirRef}
 use Rattle.inf_base.specs.declared.entry.Entry.{Entry}
 use Rattle.inf_base.specs.Same.{dir_of}

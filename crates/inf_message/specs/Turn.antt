@@ -2,7 +2,6 @@
 use Rattle.std.specs.Prelude.{ℕ, Bool, true, false, List, [], Some, None}
 use Rattle.inf_base.specs.declared.answer.Answer.{Answer}
 use Rattle.inf_base.specs.declared.answer.Answer.TheVariants as answer
-use Rattle.inf_message.specs.declared.ending.Ending.{Ending}
 use Rattle.inf_message.specs.declared.ending.Ending.TheVariants as ending
 use Rattle.inf_message.specs.declared.reply.Reply.{Reply}
 use Rattle.inf_message.specs.declared.reply.Reply.TheVariants as reply
@@ -22,7 +21,8 @@ done place more = turn.WindsUp (ending.Answers answer.Done (Some place)) more
 -- where a message does not succeed: the clean-up, and then this
 abbrev pub fails : {F : Type 0} → List Message → ℕ → Reply → Turn F
 fails clean_ups place (reply.Busy by at born) = turn.WindsUp (ending.Answers (answer.Again by) (Some place)) clean_ups
-fails clean_ups place (reply.Refused error) = turn.WindsUp (ending.Answers (answer.Refused error) (Some place)) clean_ups
+fails clean_ups place (reply.Refused error) =
+    turn.WindsUp (ending.Answers (answer.Refused error) (Some place)) clean_ups
 fails clean_ups place reply.NoMem = turn.WindsUp (ending.Answers answer.NoMemory None) clean_ups
 fails clean_ups place any_reply = turn.WindsUp ending.Retries clean_ups
 

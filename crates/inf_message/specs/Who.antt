@@ -14,7 +14,8 @@ use Rattle.inf_message.specs.declared.request.Request.TheVariants as request
 use Rattle.inf_message.specs.declared.step.Message.{Message}
 use Rattle.inf_message.specs.Chain.{last_entry}
 
--- which client it is, whom it calls for, and what it knows of the servers: how many there are, and the root's identifier
+-- which client it is, whom it calls for, and what it knows of the servers: how many there are, and the root's
+-- identifier
 pub record Who : Type 0 where
   pub client : ℕ
   pub caller : Caller

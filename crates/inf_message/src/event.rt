@@ -55,7 +55,7 @@ impl TryClone for Event {
     }
 }
 
-/// An equal event that shares no memory with its source.
+/// An equal event.
 pub fn copy_event(alloc: Global, event: &Event) -> Result<Event, NoMemory>
     ensures { IfOk result (λ copy. copy ≡ event.now) }
 {

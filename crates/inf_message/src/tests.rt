@@ -3,7 +3,7 @@
 use super::*;
 use inf_base::{
     Access, CallRef, Caller, Chain, DirRef, Entry, Errno, FileMeta, Home, Id, Item, Items, Key,
-    Kind, LookKey, Name, NoMemory, Place, Triple, TryClone,
+    Kind, LookKey, Name, NoMemory, Place, Sequence, Triple, TryClone,
 };
 use std::alloc::Global;
 use std::test::Fail;
@@ -52,7 +52,7 @@ fn chain(alloc: Global, stamp: Place) -> Result<Chain, NoMemory> {
         access: access(alloc)?,
         stamp,
     })?;
-    Ok(Chain::new(entries))
+    Chain::new(alloc, Sequence::new(entries))
 }
 
 fn items(alloc: Global) -> Result<Items, NoMemory> {
@@ -196,29 +196,29 @@ fn asked(request: Request) -> Event {
     }
 }
 
-/// Whether the Ask of a request has an equal copy.
-fn ask_copies(alloc: Global, request: Request) -> Result<bool, NoMemory> {
-    let event = asked(request);
-    let copy = copy_event(alloc, &event)?;
-    Ok(copy == event)
-}
-
-/// Whether the Serve of a reply has an equal copy.
-fn serve_copies(alloc: Global, reply: Reply) -> Result<bool, NoMemory> {
-    let event = Event::Serve {
+fn served(reply: Reply) -> Event {
+    Event::Serve {
         number: 3,
         ask_place: 9,
         reply,
-    };
-    let copy = copy_event(alloc, &event)?;
-    Ok(copy == event)
+    }
+}
+
+/// Whether the event has an equal copy.
+fn copies(alloc: Global, event: Event) -> Result<bool, NoMemory> {
+    equals_copy(alloc, &event)
+}
+
+fn equals_copy(alloc: Global, event: &Event) -> Result<bool, NoMemory> {
+    let copy = copy_event(alloc, event)?;
+    Ok(copy == *event)
 }
 
 #[test]
 fn copies_asks_with_chains(rt: HostRuntime) -> Result<(), Fail> {
     for kind in 0..9 {
-        let request = chained(rt.alloc(), kind)?;
-        assert!(rt; ask_copies(rt.alloc(), request)?, "request {kind}");
+        let event = asked(chained(rt.alloc(), kind)?);
+        assert!(rt; copies(rt.alloc(), event)?, "request {kind}");
     }
     Ok(())
 }
@@ -226,8 +226,8 @@ fn copies_asks_with_chains(rt: HostRuntime) -> Result<(), Fail> {
 #[test]
 fn copies_asks_without_chains(rt: HostRuntime) -> Result<(), Fail> {
     for kind in 0..13 {
-        let request = bare(rt.alloc(), kind)?;
-        assert!(rt; ask_copies(rt.alloc(), request)?, "request {kind}");
+        let event = asked(bare(rt.alloc(), kind)?);
+        assert!(rt; copies(rt.alloc(), event)?, "request {kind}");
     }
     Ok(())
 }
@@ -235,8 +235,8 @@ fn copies_asks_without_chains(rt: HostRuntime) -> Result<(), Fail> {
 #[test]
 fn copies_serves(rt: HostRuntime) -> Result<(), Fail> {
     for kind in 0..16 {
-        let reply = reply(rt.alloc(), kind)?;
-        assert!(rt; serve_copies(rt.alloc(), reply)?, "reply {kind}");
+        let event = served(reply(rt.alloc(), kind)?);
+        assert!(rt; copies(rt.alloc(), event)?, "reply {kind}");
     }
     Ok(())
 }
@@ -262,6 +262,10 @@ fn numbered(alloc: Global, kind: u8, number: u64) -> Result<Request, NoMemory> {
 /// Whether the request with 2 in that field is the one with this number.
 fn is_same_at(alloc: Global, kind: u8, number: u64) -> Result<bool, NoMemory> {
     let request = numbered(alloc, kind, 2)?;
+    is_numbered(alloc, &request, kind, number)
+}
+
+fn is_numbered(alloc: Global, request: &Request, kind: u8, number: u64) -> Result<bool, NoMemory> {
     let other = numbered(alloc, kind, number)?;
     Ok(request.is_same(&other))
 }

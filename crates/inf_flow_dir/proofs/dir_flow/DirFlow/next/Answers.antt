@@ -27,7 +27,9 @@ returns-in-Makes g c =
     let digest = g.R.IdRule.digest_of c.args.rule.now in
     let who = c.args.who.now in
     let made = step.Makes c.in-Makes.chain c.in-Makes.name c.in-Makes.mode c.in-Makes.version c.in-Makes.id in
-    let one = c.one.ensures ∙ ap (λ a. a ∷ []) (c.cancel.ensures ∙ ap (λ chain. lift who (last_dir chain) request.Cancel) c.as_slice.ensures) in
+    let slice = c.as_slice.ensures ∙ c.deref.ensures in
+    let cancel = c.cancel.ensures ∙ ap (λ chain. lift who (last_dir chain) request.Cancel) slice in
+    let one = c.one.ensures ∙ ap (λ a. a ∷ []) cancel in
     record {
       turn = at_step (g.R.IdRule.digest_of c.args.rule.now) c.args.who.now c.args.self (made) c.args.ask_place c.args.serve_place c.args.reply.now c.failed.result c.in-Makes.is
           (c.failed.ensures ∙ ap (λ clean_ups. fails clean_ups c.args.serve_place c.args.reply.now) one
