@@ -20,7 +20,7 @@ known_of asked given place = record { key = asked; reply = given; place = place 
 no_entry : {P : Type 0} (e : Entry) → None ≡ Some e → P
 no_entry e is = absurd cc
 
-is_told_as : (known : List Known) (wanted asked : LookKey) (k : Key) (access : Access) (place : ℕ)
+pub is_told_as : (known : List Known) (wanted asked : LookKey) (k : Key) (access : Access) (place : ℕ)
     → told_under wanted known ≡ Some (known_of asked (reply.Found k access) place)
     → IsTold known wanted (told_entry k access place)
 is_told_as known wanted asked k access place at =

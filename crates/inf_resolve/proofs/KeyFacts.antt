@@ -1,34 +1,11 @@
 -- The keys that are asked: each once, and none that is known.
-use Rattle.std.proofs.Common.{◌≡◌, ℕ, ◌||◌, ◌&&◌, Bool, true, false, if◌then◌else◌, List, [], ◌∷◌, ◌++◌, is_some, refl, sym, ap, subst, ◌∙◌}
+use Rattle.std.proofs.Common.{◌≡◌, ◌||◌, Bool, true, false, if◌then◌else◌, List, [], ◌∷◌, ◌++◌, is_some, refl, sym, subst, ◌∙◌}
 use Rattle.std.specs.List.{AllByRecursion, IsDistinct, fold}
-use Rattle.std.specs.Str.{bytes_eq}
-use Rattle.inf_base.specs.declared.id.Id.{Id}
 use Rattle.inf_base.specs.declared.key.LookKey.{LookKey}
-use Rattle.inf_base.specs.declared.key.LookKey.TheVariants as look
-use Rattle.inf_base.specs.Same.{is_same_id}
-use Rattle.inf_base.proofs.Same.{same_id, same_id_self, same_name, same_name_self}
 use Rattle.inf_resolve.specs.declared.known.Known.{Known}
 use Rattle.inf_resolve.specs.Keys.{is_among, to_ask, with_key}
 use Rattle.inf_resolve.specs.Known.{is_same_key, told_under}
-
-same_at : (d e : Id) (n m : List ℕ) (ids names : Bool) → is_same_id d e ≡ ids → bytes_eq n m ≡ names
-    → (ids && names) ≡ true
-    → look.At d n ≡ look.At e m
-same_at d e n m true true ids names same =
-    ap (λ (x : Id). look.At x n) (same_id d e ids) ∙ ap (λ (x : List ℕ). look.At e x) (same_name n m names)
-same_at d e n m true false ids names same = cc
-same_at d e n m false names_same ids names same = cc
-
-pub same_key : (a b : LookKey) → is_same_key a b ≡ true → a ≡ b
-same_key look.Top look.Top same = refl
-same_key look.Top (look.At dir name) same = cc
-same_key (look.At dir name) look.Top same = cc
-same_key (look.At dir name) (look.At other_dir other_name) same =
-    same_at dir other_dir name other_name (is_same_id dir other_dir) (bytes_eq name other_name) refl refl same
-
-pub same_key_self : (a : LookKey) → is_same_key a a ≡ true
-same_key_self look.Top = refl
-same_key_self (look.At dir name) = rw (same_id_self dir, same_name_self name) refl
+use Rattle.inf_resolve.proofs.KnownFacts.{same_key, same_key_self}
 
 -- keys that differ do so either way
 flipped : (a b : LookKey) (same : Bool) → is_same_key b a ≡ same → is_same_key a b ≡ false → is_same_key b a ≡ false

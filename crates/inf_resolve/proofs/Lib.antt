@@ -1,6 +1,9 @@
-mod AskedFacts
+pub mod AskedFacts
 mod ChainFacts
+pub mod InTheWayFacts
 mod KeyFacts
-mod LedFacts
+pub mod KnownFacts
+pub mod LedFacts
 mod RoundFacts
 mod RoundLaw
+mod VerdictFacts

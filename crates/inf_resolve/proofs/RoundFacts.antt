@@ -14,7 +14,7 @@ use Rattle.inf_resolve.specs.Keys.{is_among, keys_at, keys_from, to_ask, unless_
 use Rattle.inf_resolve.specs.Known.{entry_behind, is_same_key, told_at, told_under}
 use Rattle.inf_resolve.specs.Rounds.{IsAnswered}
 use Rattle.inf_resolve.specs.Walk.{Halt, halt_of, halts, next_entry, on_entry}
-use Rattle.inf_resolve.proofs.KeyFacts.{same_key_self}
+use Rattle.inf_resolve.proofs.KnownFacts.{same_key_self}
 
 -- ---- an unknown key is among those that are to be asked
 
@@ -45,13 +45,14 @@ taken k keys true there unknown is = cc
 taken k keys false true unknown is = is
 taken k keys false false unknown is = among_last k keys
 
-is_asked : (known : List Known) (k : LookKey) (keys before behind : List LookKey)
+pub unknown_asked : (known : List Known) (k : LookKey) (keys before behind : List LookKey)
     → is_some (told_under k known) ≡ false
     → is_among k (fold (with_key known) keys (before ++ k ∷ behind)) ≡ true
-is_asked known k keys [] behind unknown =
+unknown_asked known k keys [] behind unknown =
     stays_among known k (with_key known keys k) behind
     (taken k keys (is_some (told_under k known)) (is_among k keys) unknown refl)
-is_asked known k keys (x ∷ before) behind unknown = is_asked known k (with_key known keys x) before behind unknown
+unknown_asked known k keys (x ∷ before) behind unknown =
+    unknown_asked known k (with_key known keys x) before behind unknown
 
 -- the first key that a path needs is asked
 pub first_asked : (digest : List ℕ → Id) (known : List Known) (dir : DirRef) (left : List (List ℕ)) (name : List ℕ)
@@ -67,7 +68,7 @@ first_asked digest known dir left name rest left_is unknown before behind =
     (to_ask known (before ++ (keys_at digest known (halts dir l) ++ behind))) ≡ true) (sym left_is)
     (subst (λ (ks : List LookKey). is_among (look.At dir.id name) (to_ask known (before ++ (ks ++ behind))) ≡ true)
     (sym keys_are)
-    (is_asked known (look.At dir.id name) [] before _ (ap is_some unknown)))
+    (unknown_asked known (look.At dir.id name) [] before _ (ap is_some unknown)))
 
 told_case : (digest : List ℕ → Id) (known : List Known) (dir : DirRef) (left : List (List ℕ)) (name : List ℕ)
     (rest : List (List ℕ)) (found : Option Known)

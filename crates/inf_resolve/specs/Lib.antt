@@ -1,5 +1,6 @@
 pub mod Chain
 pub mod Examples
+pub mod InTheWay
 pub mod Keys
 pub mod Known
 pub mod Resolved

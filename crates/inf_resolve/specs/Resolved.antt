@@ -13,6 +13,8 @@ use Rattle.inf_resolve.specs.declared.known.Known.{Known}
 use Rattle.inf_resolve.specs.declared.looked.Looked.{Looked}
 use Rattle.inf_resolve.specs.declared.resolved.Resolved.{Resolved}
 use Rattle.inf_resolve.specs.declared.resolved.Resolved.TheVariants as comes
+use Rattle.inf_resolve.specs.declared.resolved.Verdict.{Verdict}
+use Rattle.inf_resolve.specs.declared.resolved.Verdict.TheVariants as verdict
 use Rattle.inf_resolve.specs.Keys.{keys_at, keys_from, to_ask}
 use Rattle.inf_resolve.specs.Known.{told_entry, told_under}
 use Rattle.inf_resolve.specs.Walk.{Halt, busy_at, halt_of, walk}
@@ -59,3 +61,9 @@ by_told digest root looked known (Some told) = by_root digest looked known told.
 -- `known`: an entry of it that the attempt uses is a Found at its stamp.
 abbrev pub resolved : (List ℕ → Id) → Id → Looked → List Known → Resolved
 resolved digest root looked known = by_told digest root looked known (told_under look.Top known)
+
+-- whether the attempt is over by it
+abbrev pub verdict_of : Resolved → Verdict
+verdict_of (comes.IsBusy by place) = verdict.IsBusy by place
+verdict_of comes.Lacks = verdict.Lacks
+verdict_of other = verdict.GoesOn

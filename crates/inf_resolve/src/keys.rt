@@ -9,40 +9,29 @@ ghost use Rattle.inf_resolve.specs.Walk.{halts};
 
 use crate::known::{Known, is_same_key, told_at, told_under};
 use crate::walked::Halt;
-use inf_base::{Id, LookKey, Name, NoMemory, Triple, TryClone};
-use inf_birth::{IdRule, identify};
+use inf_base::{Id, LookKey, Name, NoMemory, TryClone};
+use inf_birth::{IdRule, identity_of};
 use inf_message::Reply;
 use std::alloc::Global;
 
 /// The identifier that a name leads to: the one that was told, or else the prediction.
-fn leads_to<R: IdRule>(
-    alloc: Global,
-    rule: &R,
-    id: &Id,
-    name: &Name,
-    told: Option<&Known>,
-) -> Result<Id, NoMemory>
-    ensures { IfOk result (λ next. next ≡ leads_to (R.digest_of rule.now) id.now name.now (option_copied told.entry)) }
+fn leads_to<R: IdRule>(rule: &R, id: &Id, name: &Name, told: Option<&Known>) -> Id
+    ensures { result ≡ leads_to (R.digest_of rule.now) id.now name.now (option_copied told.entry) }
 {
     let Some(told) = told else {
-        return predicted(alloc, rule, id, name);
+        return predicted(rule, id, name);
     };
     match &told.reply {
-        Reply::Found { access, .. } => Ok(access.id),
-        _ => predicted(alloc, rule, id, name),
+        Reply::Found { access, .. } => access.id,
+        _ => predicted(rule, id, name),
     }
 }
 
 /// What is made under a name for the first time has version 0.
-fn predicted<R: IdRule>(alloc: Global, rule: &R, id: &Id, name: &Name) -> Result<Id, NoMemory>
-    ensures { IfOk result (λ next. next ≡ predicted (R.digest_of rule.now) id.now name.now) }
+fn predicted<R: IdRule>(rule: &R, id: &Id, name: &Name) -> Id
+    ensures { result ≡ predicted (R.digest_of rule.now) id.now name.now }
 {
-    let triple = Triple::Of {
-        parent: *id,
-        name: name.try_clone(alloc)?,
-        version: 0,
-    };
-    identify(alloc, rule, &triple)
+    identity_of(rule, id, name, 0)
 }
 
 fn is_among(wanted: &LookKey, keys: &[LookKey]) -> bool
@@ -86,10 +75,16 @@ pub(crate) fn push_keys_from<R: IdRule>(
     ensures { OnOk result (keys.new.items
         ≡ fold (with_key known.now) keys.old.items (keys_from (R.digest_of rule.now) known.now id names.now)) }
 {
-    let mut id = id;
-    for name in names {
-        push_key(known, keys, key_at(alloc, id, name)?)?;
-        id = leads_to(alloc, rule, &id, name, told_at(known, &id, name))?;
+    let Some((first, others)) = names.split_first() else {
+        return Ok(());
+    };
+    let mut dir = id;
+    let mut above = first;
+    push_key(known, keys, key_at(alloc, dir, first)?)?;
+    for name in others {
+        dir = leads_to(rule, &dir, above, told_at(known, &dir, above));
+        above = name;
+        push_key(known, keys, key_at(alloc, dir, name)?)?;
     }
     Ok(())
 }

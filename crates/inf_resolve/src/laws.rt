@@ -2,6 +2,7 @@
 
 ghost use Rattle.std.specs.Prelude.{◌≡◌, ℕ, ◌-◌, ◌<◌, false, List, length, drop, is_some};
 ghost use Rattle.std.specs.List.{AllByRecursion, IsDistinct};
+ghost use Rattle.inf_base.specs.declared.caller.CallRef.{CallRef};
 ghost use Rattle.inf_base.specs.declared.entry.Entry.{Entry};
 ghost use Rattle.inf_base.specs.declared.id.Id.{Id};
 ghost use Rattle.inf_base.specs.declared.key.LookKey.{LookKey};
@@ -12,6 +13,7 @@ ghost use Rattle.inf_resolve.specs.declared.looked.Looked.{Looked};
 ghost use Rattle.inf_resolve.specs.declared.resolved.Resolved.TheVariants as comes;
 ghost use Rattle.inf_resolve.specs.declared.walked.Walked.{Walked};
 ghost use Rattle.inf_resolve.specs.Chain.{IsChain, IsTold};
+ghost use Rattle.inf_resolve.specs.InTheWay.{IsInTheWay};
 ghost use Rattle.inf_resolve.specs.Known.{is_same_key, told_under};
 ghost use Rattle.inf_resolve.specs.Resolved.{resolved};
 ghost use Rattle.inf_resolve.specs.Rounds.{IsAnswered, names_left};
@@ -50,4 +52,17 @@ pub fn rounds_lead_on()
         → (keys more : List LookKey) → IsTold known look.Top root → resolved digest id looked known ≡ comes.Asks keys
         → IsAnswered known keys later → resolved digest id looked later ≡ comes.Asks more
         → names_left (dir_of root.access) looked later < names_left (dir_of root.access) looked known }
+{}
+
+/// A round asks for something.
+pub fn rounds_ask()
+    ensures { (digest : List ℕ → Id) (root : Id) (looked : Looked) (known : List Known) (keys : List LookKey)
+        → resolved digest root looked known ≡ comes.Asks keys → 0 < length keys }
+{}
+
+/// A change that is in the way was told: to the lookup of the root, or to one in a directory that was told, whose birth
+/// it names.
+pub fn changes_in_the_way_were_told()
+    ensures { (digest : List ℕ → Id) (root : Id) (looked : Looked) (known : List Known) (by : CallRef) (place : ℕ)
+        → resolved digest root looked known ≡ comes.IsBusy by place → IsInTheWay known by place }
 {}

@@ -1,5 +1,5 @@
 //! Where the paths of a call lead, by what an attempt at the call was told: what it asks next, or the chains of its
-//! directories. No call goes by it yet.
+//! directories.
 #![tactic(auto)]
 
 mod examples;
@@ -15,6 +15,6 @@ mod walked;
 
 pub use known::Known;
 pub use looked::Looked;
-pub use resolved::Resolved;
+pub use resolved::{Resolved, Verdict};
 pub use resolver::Resolver;
 pub use walked::Walked;

@@ -15,3 +15,13 @@ pub enum Resolved {
     /// The root was not told: the attempt is to be made again.
     Lacks,
 }
+
+/// Whether an attempt is over.
+#[derive(Debug, PartialEq, Drop)]
+pub enum Verdict {
+    /// A change of that call is in the way, as the Serve at this place told.
+    IsBusy(CallRef, Place),
+    /// The root was not told: the attempt is to be made again.
+    Lacks,
+    GoesOn,
+}

@@ -97,7 +97,12 @@ fn two_names(rt: HostRuntime) -> Result<(), Fail> {
     let root = identify(alloc, &RULE, &Triple::Root)?;
     let first = first_of(alloc, root, b'a')?;
     let resolver = Resolver::new(root, names(alloc, b"ab")?, names(alloc, b"")?);
+    let looked = &resolver.looked;
     assert_eq!(rt; shape(&resolver.next(alloc, &RULE, &[])?), ("asks", 3, 0));
+    assert_eq!(rt;
+        shape(&looked.resolve(alloc, &RULE, &root, &[])?),
+        ("asks", 3, 0)
+    );
     let by = CallRef {
         client: 1,
         number: 1,
@@ -115,6 +120,10 @@ fn two_names(rt: HostRuntime) -> Result<(), Fail> {
             replied(alloc, first, b'b', reply, 6)?,
         ];
         assert_eq!(rt; shape(&resolver.next(alloc, &RULE, &known)?), expected);
+        assert_eq!(rt;
+            looked.verdict(&known) == Verdict::GoesOn,
+            expected.0 == "leads"
+        );
     }
     Ok(())
 }

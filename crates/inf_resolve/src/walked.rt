@@ -5,7 +5,7 @@ ghost use Rattle.inf_base.specs.Same.{dir_of as the_dir};
 ghost use Rattle.inf_resolve.specs.Walk.{busy_at, halt_of, halts, walk, way};
 
 use crate::known::{Known, busy_behind, dir_behind, dir_of, entry_behind, told_at};
-use inf_base::{CallRef, Chain, DirRef, Entry, Name, Names, NoMemory, Place, TryClone};
+use inf_base::{CallRef, Chain, DirRef, Entry, Name, Names, NoMemory, Place, Sequence, TryClone};
 use std::alloc::Global;
 
 /// How far a path was followed.
@@ -94,7 +94,7 @@ pub(crate) fn walk(
 {
     let chain = chain_of(alloc, known, root.try_clone(alloc)?, names)?;
     Ok(Walked {
-        chain: Chain::new(chain),
+        chain: Chain::new(alloc, Sequence::new(chain))?,
         left: copied(alloc, left)?,
     })
 }
