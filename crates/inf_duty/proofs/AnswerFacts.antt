@@ -3,7 +3,7 @@ use Rattle.std.proofs.Common.{◌≡◌, ℕ, Bool, false, ◌∷◌, IsTrue, �
 use Rattle.std.proofs.Math.ListN.{set}
 use Rattle.inf_duty.specs.Messages.{has_one_message}
 use Rattle.inf_duty.specs.Tally.{with_serve}
-use Rattle.inf_duty.specs.ClientState.{ClientState, Counts, compose, one_if}
+use Rattle.inf_duty.specs.ClientState.{ClientState, Counts, Stage, compose, one_if}
 use Rattle.inf_duty.specs.Turn.{recorded, served, turn_at, turned}
 use Rattle.inf_message.specs.Sent.{Sent, has_place, is_told, told_at}
 use Rattle.inf_message.specs.declared.turn.Turn.{Turn}
@@ -11,7 +11,6 @@ use Rattle.inf_base.specs.declared.id.Id.{Id}
 use Rattle.inf_message.specs.History.{Told}
 use Rattle.inf_duty.proofs.RecordFacts.{HasKept, keeps_more}
 use Rattle.inf_duty.proofs.TurnFacts.{alone_ends}
-use Rattle.inf_duty.specs.declared.flow.Flow.{Flow}
 
 pub keeps_answer : (place : ℕ) (told : Told) (before now : List Sent) (rooms_before rooms next_rooms : ℕ) (i : ℕ) (x y : Sent) → HasKept place told before now rooms_before rooms i
     → i < length before → x ≡ get_or now i x → y ≡ told_at place told x → next_rooms + one_if (is_told y) ≡ rooms + one_if (is_told x)
@@ -22,7 +21,7 @@ keeps_answer place told before now rooms_before rooms next_rooms i x y kept with
     (subst (λ (w : Sent). next_rooms + one_if (is_told w) ≡ rooms + one_if (is_told x)) answered took))
 
 -- the client between its two parts: the turn is taken, the Serve counted, and what follows is still to come
-pub ends_alone : (digest : List ℕ → Id) (s taken : ClientState) (counts : Counts) (t : Turn Flow) (place : ℕ) (told : Told)
+pub ends_alone : (digest : List ℕ → Id) (s taken : ClientState) (counts : Counts) (t : Turn Stage) (place : ℕ) (told : Told)
     → length s.sent ≡ 1 → has_place place s.sent ≡ true → has_one_message s.stage ≡ true
     → t ≡ turn_at digest (recorded place told s) s.stage → taken ≡ record s { stage = compose; sent = [] }
     → counts ≡ with_serve told.serve_place taken.counts

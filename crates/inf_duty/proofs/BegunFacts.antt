@@ -10,7 +10,8 @@ use Rattle.inf_duty.specs.Messages.{is_compose, is_winding}
 use Rattle.inf_message.specs.declared.ending.Ending.TheVariants as ending
 use Rattle.inf_duty.specs.ClientState.{ClientState, Stage, act, compose, rest_of, round, winds, wound}
 use Rattle.inf_duty.specs.Flow.{clean_up}
-use Rattle.inf_duty.specs.Group.{composed, composed_stage, next_course}
+use Rattle.inf_duty.specs.Group.{composed, composed_stage}
+use Rattle.inf_duty.specs.Course.{next_course}
 use Rattle.inf_message.specs.Sent.{Sent}
 use Rattle.inf_message.specs.declared.ending.Ending.{Ending}
 use Rattle.inf_message.specs.declared.ask.Ask.{Ask}

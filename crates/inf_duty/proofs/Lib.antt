@@ -8,5 +8,4 @@ pub mod OwnFacts
 pub mod RecordFacts
 pub mod AnswerFacts
 pub mod BeginFacts
-pub mod DraftFacts
-pub mod WalkFacts
+pub mod CourseFacts

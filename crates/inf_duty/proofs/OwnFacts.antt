@@ -11,8 +11,7 @@ use Rattle.inf_message.specs.declared.ending.Ending.TheVariants as ending
 use Rattle.inf_message.specs.declared.turn.Turn.TheVariants as turn
 use Rattle.inf_duty.specs.ClientState.{ClientState, Stage, act, compose, round, winds, wound}
 use Rattle.inf_duty.specs.Flow.{clean_up}
-use Rattle.inf_duty.specs.Turn.{after_record, is_complete, recorded, served, settled, turn_at, turned}
-use Rattle.inf_message.specs.Heard.{heard}
+use Rattle.inf_duty.specs.Turn.{after_record, is_complete, learned, recorded, served, settled, told_in, turn_at, turned}
 use Rattle.inf_message.specs.Sent.{has_place}
 use Rattle.inf_message.specs.declared.ending.Ending.{Ending}
 use Rattle.inf_message.specs.declared.turn.Turn.{Turn}
@@ -20,7 +19,6 @@ use Rattle.inf_message.specs.declared.ask.Ask.{Ask}
 use Rattle.inf_message.specs.declared.reply.Reply.{Reply}
 use Rattle.inf_message.specs.declared.step.Message.{Message}
 use Rattle.inf_message.specs.History.{Told, told_reply}
-use Rattle.inf_duty.specs.declared.flow.Flow.{Flow}
 
 -- its call has taken at most so many messages
 abbrev TookAtMost : ℕ → ClientState → Type 0
@@ -47,22 +45,30 @@ begun_took digest count ask s took = kept_begun digest (TookAtMost count) (took_
 asked_took : (digest : List ℕ → Id) (count at : ℕ) (ask : Ask) (s : ClientState) → TookAtMost count s → TookAtMost (count + 1) (asked digest at ask s)
 asked_took digest count at ask s took = let before = begun_took digest count ask s took in omega arith
 
-turned_took : (count : ℕ) (t : Turn Flow) (s : ClientState) → TookAtMost count s → TookAtMost count (turned t s)
+turned_took : (count : ℕ) (t : Turn Stage) (s : ClientState) → TookAtMost count s → TookAtMost count (turned t s)
 turned_took count (turn.GoesOn next) s took = took
 turned_took count (turn.WindsUp end more) s took = wound_took count end more s took
 
+learned_took : (count : ℕ) (x : Stage) (s : ClientState) → TookAtMost count s → TookAtMost count (learned x s)
+learned_took count compose s took = took
+learned_took count (round keys) s took = took
+learned_took count (act flow) s took = took
+learned_took count (winds end m ms) s took = took
+
 settled_took : (digest : List ℕ → Id) (count : ℕ) (complete : Bool) (s : ClientState) → TookAtMost count s → TookAtMost count (settled digest complete s)
-settled_took digest count true s took = turned_took count (turn_at digest s s.stage) s took
+settled_took digest count true s took =
+    turned_took count (turn_at digest (learned s.stage s) s.stage) (learned s.stage s) (learned_took count s.stage s took)
 settled_took digest count false s took = took
 
 served_took : (digest : List ℕ → Id) (count at : ℕ) (told : Told) (s : ClientState) → TookAtMost count s → TookAtMost count (served digest at told s)
 served_took digest count at told s took =
-    if_both (TookAtMost count) (has_place at s.sent) (after_record digest (recorded at told s)) s
-    (settled_took digest count (is_complete (recorded at told s)) (recorded at told s) took) took
+    let heard : Told = told_in s told in
+    if_both (TookAtMost count) (has_place at s.sent) (after_record digest (recorded at heard s)) s
+    (settled_took digest count (is_complete (recorded at heard s)) (recorded at heard s) took) took
 
 answer_took : (digest : List ℕ → Id) (count at : ℕ) (told : Option (ℕ × Reply)) (s : ClientState) → TookAtMost count s → TookAtMost count (after_answer digest at told s)
 answer_took digest count at None s took = took
-answer_took digest count at (Some told) s took = served_took digest count at (told_reply told.0 (heard told.1)) s took
+answer_took digest count at (Some told) s took = served_took digest count at (told_reply told.0 told.1) s took
 
 -- the client once it has followed the first so many of its Asks
 pub record HasFollowed (digest : List ℕ → Id) (before now : ClientState) (own : List OwnAsk) (count : ℕ) : Type 0 where

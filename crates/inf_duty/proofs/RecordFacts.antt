@@ -110,6 +110,6 @@ alone_or_fits rooms less (x ∷ x2 ∷ sent) (y ∷ y2 ∷ told) same taken apar
 pub fits_recorded : (stands : Standing) (rooms less : ℕ) (sent told : List Sent) → length told ≡ length sent → less + told_count told ≡ rooms + told_count sent
     → (has_one_message (stage_of stands) && eqb (length sent) 1) ≡ false → RoomsFit stands rooms sent → RoomsFit stands less told
 fits_recorded standing.Compose rooms less sent told same taken apart fits = omega (arith, same, taken, fits)
-fits_recorded (standing.Round keys draft) rooms less sent told same taken apart fits = (omega (arith, taken, fits.0), omega (arith, same, taken, fits.1))
+fits_recorded (standing.Round keys) rooms less sent told same taken apart fits = (omega (arith, taken, fits.0), omega (arith, same, taken, fits.1))
 fits_recorded (standing.Act step) rooms less sent told same taken apart fits = alone_or_fits rooms less sent told same taken apart fits
 fits_recorded (standing.Winds end first rest) rooms less sent told same taken apart fits = alone_or_fits rooms less sent told same taken apart fits

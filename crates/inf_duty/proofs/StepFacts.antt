@@ -7,15 +7,23 @@ use Rattle.inf_base.specs.declared.call.Call.{Call}
 use Rattle.inf_base.specs.declared.key.LookKey.{LookKey}
 use Rattle.inf_duty.specs.ClientStep.{is_ask}
 use Rattle.inf_duty.specs.Duty.{asks, has_ask, has_message, is_over, next_in, next_of, next_step, waits}
-use Rattle.inf_duty.specs.Kept.{IsOf}
+use Rattle.inf_duty.specs.Kept.{IsOf, IsUndecided}
 use Rattle.inf_duty.specs.Messages.{are_none, is_compose, post_of}
 use Rattle.inf_duty.specs.Standing.{stage_of}
 use Rattle.inf_duty.specs.declared.standing.Standing.{Standing}
 use Rattle.inf_duty.specs.declared.standing.Standing.TheVariants as standing
 use Rattle.inf_duty.proofs.BegunFacts.{ask_left, both}
 use Rattle.inf_duty.specs.ClientState.{ClientState, Stage, act, compose, round, winds}
-use Rattle.inf_duty.specs.Draft.{course_with}
-use Rattle.inf_duty.specs.Group.{Course, composed, composed_stage, group, keys_of, next_course}
+use Rattle.inf_duty.specs.Group.{composed, composed_stage, group, next_stage, stage_by}
+use Rattle.inf_duty.specs.declared.course.Course.{Course}
+use Rattle.inf_duty.specs.declared.course.Deed.{Deed}
+use Rattle.inf_duty.specs.Course.{next_course}
+use Rattle.inf_resolve.specs.declared.known.Known.{Known}
+use Rattle.inf_resolve.specs.declared.resolved.Resolved.{Resolved}
+use Rattle.inf_resolve.specs.declared.resolved.Resolved.TheVariants as comes
+use Rattle.inf_resolve.specs.declared.resolved.Verdict.TheVariants as verdict
+use Rattle.inf_resolve.specs.Resolved.{resolved, verdict_of}
+use Rattle.inf_resolve.proofs.AskedFacts.{rounds_ask}
 use Rattle.inf_message.specs.Who.{Who, lookup_of}
 use Rattle.inf_message.specs.declared.ask.Ask.{Ask}
 use Rattle.inf_message.specs.declared.step.Message.{Message}
@@ -28,29 +36,48 @@ some_ask : (s : ClientState) (o : Option Message) → (o ≡ None → ⊥) → i
 some_ask s None some = absurd (some refl)
 some_ask s (Some message) some = refl
 
-first_of_course : (digest : List ℕ → Id) (who : Who) (course : Option Course) → is_some course ≡ true → slice_get (group who (keys_of digest who course)) 0 ≡ None → ⊥
-first_of_course digest who None built none = cc
-first_of_course digest who (Some course) built none = cc
+some_key : (who : Who) (keys : List LookKey) → 0 < length keys → slice_get (map (lookup_of who) keys) 0 ≡ None → ⊥
+some_key who [] some none = omega (arith, some)
+some_key who (k ∷ keys) some none = cc
+
+-- what an attempt that is not over comes to asks for something
+abbrev GoesOnAsking : Who → Deed → Resolved → Type 0
+GoesOnAsking who what r =
+    verdict_of r ≡ verdict.GoesOn → ((keys : List LookKey) → r ≡ comes.Asks keys → 0 < length keys)
+    → (slice_get (group who (stage_by what r)) 0 ≡ None → ⊥) × (is_compose (stage_by what r) ≡ false)
+
+goes_on_asking : (who : Who) (what : Deed) (r : Resolved) → GoesOnAsking who what r
+goes_on_asking who what (comes.Asks keys) on some = (some_key who keys (some keys refl), refl)
+goes_on_asking who what (comes.Leads old new) on some = (λ none. cc, refl)
+goes_on_asking who what (comes.IsBusy by place) on some = absurd cc
+goes_on_asking who what comes.Lacks on some = absurd cc
+
+course_asks : (digest : List ℕ → Id) (who : Who) (known : List Known) (left : List Call) (course : Option Course) → next_course left ≡ course → IsUndecided left known → is_some course ≡ true
+    → (slice_get (group who (next_stage digest who known course)) 0 ≡ None → ⊥) × (is_compose (next_stage digest who known course) ≡ false)
+course_asks digest who known left None is undecided built = absurd cc
+course_asks digest who known left (Some course) is undecided built =
+    goes_on_asking who course.deed (resolved digest who.root course.looked known) (undecided digest who.root course is)
+    (λ keys asks. rounds_ask digest who.root course.looked known keys asks)
 
 some_first : (messages : List Message) → not (are_none messages) ≡ true → slice_get messages 0 ≡ None → ⊥
 some_first [] some none = cc
 some_first (m ∷ messages) some none = cc
 
-composed_there : (digest : List ℕ → Id) (s : ClientState) (stage : Stage) → is_some (next_course s.left) ≡ true → has_message s.who stage ≡ true
+composed_there : (digest : List ℕ → Id) (s : ClientState) (stage : Stage) → IsUndecided s.left s.known → is_some (next_course s.left) ≡ true → has_message s.who stage ≡ true
     → slice_get (group s.who (composed_stage digest s stage)) 0 ≡ None → ⊥
-composed_there digest s compose built some none = first_of_course digest s.who (next_course s.left) built none
-composed_there digest s (round keys) built some none = some_first (group s.who (round keys)) some none
-composed_there digest s (act flow) built some none = some_first (group s.who (act flow)) some none
-composed_there digest s (winds ending m ms) built some none = some_first (group s.who (winds ending m ms)) some none
+composed_there digest s compose undecided built some none = (course_asks digest s.who s.known s.left (next_course s.left) refl undecided built).0 none
+composed_there digest s (round keys) undecided built some none = some_first (group s.who (round keys)) some none
+composed_there digest s (act flow) undecided built some none = some_first (group s.who (act flow)) some none
+composed_there digest s (winds ending m ms) undecided built some none = some_first (group s.who (winds ending m ms)) some none
 
 -- where there is an ask to make between two groups, it is the next step
-pub asks_there : (digest : List ℕ → Id) (s : ClientState) → s.sent ≡ [] → has_ask s ≡ true → is_ask (next_step (composed digest s)) ≡ true
-asks_there digest s between there =
+pub asks_there : (digest : List ℕ → Id) (s : ClientState) → IsUndecided s.left s.known → s.sent ≡ [] → has_ask s ≡ true → is_ask (next_step (composed digest s)) ≡ true
+asks_there digest s undecided between there =
     let they = both (is_some (next_course s.left)) (has_message s.who s.stage) there in
     ap is_ask (next_in_some (composed digest s) s.left (ask_left s there)
     ∙ ap (λ sent. next_of (composed digest s) (slice_get (group s.who (composed_stage digest s s.stage)) (length sent))) between)
     ∙ some_ask (composed digest s) (slice_get (group s.who (composed_stage digest s s.stage)) 0)
-    (composed_there digest s s.stage they.0 they.1)
+    (composed_there digest s s.stage undecided they.0 they.1)
 
 pub keys_ask : (who : Who) (keys : List LookKey) → not (are_none (map (lookup_of who) keys)) ≡ nat_lt 0 (length keys)
 keys_ask who [] = refl
@@ -73,8 +100,8 @@ not_built None none = refl
 not_built (Some course) none = absurd (cc)
 
 unbuilt_stage : (digest : List ℕ → Id) (s : ClientState) (stands : Standing) → IsOf s.left stands → is_some (next_course s.left) ≡ false → composed_stage digest s (stage_of stands) ≡ compose
-unbuilt_stage digest s standing.Compose is none = ap (keys_of digest s.who) (not_built (next_course s.left) none)
-unbuilt_stage digest s (standing.Round keys draft) is none = let some : next_course s.left ≡ Some (course_with draft) = is.0 in absurd (cc)
+unbuilt_stage digest s standing.Compose is none = ap (next_stage digest s.who s.known) (not_built (next_course s.left) none)
+unbuilt_stage digest s (standing.Round keys) is none = let some : is_some (next_course s.left) ≡ true = is.0 in absurd (cc)
 unbuilt_stage digest s (standing.Act flow) is none = let some : is_some (next_course s.left) ≡ true = is in absurd (cc)
 unbuilt_stage digest s (standing.Winds ending first rest) is none = let some : is_some (next_course s.left) ≡ true = is in absurd (cc)
 
@@ -102,15 +129,11 @@ waits_askless digest s stands at is none left = by (is_some (next_course s.left)
     by false unbuilt none = waits_unbuilt digest s stands at is unbuilt left
 
 -- what is settled for a call that is built has a message
-pub composed_settled : (digest : List ℕ → Id) (s : ClientState) (next : Stage) → is_some (next_course s.left) ≡ true → is_compose (composed_stage digest s next) ≡ false
-composed_settled digest s (round keys) built = refl
-composed_settled digest s (act flow) built = refl
-composed_settled digest s (winds ending m ms) built = refl
-composed_settled digest s compose built = by (next_course s.left) built
-  where
-    by : (course : Option Course) → is_some course ≡ true → is_compose (keys_of digest s.who course) ≡ false
-    by None some = absurd (cc)
-    by (Some course) some = refl
+pub composed_settled : (digest : List ℕ → Id) (s : ClientState) (next : Stage) → IsUndecided s.left s.known → is_some (next_course s.left) ≡ true → is_compose (composed_stage digest s next) ≡ false
+composed_settled digest s (round keys) undecided built = refl
+composed_settled digest s (act flow) undecided built = refl
+composed_settled digest s (winds ending m ms) undecided built = refl
+composed_settled digest s compose undecided built = (course_asks digest s.who s.known s.left (next_course s.left) refl undecided built).1
 
 left_in : (s : ClientState) (left : List Call) (number : ℕ) (ask : Ask) → next_in s left ≡ asks number ask → 0 < length left
 left_in s [] number ask is = absurd (cc)

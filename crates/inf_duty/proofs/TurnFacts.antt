@@ -7,71 +7,26 @@ use Rattle.inf_base.specs.declared.id.Id.{Id}
 use Rattle.inf_duty.specs.Kept.{AloneOrFits}
 use Rattle.inf_duty.specs.Messages.{has_one_message}
 use Rattle.inf_duty.specs.Tally.{with_serve}
-use Rattle.inf_flow_dir.specs.declared.dir_flow.DirFlow.TheVariants as dir_flow
 use Rattle.inf_message.specs.declared.ending.Ending.TheVariants as ending
-use Rattle.inf_flow_file.specs.declared.file_flow.FileFlow.TheVariants as file_flow
-use Rattle.inf_duty.specs.declared.flow.Flow.TheVariants as flow
 use Rattle.inf_message.specs.declared.turn.Turn.TheVariants as turn
 use Rattle.inf_duty.specs.ClientState.{ClientState, Stage, act, compose, is_round, round, winds}
 use Rattle.inf_duty.specs.Flow.{after_act}
 use Rattle.inf_duty.specs.Group.{group}
-use Rattle.inf_duty.specs.Turn.{act_turn, is_complete, recorded, served, settled, turn_at, turned}
+use Rattle.inf_duty.specs.Turn.{act_turn, after_record, is_complete, is_lone, learned, recorded, served, settled, turn_at, turned}
 use Rattle.inf_duty.specs.declared.flow.Flow.{Flow}
 use Rattle.inf_message.specs.Heard.{heard}
 use Rattle.inf_message.specs.Sent.{Sent, has_place, is_told, told_at}
 use Rattle.inf_message.specs.Who.{Who}
 use Rattle.inf_message.specs.declared.turn.Turn.{Turn}
-use Rattle.inf_base.specs.declared.item.Item.{Item}
-use Rattle.inf_message.specs.declared.op.Op.TheVariants as op
-use Rattle.inf_message.specs.declared.reply.Reply.{Reply}
-use Rattle.inf_message.specs.declared.reply.Reply.TheVariants as reply
 use Rattle.inf_message.specs.History.{Told, or_told}
 
 -- what a turn leaves does not rest on the group that is over
-pub turned_afresh : (t : Turn Flow) (s : ClientState) (x y : Stage) (xs ys : List Sent)
+pub turned_afresh : (t : Turn Stage) (s : ClientState) (x y : Stage) (xs ys : List Sent)
     → turned t (record s { stage = x; sent = xs }) ≡ turned t (record s { stage = y; sent = ys })
 turned_afresh (turn.GoesOn next) s x y xs ys = refl
 turned_afresh (turn.WindsUp (ending.Answers given place) []) s x y xs ys = refl
 turned_afresh (turn.WindsUp ending.Retries []) s x y xs ys = refl
 turned_afresh (turn.WindsUp end (m ∷ ms)) s x y xs ys = refl
-
--- a listing is answered as any reply that was not asked for
-listing_act : (digest : List ℕ → Id) (who : Who) (step : Flow) (asked place : ℕ) (items : List Item) → after_act digest who step asked place reply.Other ≡ after_act digest who step asked place (reply.Listing items)
-listing_act digest who (flow.File (file_flow.Finishes chain (op.Refuse error))) asked place items = refl
-listing_act digest who (flow.File (file_flow.Finishes chain op.StatTop)) asked place items = refl
-listing_act digest who (flow.File (file_flow.Finishes chain (op.Walk name))) asked place items = refl
-listing_act digest who (flow.File (file_flow.Finishes chain (op.Create name mode))) asked place items = refl
-listing_act digest who (flow.File (file_flow.Finishes chain (op.Stat name))) asked place items = refl
-listing_act digest who (flow.File (file_flow.Finishes chain (op.Unlink name))) asked place items = refl
-listing_act digest who (flow.File (file_flow.Finishes chain (op.Truncate name size))) asked place items = refl
-listing_act digest who (flow.File (file_flow.Finishes chain (op.Chmod name mode))) asked place items = refl
-listing_act digest who (flow.File (file_flow.Finishes chain (op.Move old new))) asked place items = refl
-listing_act digest who (flow.File (file_flow.Finishes chain (op.ListName name))) asked place items = refl
-listing_act digest who (flow.File (file_flow.Finishes chain (op.RmdirName name))) asked place items = refl
-listing_act digest who (flow.File (file_flow.Finishes chain op.List)) asked place items = refl
-listing_act digest who (flow.Dir (dir_flow.Reserves chain name mode)) asked place items = refl
-listing_act digest who (flow.Dir (dir_flow.Makes chain name mode version id)) asked place items = refl
-listing_act digest who (flow.Dir (dir_flow.Links chain name mode version dir)) asked place items = refl
-listing_act digest who (flow.Dir (dir_flow.Seals chain)) asked place items = refl
-listing_act digest who (flow.Dir (dir_flow.Unlinks chain)) asked place items = refl
-
-pub heard_act : (digest : List ℕ → Id) (who : Who) (step : Flow) (asked place : ℕ) (given : Reply) → after_act digest who step asked place (heard given) ≡ after_act digest who step asked place given
-heard_act digest who step asked place (reply.Listing items) = listing_act digest who step asked place items
-heard_act digest who step asked place (reply.Found key access) = refl
-heard_act digest who step asked place (reply.Absent born) = refl
-heard_act digest who step asked place (reply.IsFile born) = refl
-heard_act digest who step asked place reply.NoDir = refl
-heard_act digest who step asked place reply.Gone = refl
-heard_act digest who step asked place (reply.Stale hits) = refl
-heard_act digest who step asked place (reply.Busy by where_at born) = refl
-heard_act digest who step asked place reply.Other = refl
-heard_act digest who step asked place reply.NoMem = refl
-heard_act digest who step asked place (reply.Reserved version) = refl
-heard_act digest who step asked place (reply.Held meta) = refl
-heard_act digest who step asked place (reply.Clash kept) = refl
-heard_act digest who step asked place reply.Fine = refl
-heard_act digest who step asked place (reply.Refused error) = refl
-heard_act digest who step asked place (reply.Stat kind meta) = refl
 
 -- ---- a group of one message
 
@@ -119,19 +74,35 @@ alone_complete place told s alone here one =
     (same_nat _ _ (length-map s.sent (told_at place told) ∙ alone ∙ sym (size_one s.who s.stage one)))
     (one_told place told s.sent alone here)
 
+-- a group that is no round tells no key
+one_learned : (x : Stage) (s : ClientState) → has_one_message x ≡ true → learned x s ≡ s
+one_learned compose s one = absurd cc
+one_learned (round keys) s one = absurd cc
+one_learned (act step) s one = refl
+one_learned (winds end m ms) s one = refl
+
+lone : (s : ClientState) → length s.sent ≡ 1 → has_one_message s.stage ≡ true → is_lone s ≡ true
+lone s alone one = both (has_one_message s.stage) (eqb (length s.sent) 1) one (same_nat (length s.sent) 1 alone)
+
+lone_told : (s : ClientState) (told : Told) (b : Bool) → b ≡ true → (if b then told else record told { reply = heard told.reply }) ≡ told
+lone_told s told true is = refl
+lone_told s told false is = absurd cc
+
 pub served_alone : (digest : List ℕ → Id) (place : ℕ) (told : Told) (s : ClientState) → length s.sent ≡ 1 → has_place place s.sent ≡ true → has_one_message s.stage ≡ true
     → served digest place told s ≡ turned (turn_at digest (recorded place told s) s.stage) (recorded place told s)
 served_alone digest place told s alone here one =
-    ap (λ b. if b then settled digest (is_complete (recorded place told s)) (recorded place told s) else s) here
+    ap (λ (t : Told). if has_place place s.sent then after_record digest (recorded place t s) else s) (lone_told s told (is_lone s) (lone s alone one))
+    ∙ ap (λ b. if b then settled digest (is_complete (recorded place told s)) (recorded place told s) else s) here
     ∙ ap (λ b. settled digest b (recorded place told s)) (alone_complete place told s alone here one)
+    ∙ ap (λ (u : ClientState). turned (turn_at digest u s.stage) u) (one_learned s.stage (recorded place told s) one)
 
-pub alone_ends : (digest : List ℕ → Id) (s mid new : ClientState) (t : Turn Flow) (place : ℕ) (told : Told) → length s.sent ≡ 1 → has_place place s.sent ≡ true → has_one_message s.stage ≡ true
+pub alone_ends : (digest : List ℕ → Id) (s mid new : ClientState) (t : Turn Stage) (place : ℕ) (told : Told) → length s.sent ≡ 1 → has_place place s.sent ≡ true → has_one_message s.stage ≡ true
     → t ≡ turn_at digest (recorded place told s) s.stage → mid ≡ record s { stage = compose; sent = []; counts = with_serve told.serve_place s.counts }
     → new ≡ turned t mid → new ≡ served digest place told s
 alone_ends digest s mid new t place told alone here one comes between after =
     after ∙ ap (turned t) between
     ∙ turned_afresh t (record s { counts = with_serve told.serve_place s.counts }) compose s.stage [] (map (told_at place told) s.sent)
-    ∙ ap (λ (u : Turn Flow). turned u (recorded place told s)) comes
+    ∙ ap (λ (u : Turn Stage). turned u (recorded place told s)) comes
     ∙ sym (served_alone digest place told s alone here one)
 
 -- ---- a round

@@ -5,7 +5,6 @@ use Rattle.inf_duty.specs.Start.{start}
 use Rattle.inf_duty.specs.World.{World}
 use Rattle.inf_duty.specs.ClientState.{ClientState}
 use Rattle.inf_duty.specs.Turn.{served}
-use Rattle.inf_message.specs.Heard.{heard}
 use Rattle.inf_message.specs.declared.event.Event.{Event}
 use Rattle.inf_message.specs.declared.event.Event.TheVariants as event
 use Rattle.inf_message.specs.History.{told_reply}
@@ -17,4 +16,4 @@ client_after world client (event.Ask number ask ∷ h) =
     if ask.from.client == client then asked world.digest (suc (length h)) ask (client_after world client h)
     else client_after world client h
 client_after world client (event.Serve number ask_place given ∷ h) =
-    served world.digest ask_place (told_reply (suc (length h)) (heard given)) (client_after world client h)
+    served world.digest ask_place (told_reply (suc (length h)) given) (client_after world client h)

@@ -12,10 +12,11 @@ use Rattle.inf_message.specs.declared.ending.Ending.TheVariants as ending
 use Rattle.inf_message.specs.declared.step.Message.{Message}
 use Rattle.inf_message.specs.Sent.{Sent, is_first, new_sent}
 use Rattle.inf_message.specs.Who.{Who}
+use Rattle.inf_resolve.specs.declared.known.Known.{Known}
 
 -- where a client stands in the attempt of a call: between two groups, what it asks for next
 pub data Stage : Type 0 where
-  -- the attempt begins
+  -- what is asked for next is to be settled, by what the attempt was told so far
   compose : Stage
   -- lookups of these keys, all of which are asked before one is waited for
   round : List LookKey → Stage
@@ -41,6 +42,8 @@ pub record ClientState : Type 0 where
   -- the call under way, and those after it
   pub left : List Call
   pub stage : Stage
+  -- what the rounds of the attempt were told that are over
+  pub known : List Known
   -- the Asks of the present group, in their order
   pub sent : List Sent
   pub counts : Counts
@@ -52,7 +55,16 @@ no_counts = record { first = None; last = None; attempts = 0; rounds = 0; messag
 
 abbrev pub idle : Who → List Call → ClientState
 idle who calls =
-    record { who = who; number = 1; left = calls; stage = compose; sent = []; counts = no_counts; results = [] }
+    record {
+      who = who;
+      number = 1;
+      left = calls;
+      stage = compose;
+      known = [];
+      sent = [];
+      counts = no_counts;
+      results = [];
+    }
 
 abbrev pub call_ref : ClientState → CallRef
 call_ref s = record { client = s.who.client; number = s.number }
@@ -79,6 +91,7 @@ ended given place s = record s {
   number = s.number + 1;
   left = rest_of s.left;
   stage = compose;
+  known = [];
   sent = [];
   counts = no_counts;
   results = s.results ++ result_of given place s.counts.last s ∷ [];
@@ -86,7 +99,8 @@ ended given place s = record s {
 
 -- a new attempt
 abbrev pub begins_again : ClientState → ClientState
-begins_again s = record s { stage = compose; sent = []; counts = record s.counts { is_begun = false } }
+begins_again s =
+    record s { stage = compose; known = []; sent = []; counts = record s.counts { is_begun = false } }
 
 abbrev pub finished : Ending → ClientState → ClientState
 finished (ending.Answers given place) s = ended given place s

@@ -10,7 +10,8 @@ use Rattle.inf_message.specs.declared.step.Message.{Message}
 use Rattle.inf_message.specs.declared.ending.Ending.TheVariants as ending
 use Rattle.inf_duty.specs.ClientState.{ClientState, Stage, act, call_ref, compose, ended, placed, winds, wound}
 use Rattle.inf_duty.specs.Flow.{clean_up}
-use Rattle.inf_duty.specs.Group.{composed, group, next_course}
+use Rattle.inf_duty.specs.Course.{next_course}
+use Rattle.inf_duty.specs.Group.{composed, group}
 use Rattle.inf_message.specs.Sent.{Sent}
 use Rattle.inf_message.specs.Who.{Who}
 use Rattle.inf_duty.specs.Messages.{are_none, is_winding}

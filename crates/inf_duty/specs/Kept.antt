@@ -1,24 +1,64 @@
 -- What is kept true of a client in code, and words for what its parts do.
-use Rattle.std.specs.Prelude.{◌≡◌, ℕ, ◌+◌, ◌<◌, ◌≤◌, not, Bool, true, false, List, [], ◌∷◌, length, filter, Option, Some, None, is_some}
+use Rattle.std.specs.Prelude.{◌≡◌, ℕ, ◌+◌, ◌<◌, ◌≤◌, not, Bool, true, false, List, [], ◌∷◌, length, filter, Option, Some, None, is_some, Result, Ok, Err, IfSome}
 use Rattle.inf_base.specs.declared.answer.Answer.{Answer}
 use Rattle.inf_base.specs.declared.call.Call.{Call}
+use Rattle.inf_base.specs.declared.call.Call.TheVariants as call
+use Rattle.inf_base.specs.declared.errno.Errno.{Errno}
+use Rattle.inf_base.specs.declared.id.Id.{Id}
 use Rattle.inf_base.specs.declared.limits.TheConstants.{MOST_CALLS}
 use Rattle.inf_duty.specs.declared.standing.Standing.{Standing}
 use Rattle.inf_duty.specs.declared.standing.Standing.TheVariants as standing
 use Rattle.inf_duty.specs.ClientState.{ClientState, one_if, result_of}
-use Rattle.inf_duty.specs.Draft.{course_with}
-use Rattle.inf_duty.specs.Group.{next_course}
+use Rattle.inf_duty.specs.declared.course.Course.{Course}
+use Rattle.inf_duty.specs.declared.course.Deed.{Deed}
+use Rattle.inf_duty.specs.declared.course.Deed.TheVariants as deed
+use Rattle.inf_duty.specs.Course.{next_course}
 use Rattle.inf_message.specs.Sent.{Sent, is_told}
 use Rattle.inf_duty.specs.Messages.{is_winding}
 use Rattle.inf_duty.specs.Tally.{without_serves}
 use Rattle.inf_message.specs.declared.call_result.CallResult.{CallResult}
+use Rattle.inf_resolve.specs.declared.known.Known.{Known}
+use Rattle.inf_resolve.specs.declared.resolved.Verdict.TheVariants as verdict
+use Rattle.inf_resolve.specs.Resolved.{resolved, verdict_of}
 
--- a group belongs to a call that is built, and what follows a round was made ready
+-- ---- courses, as code has them
+
+-- what is done at the last name
+abbrev pub deed_at : Call → List ℕ → Option Deed
+deed_at (call.Create path mode) name = Some (deed.Create name mode)
+deed_at (call.Stat path) name = Some (deed.Stat name)
+deed_at (call.Mkdir path mode) name = Some (deed.Mkdir name mode)
+deed_at other name = None
+
+-- the directory of the last name is not itself what is changed
+abbrev pub IsAtLast : Call → Type 0
+IsAtLast (call.Rmdir path) = ⊥
+IsAtLast other = Unit {0}
+
+-- the names of a path without a fault
+abbrev pub names_if : Result (List (List ℕ)) Errno → Option (List (List ℕ))
+names_if (Ok names) = Some names
+names_if (Err error) = None
+
+-- ---- clients
+
+-- a group belongs to a call that is built, and a round asks for something
 abbrev pub IsOf : List Call → Standing → Type 0
 IsOf left standing.Compose = Unit {0}
-IsOf left (standing.Round keys draft) = (next_course left ≡ Some (course_with draft)) × (0 < length keys)
+IsOf left (standing.Round keys) = (is_some (next_course left) ≡ true) × (0 < length keys)
 IsOf left (standing.Act flow) = is_some (next_course left) ≡ true
 IsOf left (standing.Winds ending first rest) = is_some (next_course left) ≡ true
+
+-- what the rounds that are over told has not ended the attempt
+abbrev pub IsUndecided : List Call → List Known → Type 0
+IsUndecided left known =
+    (digest : List ℕ → Id) (root : Id) (course : Course) → next_course left ≡ Some course
+    → verdict_of (resolved digest root course.looked known) ≡ verdict.GoesOn
+
+-- the course that was made ready is that of the call under way, and there is one while a round is waited for
+abbrev pub CourseFits : List Call → Standing → Option Course → Type 0
+CourseFits left (standing.Round keys) course = (is_some course ≡ true) × (course ≡ next_course left)
+CourseFits left other course = IfSome course (λ (c : Course). next_course left ≡ Some c)
 
 abbrev pub told_count : List Sent → ℕ
 told_count sent = length (filter is_told sent)
@@ -32,27 +72,36 @@ AloneOrFits rooms (x ∷ y ∷ sent) = length (x ∷ y ∷ sent) ≤ rooms + tol
 -- room for each answer of a group that is kept
 abbrev pub RoomsFit : Standing → ℕ → List Sent → Type 0
 RoomsFit standing.Compose rooms sent = length sent ≤ rooms + told_count sent
-RoomsFit (standing.Round keys draft) rooms sent =
+RoomsFit (standing.Round keys) rooms sent =
     (length keys ≤ rooms + told_count sent) × (length sent ≤ rooms + told_count sent)
 RoomsFit (standing.Act flow) rooms sent = AloneOrFits rooms sent
 RoomsFit (standing.Winds ending first rest) rooms sent = AloneOrFits rooms sent
 
 -- the Asks of a group take no memory
 abbrev pub AsksFit : Standing → ℕ → Type 0
-AsksFit (standing.Round keys draft) capacity = length keys ≤ capacity
+AsksFit (standing.Round keys) capacity = length keys ≤ capacity
 AsksFit other capacity = Unit {0}
+
+-- neither does what a round is told, once it joins what is known
+abbrev pub KnownFits : Standing → ℕ → ℕ → Type 0
+KnownFits (standing.Round keys) known capacity = known + length keys ≤ capacity
+KnownFits other known capacity = Unit {0}
 
 -- a flow is under way or to come, one of whose replies may name a clash
 abbrev pub may_clash : Standing → Bool
-may_clash (standing.Round keys draft) = true
+may_clash (standing.Round keys) = true
 may_clash (standing.Act flow) = true
 may_clash other = false
 
-pub record IsKept (number : ℕ) (left : List Call) (stands : Standing) (sent : List Sent) (capacity rooms : ℕ)
-    (has_room : Bool) (results most_results : ℕ) : Type 0 where
+pub record IsKept (number : ℕ) (left : List Call) (stands : Standing) (course : Option Course) (known : List Known)
+    (most_known : ℕ) (sent : List Sent) (capacity rooms : ℕ) (has_room : Bool) (results most_results : ℕ)
+    : Type 0 where
   -- the numbers of the calls that are left fit
   pub numbered : number + length left ≤ MOST_CALLS + 1
   pub is_of : IsOf left stands
+  pub course_fits : CourseFits left stands course
+  pub undecided : IsUndecided left known
+  pub known_fits : KnownFits stands (length known) most_known
   pub rooms_fit : RoomsFit stands rooms sent
   pub clash_fits : may_clash stands ≡ true → has_room ≡ true
   -- the first Ask of a group takes no memory, nor do those of a round

@@ -1,7 +1,7 @@
 pub mod After
 pub mod ClientState
 pub mod ClientStep
-pub mod Draft
+pub mod Course
 pub mod Duty
 pub mod Flow
 pub mod Group
@@ -10,7 +10,6 @@ pub mod Messages
 pub mod Outcome
 pub mod Own
 pub mod Places
-pub mod Round
 pub mod Standing
 pub mod Start
 pub mod Tally

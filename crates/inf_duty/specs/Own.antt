@@ -7,7 +7,6 @@ use Rattle.inf_duty.specs.World.{World}
 use Rattle.inf_duty.specs.declared.own.OwnAsk.{OwnAsk}
 use Rattle.inf_duty.specs.ClientState.{ClientState}
 use Rattle.inf_duty.specs.Turn.{served}
-use Rattle.inf_message.specs.Heard.{heard}
 use Rattle.inf_message.specs.declared.reply.Reply.{Reply}
 use Rattle.inf_message.specs.declared.event.Event.{Event}
 use Rattle.inf_message.specs.History.{Own, Told, asks_of, told_reply}
@@ -15,7 +14,7 @@ use Rattle.inf_message.specs.History.{Own, Told, asks_of, told_reply}
 -- the client once an Ask was answered, if it was
 abbrev pub after_answer : (List ℕ → Id) → ℕ → Option (ℕ × Reply) → ClientState → ClientState
 after_answer digest ask_place None s = s
-after_answer digest ask_place (Some told) s = served digest ask_place (told_reply told.0 (heard told.1)) s
+after_answer digest ask_place (Some told) s = served digest ask_place (told_reply told.0 told.1) s
 
 -- the client once it has made an Ask, and knows the answer
 abbrev pub after_own : (List ℕ → Id) → ClientState → OwnAsk → ClientState

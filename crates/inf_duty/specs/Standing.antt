@@ -5,6 +5,6 @@ use Rattle.inf_duty.specs.declared.standing.Standing.TheVariants as standing
 
 abbrev pub stage_of : Standing → Stage
 stage_of standing.Compose = compose
-stage_of (standing.Round keys draft) = round keys
+stage_of (standing.Round keys) = round keys
 stage_of (standing.Act flow) = act flow
 stage_of (standing.Winds ending first rest) = winds ending first rest

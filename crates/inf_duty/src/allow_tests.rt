@@ -1,13 +1,13 @@
 //! Which asks of a short run are allowed.
 
-ghost use Rattle.std.specs.Prelude.{◌≡◌, ◌≤◌, IfOk};
+ghost use Rattle.std.specs.Prelude.{◌≡◌, ◌≤◌, length, IfOk};
 ghost use Rattle.inf_base.specs.Setup.{call_count};
 ghost use Rattle.inf_base.specs.declared.limits.TheConstants.{MOST_CALLS};
 
 use super::*;
 use inf_base::{
     Access, Call, CallRef, Caller, Calls, Chain, ClientLine, Clients, Entry, Key, LookKey, Name,
-    NoMemory, Place, Setup, Text, Triple,
+    NoMemory, Place, Sequence, Setup, Text, Triple,
 };
 use inf_birth::{IdRule, ShaRule};
 use inf_message::{Ask, Op, Reply, Request};
@@ -19,31 +19,44 @@ const RULE: ShaRule = ShaRule { bytes: 32 };
 
 const ROOT_USER: Caller = Caller { uid: 0, gid: 0 };
 
-/// Two servers, and a client that makes a file and asks for it. The digest of the empty message begins with the bytes
-/// e3 b0 c4 42 98 fc 1c 14, an even number, so server 0 keeps the root.
+/// What the client is to ask for.
+#[derive(Clone, Copy)]
+enum Asked {
+    /// The lookup of this call, for this user.
+    LooksUp(u32, u32),
+    /// The deciding message of this call, with the root's entry as it was told at this place.
+    Finishes(u32, Place),
+}
+
+/// A client that makes a file and asks for it.
+fn line(alloc: Global) -> Result<ClientLine, NoMemory>
+    ensures { IfOk result (λ line. length line.calls ≡ 2) }
+{
+    let path = Text::from_slice(alloc, b"/f")?;
+    let mut calls = Vec::new(alloc);
+    calls.push(Call::Create { path, mode: 0o644 })?;
+    let path = Text::from_slice(alloc, b"/f")?;
+    calls.push(Call::Stat { path })?;
+    Ok(ClientLine {
+        name: Name::from_slice(alloc, b"a")?,
+        caller: ROOT_USER,
+        calls: Calls::new(calls),
+    })
+}
+
+/// Two servers, and the client. The digest of the empty message begins with the bytes e3 b0 c4 42 98 fc 1c 14, an even
+/// number, so server 0 keeps the root.
 fn setup(alloc: Global) -> Result<Setup, NoMemory>
     ensures servers { IfOk result (λ setup. setup.servers ≡ 2) }
     ensures calls { IfOk result (λ setup. call_count setup.clients ≤ MOST_CALLS) }
 {
-    let calls = vec![in alloc;
-        Call::Create {
-            path: Text::from_slice(alloc, b"/f")?,
-            mode: 0o644
-        },
-        Call::Stat {
-            path: Text::from_slice(alloc, b"/f")?
-        },
-    ]?;
-    let line = ClientLine {
-        name: Name::from_slice(alloc, b"a")?,
-        caller: ROOT_USER,
-        calls: Calls::new(calls),
-    };
+    let mut clients = Vec::new(alloc);
+    clients.push(line(alloc)?)?;
     Ok(Setup {
         servers: 2,
         digest_bytes: 32,
         cache: 256,
-        clients: Clients::new(vec![in alloc; line]?),
+        clients: Clients::new(clients),
     })
 }
 
@@ -58,14 +71,14 @@ fn access() -> Access {
     }
 }
 
-fn lookup(call: u32, uid: u32) -> Ask {
+fn ask(call: u32, uid: u32, request: Request) -> Ask {
     Ask {
         from: CallRef {
             client: 0,
             number: call,
         },
         caller: Caller { uid, gid: 0 },
-        request: Request::Lookup(LookKey::Top),
+        request,
     }
 }
 
@@ -86,20 +99,35 @@ fn chain(alloc: Global, stamp: Place) -> Result<Chain, NoMemory> {
         access: access(),
         stamp,
     })?;
-    Ok(Chain::new(entries))
+    Chain::new(alloc, Sequence::new(entries))
 }
 
-/// The deciding message of a call.
-fn finish(alloc: Global, call: u32, stamp: Place) -> Result<Ask, NoMemory> {
-    let op = op(alloc, call)?;
-    let chain = chain(alloc, stamp)?;
-    Ok(Ask {
-        from: CallRef {
-            client: 0,
-            number: call,
-        },
-        caller: ROOT_USER,
-        request: Request::Finish { chain, op },
+fn finish(alloc: Global, call: u32, stamp: Place) -> Result<Request, NoMemory> {
+    Ok(Request::Finish {
+        op: op(alloc, call)?,
+        chain: chain(alloc, stamp)?,
+    })
+}
+
+fn ask_of(alloc: Global, asked: Asked) -> Result<Ask, NoMemory> {
+    match asked {
+        Asked::LooksUp(call, uid) => Ok(ask(call, uid, Request::Lookup(LookKey::Top))),
+        Asked::Finishes(call, stamp) => Ok(ask(call, 0, finish(alloc, call, stamp)?)),
+    }
+}
+
+/// What server 0 was asked for at this place, and its answer, if it has come.
+fn own(
+    alloc: Global,
+    asked: Asked,
+    ask_place: Place,
+    told: Option<(Place, Reply)>,
+) -> Result<OwnAsk, NoMemory> {
+    Ok(OwnAsk {
+        number: 0,
+        ask: ask_of(alloc, asked)?,
+        ask_place,
+        told,
     })
 }
 
@@ -110,104 +138,76 @@ fn found() -> Reply {
     }
 }
 
-/// The lookup of a call, at this place, and its answer, if it has come.
-fn looks_up(
-    own: &mut Vec<OwnAsk>,
-    call: u32,
-    ask_place: Place,
-    told: Option<Place>,
-) -> Result<(), NoMemory> {
-    let told = match told {
-        Some(serve_place) => Some((serve_place, found())),
-        None => None,
-    };
-    own.push(OwnAsk {
-        number: 0,
-        ask: lookup(call, 0),
-        ask_place,
-        told,
-    })?;
-    Ok(())
+/// The file is made, and looked up again.
+fn run(alloc: Global) -> Result<Vec<OwnAsk>, NoMemory> {
+    let mut run = Vec::new(alloc);
+    for (asked, ask_place, told) in [
+        (Asked::LooksUp(1, 0), 1, (2, found())),
+        (Asked::Finishes(1, 2), 3, (4, Reply::Fine)),
+        (Asked::LooksUp(2, 0), 5, (6, found())),
+    ] {
+        run.push(own(alloc, asked, ask_place, Some(told))?)?;
+    }
+    Ok(run)
 }
 
-/// The deciding message of a call, at this place, and its success at the next.
-fn creates(alloc: Global, own: &mut Vec<OwnAsk>) -> Result<(), NoMemory> {
-    let ask = finish(alloc, 1, 2)?;
-    own.push(OwnAsk {
-        number: 0,
-        ask,
-        ask_place: 3,
-        told: Some((4, Reply::Fine)),
-    })?;
-    Ok(())
-}
-
+/// Whether the client may ask the server of this number, after so many Asks of its own.
 fn may<R: AllocGlobal + Abort>(
     rt: &R,
     own: &[OwnAsk],
+    made: usize,
     number: u32,
-    ask: &Ask,
+    asked: Asked,
 ) -> Result<bool, NoMemory> {
+    let own = &own[..made.min(own.len())];
     assert!(rt; are_in_order(own));
     let setup = setup(rt.alloc())?;
-    allowed(rt.alloc(), RULE, &setup, 0, own, number, ask)
-}
-
-fn may_look_up<R: AllocGlobal + Abort>(
-    rt: &R,
-    own: &[OwnAsk],
-    number: u32,
-    call: u32,
-    uid: u32,
-) -> Result<bool, NoMemory> {
-    may(rt, own, number, &lookup(call, uid))
-}
-
-fn may_finish<R: AllocGlobal + Abort>(
-    rt: &R,
-    own: &[OwnAsk],
-    number: u32,
-    call: u32,
-    stamp: Place,
-) -> Result<bool, NoMemory> {
-    let ask = finish(rt.alloc(), call, stamp)?;
-    may(rt, own, number, &ask)
+    let ask = ask_of(rt.alloc(), asked)?;
+    allowed(rt.alloc(), RULE, &setup, 0, own, number, &ask)
 }
 
 #[test]
 fn a_run_is_allowed(rt: HostRuntime) -> Result<(), Fail> {
-    let mut own = Vec::new(rt.alloc());
-    assert!(rt; may_look_up(&rt, own.as_slice(), 0, 1, 0)?);
-    looks_up(&mut own, 1, 1, Some(2))?;
-    assert!(rt; may_finish(&rt, own.as_slice(), 0, 1, 2)?);
-    creates(rt.alloc(), &mut own)?;
-    assert!(rt; may_look_up(&rt, own.as_slice(), 0, 2, 0)?);
-    looks_up(&mut own, 2, 5, Some(6))?;
-    assert!(rt; may_finish(&rt, own.as_slice(), 0, 2, 6)?);
+    let own = run(rt.alloc())?;
+    for (made, asked) in [
+        (0, Asked::LooksUp(1, 0)),
+        (1, Asked::Finishes(1, 2)),
+        (2, Asked::LooksUp(2, 0)),
+        (3, Asked::Finishes(2, 6)),
+    ] {
+        assert!(rt; may(&rt, own.as_slice(), made, 0, asked)?);
+    }
     Ok(())
 }
 
 #[test]
 fn nothing_else_is(rt: HostRuntime) -> Result<(), Fail> {
-    let mut own = Vec::new(rt.alloc());
-    // Before the lookup, to another server, and for another caller.
-    assert!(rt; !may_finish(&rt, own.as_slice(), 0, 1, 2)?);
-    assert!(rt; !may_look_up(&rt, own.as_slice(), 1, 1, 0)?);
-    assert!(rt; !may_look_up(&rt, own.as_slice(), 0, 1, 1)?);
-    looks_up(&mut own, 1, 1, Some(2))?;
-    // With an entry that was never told, and once more.
-    assert!(rt; !may_finish(&rt, own.as_slice(), 0, 1, 3)?);
-    assert!(rt; !may_look_up(&rt, own.as_slice(), 0, 1, 0)?);
+    let own = run(rt.alloc())?;
+    for (made, number, asked) in [
+        // Before the lookup, to another server, and for another caller.
+        (0, 0, Asked::Finishes(1, 2)),
+        (0, 1, Asked::LooksUp(1, 0)),
+        (0, 0, Asked::LooksUp(1, 1)),
+        // With an entry that was never told, and once more.
+        (1, 0, Asked::Finishes(1, 3)),
+        (1, 0, Asked::LooksUp(1, 0)),
+    ] {
+        assert!(rt; !may(&rt, own.as_slice(), made, number, asked)?);
+    }
     Ok(())
 }
 
 /// Where memory is wanting, a call may be given up between two groups, and not within one.
 #[test]
 fn a_call_is_given_up(rt: HostRuntime) -> Result<(), Fail> {
-    let mut own = Vec::new(rt.alloc());
-    assert!(rt; may_look_up(&rt, own.as_slice(), 0, 2, 0)?);
-    looks_up(&mut own, 1, 1, None)?;
-    assert!(rt; !may_look_up(&rt, own.as_slice(), 0, 2, 0)?);
-    assert!(rt; !may_look_up(&rt, own.as_slice(), 0, 1, 0)?);
+    let mut waiting = Vec::new(rt.alloc());
+    waiting.push(own(rt.alloc(), Asked::LooksUp(1, 0), 1, None)?)?;
+    for (made, asked, may_ask) in [
+        (0, Asked::LooksUp(2, 0), true),
+        (1, Asked::LooksUp(2, 0), false),
+        (1, Asked::LooksUp(1, 0), false),
+    ] {
+        assert_eq!(rt; may(&rt, waiting.as_slice(), made, 0, asked)?, may_ask);
+    }
     Ok(())
 }

@@ -14,11 +14,13 @@ mod asking;
 mod step;
 mod turning;
 
+use crate::course::Course;
 use crate::standing::Standing;
 use crate::tally::Tally;
 use inf_base::{Answer, Call, CallRef, Caller, ClientLine, NoMemory, Place, Setup, TryClone};
 use inf_birth::IdRule;
 use inf_message::{CallResult, NameRoom, ReplyRoom, Sending, Who};
+use inf_resolve::Known;
 use std::alloc::Global;
 use std::collections::VecDeque;
 use std::marker::Model;
@@ -31,6 +33,9 @@ pub struct ClientState {
     number: u32,
     left: VecDeque<Call>,
     stands: Standing,
+    /// The course of the call under way, once it was made ready.
+    course: Option<Course>,
+    known: Vec<Known>,
     sent: Vec<Sending>,
     /// For the answers that are still to come.
     rooms: Vec<ReplyRoom>,
@@ -53,13 +58,15 @@ impl Model for ClientState {
       number = c.number;
       left = c.left.items;
       stage = stage_of c.stands;
+      known = c.known.items;
       sent = c.sent.items;
       counts = c.counts;
       results = c.results.items;
     } };
 
-    ghost invariant = { λ c. IsKept c.number c.left.items c.stands c.sent.items
-        (vec_capacity c.sent) (vec_len c.rooms) (is_some c.clash_room) (vec_len c.results) (vec_capacity c.results) };
+    ghost invariant = { λ c. IsKept c.number c.left.items c.stands c.course c.known.items (vec_capacity c.known)
+        c.sent.items (vec_capacity c.sent) (vec_len c.rooms) (is_some c.clash_room) (vec_len c.results)
+        (vec_capacity c.results) };
 }
 
 impl ClientState {
@@ -99,6 +106,8 @@ impl ClientState {
             number: 1,
             left,
             stands: Standing::Compose,
+            course: None,
+            known: Vec::new(alloc),
             sent,
             rooms: Vec::new(alloc),
             clash_room: None,
@@ -136,6 +145,8 @@ impl ClientState {
         let _ = self.left.pop_front();
         self.number += 1;
         self.stands = Standing::Compose;
+        self.course = None;
+        self.known.clear();
         self.sent.clear();
         self.counts = Tally::new();
     }

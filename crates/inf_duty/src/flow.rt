@@ -38,8 +38,7 @@ impl Flow {
         }
     }
 
-    /// What comes of the reply to the message that was sent. The room is for the triple that a clash names, and is
-    /// used up by that alone.
+    /// What comes of the reply to the message that was sent. The room is for the triple that a clash names.
     pub fn next<R: IdRule>(
         self,
         rule: &R,

@@ -16,7 +16,7 @@ pub fn is_compose(stands: &Standing) -> bool
 {
     match stands {
         Standing::Compose => true,
-        Standing::Round(_, _) => false,
+        Standing::Round(_) => false,
         Standing::Act(_) => false,
         Standing::Winds(_, _, _) => false,
     }
@@ -28,7 +28,7 @@ pub fn is_round(stands: &Standing) -> bool
 {
     match stands {
         Standing::Compose => false,
-        Standing::Round(_, _) => true,
+        Standing::Round(_) => true,
         Standing::Act(_) => false,
         Standing::Winds(_, _, _) => false,
     }
@@ -40,7 +40,7 @@ pub fn is_winding(stands: &Standing) -> bool
 {
     match stands {
         Standing::Compose => false,
-        Standing::Round(_, _) => false,
+        Standing::Round(_) => false,
         Standing::Act(_) => false,
         Standing::Winds(_, _, _) => true,
     }
@@ -52,7 +52,7 @@ pub fn has_one_message(stands: &Standing) -> bool
 {
     match stands {
         Standing::Compose => false,
-        Standing::Round(_, _) => false,
+        Standing::Round(_) => false,
         Standing::Act(_) => true,
         Standing::Winds(_, _, _) => true,
     }
@@ -64,7 +64,7 @@ pub fn group_size(stands: &Standing) -> usize
 {
     match stands {
         Standing::Compose => 0,
-        Standing::Round(keys, _) => keys.len(),
+        Standing::Round(keys) => keys.len(),
         Standing::Act(_) => 1,
         Standing::Winds(_, _, _) => 1,
     }
@@ -77,7 +77,7 @@ pub fn has_message(stands: &Standing) -> bool
 {
     match stands {
         Standing::Compose => true,
-        Standing::Round(keys, _) => keys.len() > 0,
+        Standing::Round(keys) => keys.len() > 0,
         Standing::Act(_) => true,
         Standing::Winds(_, _, _) => true,
     }

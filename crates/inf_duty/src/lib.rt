@@ -1,22 +1,21 @@
-//! What a client may send, and what its calls came to: its duty as a definition, and a client in code.
+//! What a client may send, and what its calls came to: its duty as a definition, and a client in code; the flows that
+//! its calls go by.
 #![tactic(auto)]
 
-mod aim;
 mod allow;
 #[cfg(test)]
 mod allow_tests;
 mod client_state;
 mod client_step;
-mod draft;
+mod course;
 #[cfg(test)]
-mod draft_tests;
+mod course_tests;
 mod flow;
 mod group;
-mod next;
+mod learning;
 mod outcome;
 mod own;
 mod recording;
-mod round;
 mod standing;
 mod tally;
 

@@ -33,7 +33,7 @@ impl ClientState {
         ensures { IfOk result (λ message. message
             ≡ slice_get (group self.now.who self.now.stage) (length self.now.sent)) }
     {
-        if let Standing::Round(keys, _) = &self.stands {
+        if let Standing::Round(keys) = &self.stands {
             return self.lookup_at(alloc, keys.as_slice(), self.sent.len());
         }
         if !self.sent.is_empty() {

@@ -1,21 +1,23 @@
 //! How an ask finds a client: within a group, or between two, where calls may be given up before it.
 
-ghost use Rattle.std.specs.Prelude.{ℕ, List, ◌≡◌, ◌≢◌, ◌+◌, ◌<◌, ◌^◌, [], is_some, true, false, Some, OnOk, OnErr};
+ghost use Rattle.std.specs.Prelude.{ℕ, List, ◌≡◌, ◌≢◌, ◌+◌, ◌<◌, ◌^◌, [], is_some, length, true, false, Some, IfOk, OnOk, OnErr};
 ghost use Rattle.inf_base.specs.declared.id.Id.{Id};
 ghost use Rattle.inf_duty.specs.Duty.{asked, at_call, begun, found_at, lifts, may_give_up};
 ghost use Rattle.inf_duty.specs.Messages.{is_compose};
-ghost use Rattle.inf_duty.specs.ClientState.{placed};
-ghost use Rattle.inf_duty.specs.Draft.{course_with};
-ghost use Rattle.inf_duty.specs.Group.{composed, next_course};
+ghost use Rattle.inf_duty.specs.ClientState.{act, placed, round};
+ghost use Rattle.inf_duty.specs.Course.{next_course};
+ghost use Rattle.inf_duty.specs.Group.{composed};
 
 use super::ClientState;
-use crate::draft::Draft;
+use crate::course::Course;
+use crate::flow::Flow;
 use crate::group::{is_compose, is_round};
 use crate::recording::{make_clash_room, make_rooms};
 use crate::standing::Standing;
-use inf_base::{NoMemory, Place};
+use inf_base::{LookKeys, NoMemory, Place};
 use inf_birth::IdRule;
 use inf_message::{Ask, Request, Sending};
+use inf_resolve::Resolved;
 use std::alloc::Global;
 
 /// Whether a request is one of a clean-up.
@@ -31,19 +33,50 @@ fn lifts(request: &Request) -> bool
 }
 
 impl ClientState {
-    /// An attempt begins with the round of a draft, whose Asks and answers take no memory then.
-    fn open<R: IdRule>(&mut self, alloc: Global, rule: &R, draft: Draft) -> Result<(), NoMemory>
+    /// The course of the call under way, if it is of a kind and a path that is built.
+    fn take_course(&mut self, alloc: Global) -> Result<Option<Course>, NoMemory>
+        requires stage { is_compose self.old.stage ≡ true }
+        ensures course { IfOk result (λ course. course ≡ next_course self.old.left) }
+        ensures same { self.new ≡ self.old }
+    {
+        let ready = self.course.take();
+        if ready.is_some() {
+            return Ok(ready);
+        }
+        match self.first_call() {
+            None => Ok(None),
+            Some(call) => Course::of(alloc, call),
+        }
+    }
+
+    /// A round of these keys is next, whose Asks and answers take no memory then.
+    fn open_round(&mut self, alloc: Global, keys: LookKeys, course: Course) -> Result<(), NoMemory>
         requires between { self.old.sent ≡ [] }
         requires stage { is_compose self.old.stage ≡ true }
-        requires course { next_course self.old.left ≡ Some (course_with draft) }
-        ensures ok { OnOk result (self.new ≡ composed (R.digest_of rule.now) self.old) }
+        requires course { next_course self.old.left ≡ Some course }
+        requires asks { 0 < length keys }
+        ensures ok { OnOk result (self.new ≡ record self.old { stage = round keys }) }
         ensures err { OnErr result (self.new ≡ self.old) }
     {
-        let keys = draft.keys(alloc, rule, &self.who)?;
         make_rooms(alloc, &mut self.rooms, keys.len())?;
         make_clash_room(alloc, &mut self.clash_room)?;
+        self.known.reserve(keys.len())?;
         self.sent = Vec::with_capacity(alloc, keys.len())?;
-        self.stands = Standing::Round(keys, draft);
+        self.course = Some(course);
+        self.stands = Standing::Round(keys);
+        Ok(())
+    }
+
+    /// The first message of a flow is next, whose answers take no memory then.
+    fn open_flow(&mut self, alloc: Global, flow: Flow) -> Result<(), NoMemory>
+        requires between { self.old.sent ≡ [] }
+        requires stage { is_compose self.old.stage ≡ true }
+        requires course { is_some (next_course self.old.left) ≡ true }
+        ensures ok { OnOk result (self.new ≡ record self.old { stage = act flow }) }
+        ensures err { OnErr result (self.new ≡ self.old) }
+    {
+        make_clash_room(alloc, &mut self.clash_room)?;
+        self.stands = Standing::Act(flow);
         Ok(())
     }
 
@@ -58,12 +91,18 @@ impl ClientState {
         if !is_compose(&self.stands) {
             return Ok(());
         }
-        let Some(call) = self.first_call() else {
+        let Some(course) = self.take_course(alloc)? else {
             return Ok(());
         };
-        match Draft::of(alloc, call)? {
-            None => Ok(()),
-            Some(draft) => self.open(alloc, rule, draft),
+        let root = self.who.root();
+        match course
+            .looked
+            .resolve(alloc, rule, &root, self.known.as_slice())?
+        {
+            Resolved::Asks(keys) => self.open_round(alloc, keys, course),
+            Resolved::Leads(old, _) => self.open_flow(alloc, course.deed.begin(old)),
+            Resolved::IsBusy(_, _) => unreachable!(),
+            Resolved::Lacks => unreachable!(),
         }
     }
 

@@ -14,7 +14,7 @@ ghost use Rattle.inf_message.specs.Who.{lookup_of};
 
 use super::ClientState;
 use crate::client_step::ClientStep;
-use crate::draft::has_course;
+use crate::course::has_course;
 use crate::group::{has_message, is_round, is_winding};
 use crate::standing::Standing;
 use inf_base::{Answer, CallRef, LookKey, NoMemory, Place};
@@ -121,7 +121,7 @@ impl ClientState {
     {
         match &self.stands {
             Standing::Compose => Ok(Vec::new(alloc)),
-            Standing::Round(keys, _) => self.lookups(alloc, keys.as_slice()),
+            Standing::Round(keys) => self.lookups(alloc, keys.as_slice()),
             Standing::Act(flow) => self.alone(alloc, flow.message(alloc, &self.who)?),
             Standing::Winds(_, first, _) => self.alone(alloc, first.message()),
         }
@@ -181,7 +181,7 @@ impl ClientState {
                 self.wind(ending, clean_ups);
             }
             Standing::Compose => self.end(Answer::NoMemory, None),
-            Standing::Round(_, _) => self.end(Answer::NoMemory, None),
+            Standing::Round(_) => self.end(Answer::NoMemory, None),
             Standing::Winds(_, _, _) => unreachable!(),
         }
     }
@@ -214,7 +214,7 @@ impl ClientState {
         self.sent.clear();
         match mem::replace(&mut self.stands, Standing::Compose) {
             Standing::Compose => (Answer::Unanswered, None),
-            Standing::Round(_, _) => (of_round, None),
+            Standing::Round(_) => (of_round, None),
             Standing::Act(_) => (Answer::Unanswered, None),
             Standing::Winds(ending, _, _) => match ending {
                 Ending::Answers(answer, place) => (answer, place),

@@ -5,22 +5,23 @@ ghost use Rattle.inf_base.specs.declared.id.Id.{Id};
 ghost use Rattle.inf_duty.specs.Messages.{has_one_message};
 ghost use Rattle.inf_message.specs.declared.turn.Turn.TheVariants as turn;
 ghost use Rattle.inf_duty.specs.ClientState.{act, begins_again, compose, finished, is_round, wound};
-ghost use Rattle.inf_duty.specs.Group.{next_course};
-ghost use Rattle.inf_duty.specs.Turn.{is_complete, recorded, served, settled, turn_at, turned};
+ghost use Rattle.inf_duty.specs.Course.{next_course};
+ghost use Rattle.inf_duty.specs.Turn.{is_complete, is_lone, recorded, served, settled, turn_at, turned};
 ghost use Rattle.inf_message.specs.Heard.{heard};
 ghost use Rattle.inf_message.specs.Sent.{has_place};
-ghost use Rattle.inf_message.specs.Turn.{goes_on};
+ghost use Rattle.inf_message.specs.Turn.{goes_on, turn_as};
 ghost use Rattle.inf_message.specs.History.{told_reply};
 
 use super::ClientState;
 use crate::flow::Flow;
 use crate::group::{group_size, has_one_message};
+use crate::learning::{learn, verdict};
 use crate::recording::record_answer;
-use crate::round::after_round;
 use crate::standing::Standing;
-use inf_base::Place;
+use inf_base::{Answer, Place};
 use inf_birth::IdRule;
-use inf_message::{CleanUps, Ending, NameRoom, Reply, Turn, are_told, has_place};
+use inf_message::{CleanUps, Ending, NameRoom, Reply, Turn, are_told, has_place, is_one_wanting};
+use inf_resolve::Verdict;
 use std::mem;
 
 impl ClientState {
@@ -29,6 +30,7 @@ impl ClientState {
         ensures { self.new ≡ begins_again self.old }
     {
         self.stands = Standing::Compose;
+        self.known.clear();
         self.sent.clear();
         self.counts.begin_again();
     }
@@ -62,7 +64,7 @@ impl ClientState {
     fn go_on(&mut self, flow: Flow, room: Option<NameRoom>)
         requires call { is_some (next_course self.old.left) ≡ true }
         requires room { is_some room ≡ true }
-        ensures { self.new ≡ turned (turn.GoesOn flow) self.old }
+        ensures { self.new ≡ turned (turn.GoesOn (act flow)) self.old }
     {
         self.stands = Standing::Act(flow);
         self.clash_room = room;
@@ -73,7 +75,7 @@ impl ClientState {
     fn follow(&mut self, turn: Turn<Flow>, room: Option<NameRoom>)
         requires call { is_some (next_course self.old.left) ≡ true }
         requires room { goes_on turn ≡ true → is_some room ≡ true }
-        ensures { self.new ≡ turned turn self.old }
+        ensures { self.new ≡ turned (turn_as act turn) self.old }
     {
         match turn {
             Turn::GoesOn(flow) => self.go_on(flow, room),
@@ -86,25 +88,8 @@ impl ClientState {
         }
     }
 
-    /// What comes of the answers to a round, which is over.
-    fn take_round(&mut self) -> (Turn<Flow>, Option<NameRoom>)
-        requires round { is_round self.old.stage ≡ true }
-        ensures turn { (digest : List ℕ → Id) → result.0 ≡ turn_at digest self.old self.old.stage }
-        ensures room { is_some result.1 ≡ true }
-        ensures after { self.new ≡ record self.old { stage = compose; sent = [] } }
-        ensures call { is_some (next_course self.old.left) ≡ true }
-    {
-        match mem::replace(&mut self.stands, Standing::Compose) {
-            Standing::Round(_, draft) => {
-                let room = self.clash_room.take();
-                (after_round(draft, &mut self.sent), room)
-            }
-            _ => unreachable!(),
-        }
-    }
-
     /// What comes of the answer to the one message of a group that is no round.
-    #[tactic(auto, using(crate::proofs::TurnFacts::alone_turn, crate::proofs::TurnFacts::heard_act))]
+    #[tactic(auto, using(crate::proofs::TurnFacts::alone_turn))]
     fn take_answer<R: IdRule>(
         &mut self,
         rule: &R,
@@ -115,9 +100,9 @@ impl ClientState {
         requires alone { length self.old.sent ≡ 1 }
         requires here { has_place ask_place self.old.sent ≡ true }
         requires stage { has_one_message self.old.stage ≡ true }
-        ensures turn { result.0
-            ≡ turn_at (R.digest_of rule.now)
-            (recorded ask_place (told_reply serve_place (heard reply.now)) self.old) self.old.stage }
+        ensures turn { turn_as act result.0
+            ≡ turn_at (R.digest_of rule.now) (recorded ask_place (told_reply serve_place reply.now) self.old)
+            self.old.stage }
         ensures room { goes_on result.0 ≡ true → is_some result.1 ≡ true }
         ensures after { self.new ≡ record self.old { stage = compose; sent = [] } }
         ensures call { is_some (next_course self.old.left) ≡ true }
@@ -136,7 +121,7 @@ impl ClientState {
 
     /// Whether a group of one message, and no round, waits for its answer.
     fn is_alone(&self) -> bool
-        ensures { result ≡ (has_one_message self.now.stage && length self.now.sent == 1) }
+        ensures { result ≡ is_lone self.now }
     {
         has_one_message(&self.stands) && self.sent.len() == 1
     }
@@ -149,9 +134,8 @@ impl ClientState {
 
     /// Keeps the answer of the Ask at this place.
     fn record(&mut self, ask_place: Place, serve_place: Place, reply: &Reply)
-        requires { (has_one_message self.old.stage && length self.old.sent == 1) ≡ false }
-        ensures { self.new
-            ≡ recorded ask_place (told_reply serve_place (heard reply.now)) self.old }
+        requires { is_lone self.old ≡ false }
+        ensures { self.new ≡ recorded ask_place (told_reply serve_place (heard reply.now)) self.old }
     {
         self.counts.count_serve(serve_place);
         record_answer(
@@ -176,27 +160,46 @@ impl ClientState {
         requires here { has_place ask_place self.old.sent ≡ true }
         requires stage { has_one_message self.old.stage ≡ true }
         ensures { self.new
-            ≡ served (R.digest_of rule.now) ask_place (told_reply serve_place (heard reply.now)) self.old }
+            ≡ served (R.digest_of rule.now) ask_place (told_reply serve_place reply.now) self.old }
     {
         let (turn, room) = self.take_answer(rule, ask_place, serve_place, reply);
         self.counts.count_serve(serve_place);
         self.follow(turn, room);
     }
 
-    #[tactic(auto, using(crate::proofs::TurnFacts::turned_afresh))]
+    /// A round that is over joins what is known; or want of memory, or a change in the way, ends the call.
     fn end_round(&mut self)
         requires { is_round self.old.stage ≡ true }
         ensures { (digest : List ℕ → Id) → self.new ≡ settled digest true self.old }
     {
-        let (turn, room) = self.take_round();
-        self.follow(turn, room);
+        let is_wanting = is_one_wanting(self.sent.as_slice());
+        if is_wanting {
+            self.end(Answer::NoMemory, None);
+            return;
+        }
+        let Standing::Round(keys) = mem::replace(&mut self.stands, Standing::Compose) else {
+            unreachable!()
+        };
+        learn(&mut self.known, keys, &mut self.sent);
+        self.sent.clear();
+        match verdict(&self.course, self.known.as_slice()) {
+            Verdict::GoesOn => {}
+            Verdict::IsBusy(by, place) => {
+                self.known.clear();
+                self.end(Answer::Again(by), Some(place));
+            }
+            Verdict::Lacks => {
+                self.known.clear();
+                self.begin_again();
+            }
+        }
     }
 
     /// The Ask at a place was served. Only an Ask of the present group is waited for.
     #[tactic(auto, using(crate::proofs::TurnFacts::complete_round, crate::proofs::TurnFacts::some_sent))]
     pub fn told<R: IdRule>(&mut self, rule: &R, ask_place: Place, serve_place: Place, reply: &Reply)
         ensures { self.new
-            ≡ served (R.digest_of rule.now) ask_place (told_reply serve_place (heard reply.now)) self.old }
+            ≡ served (R.digest_of rule.now) ask_place (told_reply serve_place reply.now) self.old }
     {
         if !has_place(self.sent.as_slice(), ask_place) {
             return;

@@ -11,6 +11,9 @@ invariant_of-self c =
     record {
       numbered = kept.numbered;
       is_of = kept.is_of;
+      course_fits = kept.course_fits;
+      undecided = kept.undecided;
+      known_fits = kept.known_fits;
       rooms_fit = fits_recorded c.self.inside.stands _ _ _ _ (ap length c.record_answer.ensures.told ∙ length-map _ _) c.record_answer.ensures.rooms
           (ap (λ (s : ClientState). has_one_message s.stage && eqb (length s.sent) 1) c.self.view_is ∙ c.requires) kept.rooms_fit;
       clash_fits = kept.clash_fits;
