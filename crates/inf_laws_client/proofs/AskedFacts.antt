@@ -4,10 +4,8 @@ use Rattle.inf_base.specs.declared.answer.Answer.TheVariants as answer
 use Rattle.inf_base.specs.declared.call.Call.{Call}
 use Rattle.inf_base.specs.declared.id.Id.{Id}
 use Rattle.inf_base.specs.declared.key.LookKey.{LookKey}
-use Rattle.inf_base.specs.declared.key.LookKey.TheVariants as look
 use Rattle.inf_message.specs.declared.ask.Ask.{Ask}
 use Rattle.inf_message.specs.declared.reply.Reply.{Reply}
-use Rattle.inf_message.specs.declared.reply.Reply.TheVariants as reply
 use Rattle.inf_message.specs.declared.request.Request.{Request}
 use Rattle.inf_message.specs.declared.request.Request.TheVariants as request
 use Rattle.inf_message.specs.declared.step.Message.{Message}
@@ -17,45 +15,17 @@ use Rattle.inf_message.specs.declared.ending.Ending.TheVariants as ending
 use Rattle.inf_message.specs.declared.turn.Turn.TheVariants as turn
 use Rattle.inf_duty.specs.ClientState.{ClientState, Stage, act, compose, idle, placed, round, winds, wound}
 use Rattle.inf_duty.specs.Flow.{clean_up}
-use Rattle.inf_duty.specs.Group.{Course, composed, composed_stage, group, keys_along, keys_of, next_course}
-use Rattle.inf_duty.specs.Turn.{is_complete, recorded, served, settled, turn_at, turned}
+use Rattle.inf_duty.specs.Group.{composed, composed_stage, group, next_stage}
+use Rattle.inf_duty.specs.Course.{next_course}
+use Rattle.inf_duty.specs.Turn.{is_complete, learned, recorded, served, settled, told_in, turn_at, turned}
 use Rattle.inf_message.specs.Sent.{Sent, has_place, told_at}
 use Rattle.inf_message.specs.Who.{Who, lookup_of}
 use Rattle.inf_message.specs.declared.ending.Ending.{Ending}
 use Rattle.inf_message.specs.declared.turn.Turn.{Turn}
 use Rattle.inf_duty.specs.Duty.{asks, begun, given_up, given_up_in, next_step}
-use Rattle.inf_laws_client.specs.Paths.{AnswersKeys, AnswersLookup, IsToldFor, KeepsToPath, StandsOnPath}
-use Rattle.inf_laws_client.specs.Told.{AnswersTop, IfFirst, IsOfTop}
+use Rattle.inf_laws_client.specs.Told.{AnswersKeys, AnswersLookup}
 use Rattle.inf_duty.proofs.BegunKept.{if_both, kept_begun}
-use Rattle.inf_laws_client.proofs.KnowsFacts.{asks_next, is_sent}
-use Rattle.inf_duty.specs.declared.flow.Flow.{Flow}
-
--- what is told of the root's lookup is of the root
-of_top : (given : Reply) → IsToldFor look.Top given → IsOfTop given
-of_top (reply.Found k access) told = told
-of_top any_reply told = tt
-
-top_in : (rest : List LookKey) (sent : List Sent) (place : ℕ) (given : Reply) → AnswersKeys (look.Top ∷ rest) sent place given → IfFirst sent place given
-top_in rest [] place given told = tt
-top_in rest (x ∷ xs) place given told = λ same. of_top given (told.0 same)
-
-top_of : (digest : List ℕ → Id) (who : Who) (found : Option Course) (keys : List LookKey) (sent : List Sent) (place : ℕ) (given : Reply) → keys_of digest who found ≡ round keys
-    → AnswersKeys keys sent place given → IfFirst sent place given
-top_of digest who None keys sent place given is told = absurd cc
-top_of digest who (Some course) keys sent place given is told =
-    let same : keys ≡ look.Top ∷ keys_along digest who.root course.looked = cc in
-    top_in (keys_along digest who.root course.looked) sent place given
-    (subst (λ (ks : List LookKey). AnswersKeys ks sent place given) same told)
-
-top_at : (digest : List ℕ → Id) (who : Who) (calls : List Call) (stage : Stage) (sent : List Sent) (place : ℕ) (given : Reply) → StandsOnPath digest who calls stage sent
-    → AnswersLookup stage sent place given → AnswersTop stage sent place given
-top_at digest who calls (round keys) sent place given stands told = top_of digest who (next_course calls) keys sent place given stands.0 told
-top_at digest who calls compose sent place given stands told = tt
-top_at digest who calls (act flow) sent place given stands told = tt
-top_at digest who calls (winds end m ms) sent place given stands told = tt
-
-pub answers_top : (digest : List ℕ → Id) (place : ℕ) (given : Reply) (s : ClientState) → KeepsToPath digest s → AnswersLookup s.stage s.sent place given → AnswersTop s.stage s.sent place given
-answers_top digest place given s keeps told = top_at digest s.who s.left s.stage s.sent place given keeps.stands told
+use Rattle.inf_laws_client.proofs.ToldFacts.{asks_next, is_sent}
 
 module _ (A : ℕ → Request → Type 0) where
   pub idle_asks : (who : Who) (calls : List Call) → AsksItsGroup A (idle who calls)
@@ -66,7 +36,7 @@ module _ (A : ℕ → Request → Type 0) where
   wound_asks ending.Retries [] s = record { asked = tt }
   wound_asks end (m ∷ ms) s = record { asked = tt }
 
-  turned_asks : (t : Turn Flow) (s : ClientState) → AsksItsGroup A (turned t s)
+  turned_asks : (t : Turn Stage) (s : ClientState) → AsksItsGroup A (turned t s)
   turned_asks (turn.GoesOn next) s = record { asked = tt }
   turned_asks (turn.WindsUp end more) s = wound_asks end more s
 
@@ -137,7 +107,7 @@ module _ (A : ℕ → Request → Type 0) where
 
 module _ (digest : List ℕ → Id) (A : ℕ → Request → Type 0) where
   composed_at : (s : ClientState) (stage : Stage) → AreAskedFor A (group s.who stage) s.sent → AsksItsGroup A (record s { stage = composed_stage digest s stage })
-  composed_at s compose asked = record { asked = none_asked A (group s.who (keys_of digest s.who (next_course s.left))) s.sent asked }
+  composed_at s compose asked = record { asked = none_asked A (group s.who (next_stage digest s.who s.known (next_course s.left))) s.sent asked }
   composed_at s (round keys) asked = record { asked = asked }
   composed_at s (act flow) asked = record { asked = asked }
   composed_at s (winds end m ms) asked = record { asked = asked }
@@ -150,13 +120,16 @@ module _ (digest : List ℕ → Id) (A : ℕ → Request → Type 0) where
       kept_begun digest (AsksItsGroup A) (record { composing = composed_asks; giving_up = given_up_asks A }) ask s.sent s asks_its
 
   settled_asks : (b : Bool) (s : ClientState) → AsksItsGroup A s → AsksItsGroup A (settled digest b s)
-  settled_asks true s asks_its = turned_asks A (turn_at digest s s.stage) s
+  settled_asks true s asks_its =
+      turned_asks A (turn_at digest (learned s.stage s) s.stage) (learned s.stage s)
   settled_asks false s asks_its = asks_its
 
   pub served_asks : (place : ℕ) (told : Told) (s : ClientState) → AsksItsGroup A s → AsksItsGroup A (served digest place told s)
   served_asks place told s asks_its =
-      let here : AsksItsGroup A (recorded place told s) = record { asked = asked_told A place told (group s.who s.stage) s.sent asks_its.asked } in
-      if_both (AsksItsGroup A) (has_place place s.sent) _ s (settled_asks (is_complete (recorded place told s)) (recorded place told s) here) asks_its
+      let later = recorded place (told_in s told) s in
+      let here : AsksItsGroup A later =
+      record { asked = asked_told A place (told_in s told) (group s.who s.stage) s.sent asks_its.asked } in
+      if_both (AsksItsGroup A) (has_place place s.sent) _ s (settled_asks (is_complete later) later here) asks_its
 
 module _ (A B : ℕ → Request → Type 0) (weaker : (place : ℕ) (asked : Request) → A place asked → B place asked) where
   weaker_group : (ms : List Message) (sent : List Sent) → AreAskedFor A ms sent → AreAskedFor B ms sent

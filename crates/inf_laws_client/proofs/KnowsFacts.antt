@@ -1,20 +1,18 @@
 -- A client knows what it was told, whatever is true of that, and sends no more.
-use Rattle.std.proofs.Common.{◌≡◌, ℕ, ◌==◌, Bool, true, false, if◌then◌else◌, zero, suc, List, [], ◌∷◌, ◌++◌, length, map, slice_get, All, Option, Some, None, refl, sym, ap, subst}
+use Rattle.std.proofs.Common.{◌≡◌, ℕ, ◌==◌, Bool, true, false, zero, suc, List, [], ◌∷◌, ◌++◌, length, map, slice_get, All, Option, Some, None, refl, sym, ap, subst}
 use Rattle.inf_base.specs.declared.id.Id.{Id}
-use Rattle.std.proofs.lemmas.Bool.Decides.{Decides-eqb}
 use Rattle.std.proofs.lemmas.List.Elements.{All-cons, All-nil}
-use Rattle.inf_base.specs.declared.access.Access.{Access}
 use Rattle.inf_base.specs.declared.answer.Answer.TheVariants as answer
 use Rattle.inf_base.specs.declared.call.Call.{Call}
 use Rattle.inf_base.specs.declared.entry.Entry.{Entry}
-use Rattle.inf_base.specs.declared.key.Key.{Key}
 use Rattle.inf_base.specs.declared.key.LookKey.{LookKey}
 use Rattle.inf_message.specs.declared.ask.Ask.{Ask}
 use Rattle.inf_message.specs.declared.reply.Reply.{Reply}
 use Rattle.inf_message.specs.declared.reply.Reply.TheVariants as reply
 use Rattle.inf_message.specs.declared.request.Request.{Request}
 use Rattle.inf_message.specs.declared.step.Message.{Message}
-use Rattle.inf_message.specs.History.{Told, or_told}
+use Rattle.inf_message.specs.Heard.{heard}
+use Rattle.inf_message.specs.History.{Told}
 use Rattle.inf_server.specs.Chains.{chains_of}
 use Rattle.inf_flow_dir.specs.declared.dir_flow.DirFlow.TheVariants as dir_flow
 use Rattle.inf_message.specs.declared.ending.Ending.TheVariants as ending
@@ -23,71 +21,23 @@ use Rattle.inf_duty.specs.declared.flow.Flow.TheVariants as flow
 use Rattle.inf_message.specs.declared.turn.Turn.TheVariants as turn
 use Rattle.inf_duty.specs.ClientState.{ClientState, Stage, act, compose, idle, placed, round, winds, wound}
 use Rattle.inf_duty.specs.Flow.{clean_up, message_of}
-use Rattle.inf_duty.specs.Group.{Course, composed, composed_stage, group, keys_of, next_course}
-use Rattle.inf_duty.specs.Turn.{is_complete, recorded, served, settled, turn_at, turned}
+use Rattle.inf_duty.specs.Group.{composed, group}
+use Rattle.inf_duty.specs.Turn.{is_complete, learned, recorded, served, settled, told_by, told_in, told_of, turn_at, turned}
 use Rattle.inf_duty.specs.declared.flow.Flow.{Flow}
 use Rattle.inf_message.specs.Sent.{Sent, has_place, told_at}
 use Rattle.inf_message.specs.Who.{Who, lookup_of}
 use Rattle.inf_message.specs.declared.ending.Ending.{Ending}
 use Rattle.inf_message.specs.declared.turn.Turn.{Turn}
-use Rattle.inf_duty.specs.Duty.{asks, begun, given_up, given_up_in, next_in, next_of, next_step}
-use Rattle.inf_laws_client.specs.Told.{AllTell, AnswersTop, ArePlain, BeginsAtTop, CarriesOnly, FirstIsTop, IfFirst, IfTold, IsChainOf, IsOfTop, KnowsOnly, StandsOn, TellsOnly, chain_of}
+use Rattle.inf_duty.specs.Duty.{asks, begun, given_up, given_up_in, next_step}
+use Rattle.inf_resolve.specs.declared.known.Known.{Known}
+use Rattle.inf_resolve.specs.Known.{told_entry}
+use Rattle.inf_laws_client.specs.Told.{AllKnown, AllTell, AnswersLookup, ArePlain, CarriesOnly, IfTold, IsChainOf, IsToldAsAsked, KnowsOnly, StandsOn, TellsOnly, chain_of}
 use Rattle.inf_duty.proofs.BegunKept.{if_both, kept_begun}
-use Rattle.inf_laws_client.proofs.ChainFacts.{TurnStands, plain_clean_up, turn_stands}
+use Rattle.inf_laws_client.proofs.ChainFacts.{StepOnChain, WasTold, chain_cleans, chains_keep}
+use Rattle.inf_laws_client.proofs.KeepsFacts.{composed_fits, given_up_fits, settled_fits}
+use Rattle.inf_laws_client.proofs.ToldFacts.{asks_next, composed_as_asked, given_up_as_asked, heard_in, idle_as_asked, is_sent, lookup_in, placed_as_asked, recorded_as_asked, settled_as_asked, told_one}
 
--- ---- an answer among those to a group
-
-abbrev pub told_of : Sent → Option Told
-told_of x = x.told
-
-pub told_one : (P : Reply → Type 0) (place : ℕ) (told : Told) (x_place : ℕ) (old : Option Told) (b : Bool) → (b ≡ true → P told.reply) → IfTold P old
-    → IfTold P (told_of (if b then record { place = x_place; told = Some (or_told old told) } else record { place = x_place; told = old }))
-told_one P place told x_place None true now before = now refl
-told_one P place told x_place (Some earlier) true now before = before
-told_one P place told x_place old false now before = before
-
-told_first : (place : ℕ) (told : Told) (sent : List Sent) → IfFirst sent place told.reply → FirstIsTop sent → FirstIsTop (map (told_at place told) sent)
-told_first place told [] now before = tt
-told_first place told (x ∷ xs) now before =
-    told_one IsOfTop place told x.place x.told (x.place == place) (λ is. now ((Decides-eqb x.place place).0 is)) before
-
-told_begins : (place : ℕ) (told : Told) (stage : Stage) (sent : List Sent) → AnswersTop stage sent place told.reply → BeginsAtTop stage sent
-    → BeginsAtTop stage (map (told_at place told) sent)
-told_begins place told compose sent now before = ap (map (told_at place told)) before
-told_begins place told (round keys) sent now before = told_first place told sent now before
-told_begins place told (act step) sent now before = tt
-told_begins place told (winds end m ms) sent now before = tt
-
--- ---- an Ask more
-
-begins_more : (s : ClientState) (number : ℕ) (ask : Ask) (x : Sent) (stage : Stage) (sent : List Sent)
-    → next_of s (slice_get (group s.who stage) (length s.sent)) ≡ asks number ask → x.told ≡ None → BeginsAtTop stage sent → BeginsAtTop stage (sent ++ x ∷ [])
-begins_more s number ask x compose sent is none begins = absurd cc
-begins_more s number ask x (round keys) [] is none begins = subst (λ (told : Option Told). IfTold IsOfTop told) (sym none) tt
-begins_more s number ask x (round keys) (first ∷ sent) is none begins = begins
-begins_more s number ask x (act step) sent is none begins = tt
-begins_more s number ask x (winds end m ms) sent is none begins = tt
-
-pub asks_next : (s : ClientState) (number : ℕ) (ask : Ask) (calls : List Call) → next_in s calls ≡ asks number ask
-    → next_of s (slice_get (group s.who s.stage) (length s.sent)) ≡ asks number ask
-asks_next s number ask [] is = absurd cc
-asks_next s number ask (call ∷ calls) is = is
-
--- ---- before a group
-
-composed_begins : (digest : List ℕ → Id) (who : Who) (found : Option Course) (sent : List Sent) → sent ≡ [] → BeginsAtTop (keys_of digest who found) sent
-composed_begins digest who None sent none = none
-composed_begins digest who (Some course) sent none = subst (λ (asked : List Sent). FirstIsTop asked) (sym none) tt
-
--- the message that is sent is one of the group
-pub record IsSent (found : Option Message) (asked : Request) : Type 0 where
-  pub message : Message
-  pub found_there : found ≡ Some message
-  pub request : asked ≡ message.request
-
-pub is_sent : (s : ClientState) (number : ℕ) (ask : Ask) (found : Option Message) → next_of s found ≡ asks number ask → IsSent found ask.request
-is_sent s number ask None is = absurd cc
-is_sent s number ask (Some message) is = record { message = message; found_there = refl; request = cc }
+-- ---- messages that carry no chain
 
 look_plain : (who : Who) (keys : List LookKey) (n : ℕ) (m : Message) → slice_get (map (lookup_of who) keys) n ≡ Some m → chains_of m.request ≡ []
 look_plain who [] n m is = absurd cc
@@ -98,57 +48,100 @@ only_one : (one : Message) (n : ℕ) (m : Message) → slice_get (one ∷ []) n 
 only_one one zero m is = cc
 only_one one (suc n) m is = absurd cc
 
-module _ (T : Key → Access → Type 0) where
-  all_told : (place : ℕ) (told : Told) (sent : List Sent) → TellsOnly T told.reply → AllTell T sent → AllTell T (map (told_at place told) sent)
+module _ (T : Entry → Type 0) where
+  abbrev Tells : Told → Type 0
+  Tells told = TellsOnly T told.serve_place told.reply
+
+  all_told : (place : ℕ) (told : Told) (sent : List Sent) → Tells told → AllTell T sent
+      → AllTell T (map (told_at place told) sent)
   all_told place told [] now before = tt
   all_told place told (x ∷ xs) now before =
-      (told_one (TellsOnly T) place told x.place x.told (x.place == place) (λ is. now) before.0, all_told place told xs now before.1)
+      (told_one Tells told x.place x.told (x.place == place) (λ is. now) before.0, all_told place told xs now before.1)
 
   all_more : (sent : List Sent) (x : Sent) → x.told ≡ None → AllTell T sent → AllTell T (sent ++ x ∷ [])
-  all_more [] x none told = (subst (λ (o : Option Told). IfTold (TellsOnly T) o) (sym none) tt, tt)
+  all_more [] x none told = (subst (λ (o : Option Told). IfTold Tells o) (sym none) tt, tt)
   all_more (first ∷ sent) x none told = (told.0, all_more sent x none told.1)
 
+  heard_tells : (place : ℕ) (given : Reply) → TellsOnly T place given → TellsOnly T place (heard given)
+  heard_tells place (reply.Listing items) tells = tt
+  heard_tells place given tells = tells
+
+  -- what is known and was told
+  record Knows (s : ClientState) : Type 0 where
+    known : AllKnown T s.known
+    answers : AllTell T s.sent
+
+  knows_so : (s : ClientState) → IsToldAsAsked s → Knows s → StandsOn T s.stage → KnowsOnly T s
+  knows_so s as_asked knows stands =
+      record { as_asked = as_asked; known = knows.known; answers = knows.answers; stands = stands }
+
   pub idle_knows : (who : Who) (calls : List Call) → KnowsOnly T (idle who calls)
-  idle_knows who calls = record { answers = tt; begins = refl; stands = tt }
+  idle_knows who calls =
+      record { as_asked = idle_as_asked who calls; known = tt; answers = tt; stands = tt }
 
-  wound_knows : (end : Ending) (more : List Message) (s : ClientState) → ArePlain more → KnowsOnly T (wound end more s)
-  wound_knows (ending.Answers given place) [] s plain = record { answers = tt; begins = refl; stands = tt }
-  wound_knows ending.Retries [] s plain = record { answers = tt; begins = refl; stands = tt }
-  wound_knows end (m ∷ ms) s plain = record { answers = tt; begins = tt; stands = plain }
+  wound_knows : (end : Ending) (more : List Message) (s : ClientState) → AllKnown T s.known → Knows (wound end more s)
+  wound_knows (ending.Answers given place) [] s known = record { known = tt; answers = tt }
+  wound_knows ending.Retries [] s known = record { known = tt; answers = tt }
+  wound_knows end (m ∷ ms) s known = record { known = known; answers = tt }
 
-  turned_knows : (t : Turn Flow) (s : ClientState) → TurnStands T t → KnowsOnly T (turned t s)
-  turned_knows (turn.GoesOn next) s stands = record { answers = tt; begins = stands.1; stands = stands.0 }
-  turned_knows (turn.WindsUp end more) s stands = wound_knows end more s stands
+  turned_knows : (t : Turn Stage) (s : ClientState) → AllKnown T s.known → Knows (turned t s)
+  turned_knows (turn.GoesOn next) s known = record { known = known; answers = tt }
+  turned_knows (turn.WindsUp end more) s known = wound_knows end more s known
 
   -- ---- before a group
 
-  given_up_at : (s : ClientState) (stage : Stage) → KnowsOnly T s → KnowsOnly T (given_up_in s stage)
-  given_up_at s (act step) knows = wound_knows (ending.Answers answer.NoMemory None) (clean_up s.who step) s (plain_clean_up s.who step)
-  given_up_at s (winds end m ms) knows = knows
-  given_up_at s compose knows = record { answers = tt; begins = refl; stands = tt }
-  given_up_at s (round keys) knows = record { answers = tt; begins = refl; stands = tt }
+  given_up_at : (s : ClientState) (stage : Stage) → KnowsOnly T s → Knows (given_up_in s stage)
+  given_up_at s (act step) knows =
+      wound_knows (ending.Answers answer.NoMemory None) (clean_up s.who step) s knows.known
+  given_up_at s (winds end m ms) knows = record { known = knows.known; answers = knows.answers }
+  given_up_at s compose knows = record { known = tt; answers = tt }
+  given_up_at s (round keys) knows = record { known = tt; answers = tt }
 
-  pub given_up_knows : (s : ClientState) → KnowsOnly T s → KnowsOnly T (given_up s)
-  given_up_knows s knows = given_up_at s s.stage knows
-
-  pub placed_knows : (place number : ℕ) (ask : Ask) (s : ClientState) → KnowsOnly T s → next_step s ≡ asks number ask → KnowsOnly T (placed place s)
+  pub placed_knows : (place number : ℕ) (ask : Ask) (s : ClientState) → KnowsOnly T s → next_step s ≡ asks number ask
+      → KnowsOnly T (placed place s)
   placed_knows place number ask s knows is =
       let x : Sent = record { place = place; told = None } in
       record {
+        as_asked = placed_as_asked place number ask s knows.as_asked is;
+        known = knows.known;
         answers = all_more s.sent x refl knows.answers;
-        begins = begins_more s number ask x s.stage s.sent (asks_next s number ask s.left is) refl knows.begins;
         stands = knows.stands;
       }
 
   -- ---- once an Ask was served
 
-  recorded_knows : (place : ℕ) (told : Told) (s : ClientState) → KnowsOnly T s → TellsOnly T told.reply → AnswersTop s.stage s.sent place told.reply
-      → KnowsOnly T (recorded place told s)
-  recorded_knows place told s knows tells top = record {
+  recorded_knows : (place : ℕ) (told : Told) (s : ClientState) → KnowsOnly T s → Tells told
+      → AnswersLookup s.stage s.sent place told.reply → KnowsOnly T (recorded place told s)
+  recorded_knows place told s knows tells now = record {
+    as_asked = recorded_as_asked place told s knows.as_asked now;
+    known = knows.known;
     answers = all_told place told s.sent tells knows.answers;
-    begins = told_begins place told s.stage s.sent top knows.begins;
     stands = knows.stands;
   }
+
+  -- ---- what a round was told joins what is known
+
+  one_known : (k : LookKey) (told : Option Told) (rest : List Known) → IfTold Tells told → AllKnown T rest
+      → AllKnown T (told_of k told ++ rest)
+  one_known k None rest now more = more
+  one_known k (Some told) rest now more = (now, more)
+
+  known_by : (keys : List LookKey) (sent : List Sent) → AllTell T sent → AllKnown T (told_by keys sent)
+  known_by [] [] told = tt
+  known_by [] (x ∷ xs) told = tt
+  known_by (k ∷ keys) [] told = tt
+  known_by (k ∷ keys) (x ∷ xs) told = one_known k x.told (told_by keys xs) told.0 (known_by keys xs told.1)
+
+  known_more : (known more : List Known) → AllKnown T known → AllKnown T more → AllKnown T (known ++ more)
+  known_more [] more before now = now
+  known_more (x ∷ known) more before now = (before.0, known_more known more before.1 now)
+
+  learned_knows : (s : ClientState) (stage : Stage) → AllKnown T s.known → AllTell T s.sent
+      → AllKnown T (learned stage s).known
+  learned_knows s (round keys) known told = known_more s.known (told_by keys s.sent) known (known_by keys s.sent told)
+  learned_knows s compose known told = known
+  learned_knows s (act step) known told = known
+  learned_knows s (winds end m ms) known told = known
 
   -- ---- what is sent
 
@@ -183,60 +176,79 @@ module _ (T : Key → Access → Type 0) where
       subst (λ (asked : Request). AreChains (chains_of asked)) (sym sent.request)
       (stage_sends s.who s.stage (length s.sent) sent.message knows.stands sent.found_there)
 
-module _ (digest : List ℕ → Id) (T : Key → Access → Type 0) where
-  keys_stand : (who : Who) (found : Option Course) → StandsOn T (keys_of digest who found)
-  keys_stand who None = tt
-  keys_stand who (Some course) = tt
+pub given_up_knows : (T : Entry → Type 0) (s : ClientState) → KnowsOnly T s → KnowsOnly T (given_up s)
+given_up_knows T s knows =
+    knows_so T (given_up s) (given_up_as_asked s knows.as_asked) (given_up_at T s s.stage knows)
+    (given_up_fits (StepOnChain T) ArePlain (chain_cleans T) s knows.stands)
 
-  composed_at : (s : ClientState) (stage : Stage) → AllTell T s.sent → BeginsAtTop stage s.sent → StandsOn T stage
-      → KnowsOnly T (record s { stage = composed_stage digest s stage })
-  composed_at s compose told begins stands = record {
-    answers = told;
-    begins = composed_begins digest s.who (next_course s.left) s.sent begins;
-    stands = keys_stand s.who (next_course s.left);
-  }
-  composed_at s (round keys) told begins stands = record { answers = told; begins = begins; stands = stands }
-  composed_at s (act step) told begins stands = record { answers = told; begins = begins; stands = stands }
-  composed_at s (winds end m ms) told begins stands = record { answers = told; begins = begins; stands = stands }
-
+module _ (digest : List ℕ → Id) (T : Entry → Type 0) where
   pub composed_knows : (s : ClientState) → KnowsOnly T s → KnowsOnly T (composed digest s)
-  composed_knows s knows = composed_at s s.stage knows.answers knows.begins knows.stands
+  composed_knows s knows = record {
+    as_asked = composed_as_asked digest s knows.as_asked;
+    known = knows.known;
+    answers = knows.answers;
+    stands =
+        composed_fits digest (WasTold T) (StepOnChain T) ArePlain (chains_keep digest T) s
+        (knows.known, knows.as_asked.known) knows.stands;
+  }
 
   pub begun_knows : (ask : Ask) (s : ClientState) → KnowsOnly T s → KnowsOnly T (begun digest ask s.sent s)
-  begun_knows ask s knows = kept_begun digest (KnowsOnly T) (record { composing = composed_knows; giving_up = given_up_knows T }) ask s.sent s knows
+  begun_knows ask s knows =
+      kept_begun digest (KnowsOnly T) (record { composing = composed_knows; giving_up = given_up_knows T }) ask s.sent s
+      knows
+
+  settled_at : (b : Bool) (s : ClientState) → KnowsOnly T s → Knows T (settled digest b s)
+  settled_at true s knows =
+      let later = learned s.stage s in
+      turned_knows T (turn_at digest later s.stage) later (learned_knows T s s.stage knows.known knows.answers)
+  settled_at false s knows = record { known = knows.known; answers = knows.answers }
 
   settled_knows : (b : Bool) (s : ClientState) → KnowsOnly T s → KnowsOnly T (settled digest b s)
-  settled_knows true s knows = turned_knows T (turn_at digest s s.stage) s (turn_stands digest T s s.stage knows.answers knows.begins knows.stands)
-  settled_knows false s knows = knows
+  settled_knows b s knows =
+      knows_so T (settled digest b s) (settled_as_asked digest b s knows.as_asked) (settled_at b s knows)
+      (settled_fits digest (WasTold T) (StepOnChain T) ArePlain (chains_keep digest T) b s knows.stands)
 
-  pub served_knows : (place : ℕ) (told : Told) (s : ClientState) → KnowsOnly T s → TellsOnly T told.reply → AnswersTop s.stage s.sent place told.reply
+  pub served_knows : (place : ℕ) (told : Told) (s : ClientState) → KnowsOnly T s
+      → TellsOnly T told.serve_place told.reply → AnswersLookup s.stage s.sent place told.reply
       → KnowsOnly T (served digest place told s)
-  served_knows place told s knows tells top =
-      if_both (KnowsOnly T) (has_place place s.sent) _ s
-      (settled_knows (is_complete (recorded place told s)) (recorded place told s) (recorded_knows T place told s knows tells top)) knows
+  served_knows place told s knows tells now =
+      let later = recorded place (told_in s told) s in
+      let tells_so = heard_in (TellsOnly T) s told (heard_tells T) tells in
+      let here = recorded_knows T place (told_in s told) s knows tells_so (lookup_in s place told now) in
+      if_both (KnowsOnly T) (has_place place s.sent) _ s (settled_knows (is_complete later) later here) knows
 
-module _ (T U : Key → Access → Type 0) (weaker : (k : Key) (access : Access) → T k access → U k access) where
-  weaker_reply : (given : Reply) → TellsOnly T given → TellsOnly U given
-  weaker_reply (reply.Found k access) tells = weaker k access tells
-  weaker_reply any_reply tells = tt
+module _ (T U : Entry → Type 0) (weaker : (e : Entry) → T e → U e) where
+  weaker_reply : (place : ℕ) (given : Reply) → TellsOnly T place given → TellsOnly U place given
+  weaker_reply place (reply.Found k access) tells = weaker (told_entry k access place) tells
+  weaker_reply place any_reply tells = tt
 
-  weaker_told : (told : Option Told) → IfTold (TellsOnly T) told → IfTold (TellsOnly U) told
+  weaker_told : (told : Option Told) → IfTold (Tells T) told → IfTold (Tells U) told
   weaker_told None tells = tt
-  weaker_told (Some told) tells = weaker_reply told.reply tells
+  weaker_told (Some told) tells = weaker_reply told.serve_place told.reply tells
 
   weaker_sent : (sent : List Sent) → AllTell T sent → AllTell U sent
   weaker_sent [] tell = tt
   weaker_sent (x ∷ xs) tell = (weaker_told x.told tell.0, weaker_sent xs tell.1)
 
+  weaker_known : (known : List Known) → AllKnown T known → AllKnown U known
+  weaker_known [] tell = tt
+  weaker_known (x ∷ xs) tell = (weaker_reply x.place x.reply tell.0, weaker_known xs tell.1)
+
   weaker_chain : (chain : List Entry) → CarriesOnly T chain → CarriesOnly U chain
   weaker_chain [] carries = tt
-  weaker_chain (e ∷ es) carries = (weaker e.key e.access carries.0, weaker_chain es carries.1)
+  weaker_chain (e ∷ es) carries = (weaker e carries.0, weaker_chain es carries.1)
 
   weaker_stage : (stage : Stage) → StandsOn T stage → StandsOn U stage
   weaker_stage compose stands = tt
   weaker_stage (round keys) stands = tt
-  weaker_stage (act step) stands = record { carries = weaker_chain (chain_of step) stands.carries; links_up = stands.links_up }
+  weaker_stage (act step) stands =
+      record { carries = weaker_chain (chain_of step) stands.carries; links_up = stands.links_up }
   weaker_stage (winds end m ms) stands = stands
 
   pub weaker_knows : (s : ClientState) → KnowsOnly T s → KnowsOnly U s
-  weaker_knows s knows = record { answers = weaker_sent s.sent knows.answers; begins = knows.begins; stands = weaker_stage s.stage knows.stands }
+  weaker_knows s knows = record {
+    as_asked = knows.as_asked;
+    known = weaker_known s.known knows.known;
+    answers = weaker_sent s.sent knows.answers;
+    stands = weaker_stage s.stage knows.stands;
+  }

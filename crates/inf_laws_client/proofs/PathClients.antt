@@ -1,158 +1,113 @@
 -- Clients keep to the paths of their calls.
-use Rattle.std.proofs.Common.{◌≡◌, ℕ, ◌==◌, Bool, true, false, List, [], ◌∷◌, ◌++◌, length, map, slice_get, Option, Some, None, refl, sym, ap, subst}
-use Rattle.inf_base.specs.declared.id.Id.{Id}
-use Rattle.std.proofs.lemmas.Bool.Decides.{Decides-eqb}
-use Rattle.inf_base.specs.declared.answer.Answer.TheVariants as answer
+use Rattle.std.proofs.Common.{◌≡◌, ℕ, Bool, List, [], ◌∷◌, Option, Some, None, refl}
 use Rattle.inf_base.specs.declared.call.Call.{Call}
-use Rattle.inf_base.specs.declared.key.LookKey.{LookKey}
-use Rattle.inf_base.specs.declared.key.LookKey.TheVariants as look
+use Rattle.inf_base.specs.declared.id.Id.{Id}
 use Rattle.inf_message.specs.declared.ask.Ask.{Ask}
-use Rattle.inf_message.specs.declared.step.Message.{Message}
 use Rattle.inf_message.specs.History.{Told}
-use Rattle.inf_message.specs.declared.ending.Ending.TheVariants as ending
-use Rattle.inf_message.specs.declared.turn.Turn.TheVariants as turn
-use Rattle.inf_duty.specs.ClientState.{ClientState, Stage, act, compose, idle, placed, round, winds, wound}
-use Rattle.inf_duty.specs.Flow.{after_act, clean_up}
-use Rattle.inf_duty.specs.Group.{Course, composed, composed_stage, course_of, group, keys_along, keys_of, next_course}
-use Rattle.inf_duty.specs.Turn.{act_turn, after_round, is_complete, recorded, served, settled, turn_at, turned}
-use Rattle.inf_duty.specs.declared.flow.Flow.{Flow}
-use Rattle.inf_message.specs.Sent.{Sent, has_place, told_at}
+use Rattle.inf_message.specs.Sent.{has_place}
 use Rattle.inf_message.specs.Who.{Who}
-use Rattle.inf_message.specs.declared.ending.Ending.{Ending}
-use Rattle.inf_message.specs.declared.turn.Turn.{Turn}
-use Rattle.inf_duty.specs.Duty.{asks, begun, given_up, given_up_in, next_of, next_step}
-use Rattle.inf_laws_client.specs.Paths.{AnswersKeys, AnswersLookup, AreToldFor, FlowFollows, Follows, IsToldFor, KeepsToPath, StandsOnPath, TurnFollows}
-use Rattle.inf_laws_client.specs.Told.{IfTold}
+use Rattle.inf_resolve.specs.declared.known.Known.{Known}
+use Rattle.inf_duty.specs.declared.course.Course.{Course}
+use Rattle.inf_duty.specs.declared.flow.Flow.{Flow}
+use Rattle.inf_duty.specs.ClientState.{ClientState, Stage, act, compose, idle, placed, round, winds}
+use Rattle.inf_duty.specs.Course.{course_of, next_course}
+use Rattle.inf_duty.specs.Duty.{asks, begun, given_up, next_step}
+use Rattle.inf_duty.specs.Flow.{after_act, clean_up}
+use Rattle.inf_duty.specs.Group.{composed, next_stage}
+use Rattle.inf_duty.specs.Turn.{is_complete, recorded, served, settled, told_in}
 use Rattle.inf_duty.proofs.BegunKept.{if_both, kept_begun}
-use Rattle.inf_laws_client.proofs.KnowsFacts.{asks_next, told_one}
-use Rattle.inf_laws_client.proofs.PathFacts.{after_act_follows, after_round_follows}
+use Rattle.inf_laws_client.specs.Keeps.{AnyMessages, ClientKeeps, FlowKeeps}
+use Rattle.inf_laws_client.specs.Paths.{FlowFollows, KeepsToPath, StageFollows, StandsOnPath}
+use Rattle.inf_laws_client.specs.Told.{AnswersLookup, AreKnownFor}
+use Rattle.inf_laws_client.proofs.KeepsFacts.{composed_fits, given_up_fits, keeps_by, settled_fits}
+use Rattle.inf_laws_client.proofs.PathFacts.{begins_on_path, flows_follow}
+use Rattle.inf_laws_client.proofs.ToldFacts.{composed_as_asked, given_up_as_asked, idle_as_asked, lookup_in, placed_as_asked, recorded_as_asked, settled_as_asked}
 
-abbrev TurnKeeps : (List ℕ → Id) → Who → List Call → Turn Flow → Type 0
-TurnKeeps digest who calls (turn.GoesOn next) = StandsOnPath digest who calls (act next) []
-TurnKeeps digest who calls (turn.WindsUp end more) = Unit {0}
-
-pub idle_keeps : (digest : List ℕ → Id) (who : Who) (calls : List Call) → KeepsToPath digest (idle who calls)
-idle_keeps digest who calls = record { stands = refl }
-
-wound_keeps : (digest : List ℕ → Id) (end : Ending) (more : List Message) (s : ClientState) → KeepsToPath digest (wound end more s)
-wound_keeps digest (ending.Answers given place) [] s = record { stands = refl }
-wound_keeps digest ending.Retries [] s = record { stands = refl }
-wound_keeps digest end (m ∷ ms) s = record { stands = tt }
-
-turned_keeps : (digest : List ℕ → Id) (t : Turn Flow) (s : ClientState) → TurnKeeps digest s.who s.left t → KeepsToPath digest (turned t s)
-turned_keeps digest (turn.GoesOn next) s keeps = record { stands = keeps }
-turned_keeps digest (turn.WindsUp end more) s keeps = wound_keeps digest end more s
+pub idle_keeps : (who : Who) (calls : List Call) → KeepsToPath (idle who calls)
+idle_keeps who calls = record { as_asked = idle_as_asked who calls; stands = tt }
 
 -- ---- before a group
 
-composed_stands : (digest : List ℕ → Id) (who : Who) (calls : List Call) (found : Option Course) (sent : List Sent) → next_course calls ≡ found → sent ≡ []
-    → StandsOnPath digest who calls (keys_of digest who found) sent
-composed_stands digest who calls None sent is none = none
-composed_stands digest who calls (Some course) sent is none =
-    (ap (keys_of digest who) is, subst (λ (asked : List Sent). AreToldFor (look.Top ∷ keys_along digest who.root course.looked) asked) (sym none) tt)
+stage_stands : (asked : Call) (calls : List Call) (stage : Stage) → StageFollows asked stage
+    → StandsOnPath (asked ∷ calls) stage
+stage_stands asked calls compose follows = tt
+stage_stands asked calls (round keys) follows = tt
+stage_stands asked calls (act step) follows = follows
+stage_stands asked calls (winds end m ms) follows = tt
 
-composed_at : (digest : List ℕ → Id) (s : ClientState) (stage : Stage) → StandsOnPath digest s.who s.left stage s.sent → KeepsToPath digest (record s { stage = composed_stage digest s stage })
-composed_at digest s compose stands = record { stands = composed_stands digest s.who s.left (next_course s.left) s.sent refl stands }
-composed_at digest s (round keys) stands = record { stands = stands }
-composed_at digest s (act flow) stands = record { stands = stands }
-composed_at digest s (winds end m ms) stands = record { stands = tt }
+next_stands : (digest : List ℕ → Id) (who : Who) (asked : Call) (calls : List Call) (known : List Known)
+    (found : Option Course) → AreKnownFor known → course_of asked ≡ found
+    → StandsOnPath (asked ∷ calls) (next_stage digest who known found)
+next_stands digest who asked calls known None fits is = tt
+next_stands digest who asked calls known (Some course) fits is =
+    stage_stands asked calls (next_stage digest who known (Some course))
+    (begins_on_path digest who.root asked course known is fits)
 
-pub composed_keeps : (digest : List ℕ → Id) (s : ClientState) → KeepsToPath digest s → KeepsToPath digest (composed digest s)
-composed_keeps digest s keeps = composed_at digest s s.stage keeps.stands
+composed_stands : (digest : List ℕ → Id) (who : Who) (calls : List Call) (known : List Known) → AreKnownFor known
+    → StandsOnPath calls (next_stage digest who known (next_course calls))
+composed_stands digest who [] known fits = tt
+composed_stands digest who (asked ∷ calls) known fits =
+    next_stands digest who asked calls known (course_of asked) fits refl
 
-given_up_at : (digest : List ℕ → Id) (s : ClientState) (stage : Stage) → KeepsToPath digest s → KeepsToPath digest (given_up_in s stage)
-given_up_at digest s (act flow) keeps = wound_keeps digest (ending.Answers answer.NoMemory None) (clean_up s.who flow) s
-given_up_at digest s (winds end m ms) keeps = keeps
-given_up_at digest s compose keeps = record { stands = refl }
-given_up_at digest s (round keys) keeps = record { stands = refl }
+-- ---- flows and clients
 
-pub given_up_keeps : (digest : List ℕ → Id) (s : ClientState) → KeepsToPath digest s → KeepsToPath digest (given_up s)
-given_up_keeps digest s keeps = given_up_at digest s s.stage keeps
+flows_keep : (digest : List ℕ → Id) (who : Who) (calls : List Call)
+    → FlowKeeps Flow (after_act digest who) (clean_up who) (FlowFollows calls) AnyMessages
+flows_keep digest who [] =
+    keeps_by Flow (after_act digest who) (clean_up who) (FlowFollows []) AnyMessages
+    (λ step ask_place place given follows. absurd follows) (λ step follows. tt)
+flows_keep digest who (asked ∷ calls) = flows_follow digest asked who
 
-pub begun_keeps : (digest : List ℕ → Id) (ask : Ask) (s : ClientState) → KeepsToPath digest s → KeepsToPath digest (begun digest ask s.sent s)
-begun_keeps digest ask s keeps = kept_begun digest (KeepsToPath digest) (record { composing = composed_keeps digest; giving_up = given_up_keeps digest }) ask s.sent s keeps
+paths_keep : (digest : List ℕ → Id) → ClientKeeps digest AreKnownFor FlowFollows AnyMessages
+paths_keep digest = record {
+  begins = λ who calls known fits. composed_stands digest who calls known fits;
+  flows = flows_keep digest;
+  none = tt;
+  later = λ m ms well. tt;
+}
+
+pub composed_keeps : (digest : List ℕ → Id) (s : ClientState) → KeepsToPath s → KeepsToPath (composed digest s)
+composed_keeps digest s keeps = record {
+  as_asked = composed_as_asked digest s keeps.as_asked;
+  stands =
+      composed_fits digest AreKnownFor FlowFollows AnyMessages (paths_keep digest) s keeps.as_asked.known keeps.stands;
+}
+
+pub given_up_keeps : (s : ClientState) → KeepsToPath s → KeepsToPath (given_up s)
+given_up_keeps s keeps = record {
+  as_asked = given_up_as_asked s keeps.as_asked;
+  stands = given_up_fits FlowFollows AnyMessages (λ who calls step follows. tt) s keeps.stands;
+}
+
+pub begun_keeps : (digest : List ℕ → Id) (ask : Ask) (s : ClientState) → KeepsToPath s
+    → KeepsToPath (begun digest ask s.sent s)
+begun_keeps digest ask s keeps =
+    kept_begun digest KeepsToPath (record { composing = composed_keeps digest; giving_up = given_up_keeps }) ask s.sent
+    s keeps
 
 -- ---- an Ask more
 
-told_more : (keys : List LookKey) (sent : List Sent) (x : Sent) → x.told ≡ None → AreToldFor keys sent → AreToldFor keys (sent ++ x ∷ [])
-told_more [] [] x none told = tt
-told_more [] (first ∷ sent) x none told = tt
-told_more (k ∷ []) [] x none told = (subst (λ (o : Option Told). IfTold (IsToldFor k) o) (sym none) tt, tt)
-told_more (k ∷ next ∷ keys) [] x none told = (subst (λ (o : Option Told). IfTold (IsToldFor k) o) (sym none) tt, tt)
-told_more (k ∷ keys) (first ∷ sent) x none told = (told.0, told_more keys sent x none told.1)
-
-more_stands : (digest : List ℕ → Id) (s : ClientState) (number : ℕ) (ask : Ask) (x : Sent) (stage : Stage) (sent : List Sent)
-    → next_of s (slice_get (group s.who stage) (length s.sent)) ≡ asks number ask → x.told ≡ None → StandsOnPath digest s.who s.left stage sent
-    → StandsOnPath digest s.who s.left stage (sent ++ x ∷ [])
-more_stands digest s number ask x compose sent is none stands = absurd cc
-more_stands digest s number ask x (round keys) sent is none stands = (stands.0, told_more keys sent x none stands.1)
-more_stands digest s number ask x (act flow) sent is none stands = stands
-more_stands digest s number ask x (winds end m ms) sent is none stands = tt
-
-pub placed_keeps : (digest : List ℕ → Id) (place number : ℕ) (ask : Ask) (s : ClientState) → KeepsToPath digest s → next_step s ≡ asks number ask → KeepsToPath digest (placed place s)
-placed_keeps digest place number ask s keeps is =
-    let x : Sent = record { place = place; told = None } in
-    record { stands = more_stands digest s number ask x s.stage s.sent (asks_next s number ask s.left is) refl keeps.stands }
+pub placed_keeps : (place number : ℕ) (ask : Ask) (s : ClientState) → KeepsToPath s → next_step s ≡ asks number ask
+    → KeepsToPath (placed place s)
+placed_keeps place number ask s keeps is =
+    record { as_asked = placed_as_asked place number ask s keeps.as_asked is; stands = keeps.stands }
 
 -- ---- once an Ask was served
 
-told_keys : (place : ℕ) (told : Told) (keys : List LookKey) (sent : List Sent) → AnswersKeys keys sent place told.reply → AreToldFor keys sent
-    → AreToldFor keys (map (told_at place told) sent)
-told_keys place told [] [] now before = tt
-told_keys place told [] (x ∷ xs) now before = tt
-told_keys place told (k ∷ keys) [] now before = tt
-told_keys place told (k ∷ keys) (x ∷ xs) now before = (
-  told_one (IsToldFor k) place told x.place x.told (x.place == place) (λ is. now.0 ((Decides-eqb x.place place).0 is)) before.0,
-  told_keys place told keys xs now.1 before.1,
-)
+settled_keeps : (digest : List ℕ → Id) (b : Bool) (s : ClientState) → KeepsToPath s → KeepsToPath (settled digest b s)
+settled_keeps digest b s keeps =
+    record {
+      as_asked = settled_as_asked digest b s keeps.as_asked;
+      stands = settled_fits digest AreKnownFor FlowFollows AnyMessages (paths_keep digest) b s keeps.stands;
+    }
 
-told_stands : (digest : List ℕ → Id) (who : Who) (calls : List Call) (place : ℕ) (told : Told) (stage : Stage) (sent : List Sent) → AnswersLookup stage sent place told.reply
-    → StandsOnPath digest who calls stage sent → StandsOnPath digest who calls stage (map (told_at place told) sent)
-told_stands digest who calls place told compose sent now before = ap (map (told_at place told)) before
-told_stands digest who calls place told (round keys) sent now before = (before.0, told_keys place told keys sent now before.1)
-told_stands digest who calls place told (act flow) sent now before = before
-told_stands digest who calls place told (winds end m ms) sent now before = tt
-
-keeps_turn : (digest : List ℕ → Id) (who : Who) (asked : Call) (calls : List Call) (t : Turn Flow) → TurnFollows asked t → TurnKeeps digest who (asked ∷ calls) t
-keeps_turn digest who asked calls (turn.GoesOn step) follows = follows
-keeps_turn digest who asked calls (turn.WindsUp end more) follows = tt
-
-round_follows : (digest : List ℕ → Id) (who : Who) (asked : Call) (found : Option Course) (keys : List LookKey) (sent : List Sent) → course_of asked ≡ found
-    → keys_of digest who found ≡ round keys → AreToldFor keys sent → TurnFollows asked (after_round found sent)
-round_follows digest who asked None keys sent is all told = tt
-round_follows digest who asked (Some course) keys sent is all told =
-    let same : keys ≡ look.Top ∷ keys_along digest who.root course.looked = cc in
-    after_round_follows digest who.root asked course sent is (subst (λ (ks : List LookKey). AreToldFor ks sent) same told)
-
-round_keeps : (digest : List ℕ → Id) (who : Who) (calls : List Call) (keys : List LookKey) (sent : List Sent) → keys_of digest who (next_course calls) ≡ round keys → AreToldFor keys sent
-    → TurnKeeps digest who calls (after_round (next_course calls) sent)
-round_keeps digest who [] keys sent is told = tt
-round_keeps digest who (asked ∷ calls) keys sent is told =
-    keeps_turn digest who asked calls (after_round (course_of asked) sent) (round_follows digest who asked (course_of asked) keys sent refl is told)
-
-told_keeps : (digest : List ℕ → Id) (who : Who) (asked : Call) (calls : List Call) (flow : Flow) (place : ℕ) (told : Option Told) (xs : List Sent) → Follows asked flow
-    → TurnKeeps digest who (asked ∷ calls) (act_turn digest who flow (record { place = place; told = told } ∷ xs))
-told_keeps digest who asked calls flow place None xs follows = tt
-told_keeps digest who asked calls flow place (Some told) xs follows =
-    keeps_turn digest who asked calls (after_act digest who flow place told.serve_place told.reply)
-    (after_act_follows digest asked who flow place told.serve_place told.reply follows)
-
-act_keeps : (digest : List ℕ → Id) (who : Who) (calls : List Call) (flow : Flow) (sent : List Sent) → FlowFollows calls flow → TurnKeeps digest who calls (act_turn digest who flow sent)
-act_keeps digest who [] flow sent follows = absurd follows
-act_keeps digest who (asked ∷ calls) flow [] follows = tt
-act_keeps digest who (asked ∷ calls) flow (x ∷ xs) follows = told_keeps digest who asked calls flow x.place x.told xs follows
-
-turn_keeps : (digest : List ℕ → Id) (s : ClientState) (stage : Stage) → StandsOnPath digest s.who s.left stage s.sent → TurnKeeps digest s.who s.left (turn_at digest s stage)
-turn_keeps digest s compose stands = tt
-turn_keeps digest s (round keys) stands = round_keeps digest s.who s.left keys s.sent stands.0 stands.1
-turn_keeps digest s (act flow) stands = act_keeps digest s.who s.left flow s.sent stands
-turn_keeps digest s (winds end m ms) stands = tt
-
-settled_keeps : (digest : List ℕ → Id) (b : Bool) (s : ClientState) → KeepsToPath digest s → KeepsToPath digest (settled digest b s)
-settled_keeps digest true s keeps = turned_keeps digest (turn_at digest s s.stage) s (turn_keeps digest s s.stage keeps.stands)
-settled_keeps digest false s keeps = keeps
-
-pub served_keeps : (digest : List ℕ → Id) (place : ℕ) (told : Told) (s : ClientState) → KeepsToPath digest s → AnswersLookup s.stage s.sent place told.reply → KeepsToPath digest (served digest place told s)
+pub served_keeps : (digest : List ℕ → Id) (place : ℕ) (told : Told) (s : ClientState) → KeepsToPath s
+    → AnswersLookup s.stage s.sent place told.reply → KeepsToPath (served digest place told s)
 served_keeps digest place told s keeps now =
-    let here : KeepsToPath digest (recorded place told s) = record { stands = told_stands digest s.who s.left place told s.stage s.sent now keeps.stands } in
-    if_both (KeepsToPath digest) (has_place place s.sent) _ s (settled_keeps digest (is_complete (recorded place told s)) (recorded place told s) here) keeps
+    let later = recorded place (told_in s told) s in
+    let here : KeepsToPath later =
+    record {
+      as_asked = recorded_as_asked place (told_in s told) s keeps.as_asked (lookup_in s place told now);
+      stands = keeps.stands;
+    } in
+    if_both KeepsToPath (has_place place s.sent) _ s (settled_keeps digest (is_complete later) later here) keeps

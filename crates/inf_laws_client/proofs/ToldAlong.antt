@@ -6,8 +6,8 @@ use Rattle.inf_base.specs.declared.entry.Entry.{Entry}
 use Rattle.inf_base.specs.declared.key.Key.{Key}
 use Rattle.inf_base.specs.declared.key.Key.TheVariants as key
 use Rattle.inf_base.specs.Same.{dir_of}
-use Rattle.inf_laws_client.specs.Paths.{name_of, names_in, names_of}
-use Rattle.inf_laws_client.specs.Told.{CarriesOnly, IsIn, LinksFrom, LinksUp}
+use Rattle.inf_laws_client.specs.Paths.{names_in, names_of}
+use Rattle.inf_laws_client.specs.Told.{CarriesOnly, IsIn, LinksFrom, LinksUp, name_of}
 use Rattle.inf_laws_directory.specs.Objects.{Objects, Service}
 use Rattle.inf_laws_directory.specs.Phases.{Phases}
 use Rattle.inf_laws_directory.specs.Standing.{IsToldAlong}
@@ -26,9 +26,14 @@ links_along [] links = absurd links
 links_along (e ∷ es) links = (links.0, links_on e.access es links.1)
 
 module _ (service : Service) (objects : Objects) (root : Access) (phases : Phases) where
-  are_told : (chain : List Entry) → CarriesOnly (IsToldAs service objects root phases) chain → AreTold service objects root phases chain
+  abbrev IsTrue : Entry → Type 0
+  IsTrue e = IsToldAs service objects root phases e.key e.access
+
+  are_told : (chain : List Entry) → CarriesOnly IsTrue chain → AreTold service objects root phases chain
   are_told [] carries = tt
   are_told (e ∷ es) carries = (carries.0, are_told es carries.1)
 
-  pub told_along : (chain : List Entry) → CarriesOnly (IsToldAs service objects root phases) chain → LinksUp chain → IsToldAlong service objects root phases (names_of chain) chain
+  pub told_along : (chain : List Entry)
+      → CarriesOnly (λ (e : Entry). IsToldAs service objects root phases e.key e.access) chain → LinksUp chain
+      → IsToldAlong service objects root phases (names_of chain) chain
   told_along chain carries links = record { told = are_told chain carries; links = links_along chain links }

@@ -9,7 +9,7 @@ use Rattle.inf_message.specs.declared.step.Message.{Message}
 use Rattle.inf_duty.specs.ClientState.{ClientState}
 use Rattle.inf_duty.specs.Group.{group}
 use Rattle.inf_message.specs.Sent.{Sent}
-use Rattle.inf_laws_client.specs.Paths.{IsToldFor}
+use Rattle.inf_laws_client.specs.Told.{IsToldFor}
 
 -- the Asks of a group are of its messages, in their order
 abbrev pub AreAskedFor : (ℕ → Request → Type 0) → List Message → List Sent → Type 0

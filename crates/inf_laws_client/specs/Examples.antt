@@ -1,7 +1,8 @@
 -- A directory `a` of the root, born at 5, and what a client has to do with it.
-use Rattle.std.specs.Prelude.{ℕ, List, [], ◌∷◌, codes, Option, Some, None}
+use Rattle.std.specs.Prelude.{ℕ, List, [], ◌∷◌, codes, Some, None}
 use Rattle.inf_base.specs.declared.access.Access.{Access}
 use Rattle.inf_base.specs.declared.answer.Answer.TheVariants as answer
+use Rattle.inf_base.specs.declared.call.Call.{Call}
 use Rattle.inf_base.specs.declared.call.Call.TheVariants as call
 use Rattle.inf_base.specs.declared.caller.CallRef.{CallRef}
 use Rattle.inf_base.specs.declared.directory.DirRef.{DirRef}
@@ -10,6 +11,9 @@ use Rattle.inf_base.specs.declared.key.Key.{Key}
 use Rattle.inf_base.specs.declared.key.Key.TheVariants as key
 use Rattle.inf_base.specs.declared.triple.Triple.{Triple}
 use Rattle.inf_base.specs.declared.triple.Triple.TheVariants as triple
+use Rattle.inf_base.specs.declared.id.Id.{Id}
+use Rattle.inf_base.specs.declared.key.LookKey.{LookKey}
+use Rattle.inf_base.specs.declared.key.LookKey.TheVariants as look
 use Rattle.inf_base.specs.Identity.{identity}
 use Rattle.inf_message.specs.declared.ask.Ask.{Ask}
 use Rattle.inf_message.specs.declared.op.Op.TheVariants as op
@@ -25,8 +29,10 @@ use Rattle.inf_message.specs.declared.ending.Ending.TheVariants as ending
 use Rattle.inf_flow_file.specs.declared.file_flow.FileFlow.TheVariants as file_flow
 use Rattle.inf_duty.specs.declared.flow.Flow.TheVariants as flow
 use Rattle.inf_message.specs.declared.turn.Turn.TheVariants as turn
-use Rattle.inf_duty.specs.ClientState.{ClientState, act, idle}
-use Rattle.inf_duty.specs.Group.{Course, course_of}
+use Rattle.inf_duty.specs.ClientState.{ClientState, Stage, act, idle, round}
+use Rattle.inf_duty.specs.Course.{next_course}
+use Rattle.inf_duty.specs.Group.{next_stage}
+use Rattle.inf_duty.specs.Turn.{learned, round_turn}
 use Rattle.inf_duty.specs.declared.flow.Flow.{Flow}
 use Rattle.inf_message.specs.Sent.{Sent}
 use Rattle.inf_message.specs.Who.{Who}
@@ -94,14 +100,28 @@ the_maker = record (idle the_client (call.Mkdir (codes "/a") 0o755 ∷ [])) { st
 abbrev pub making : Request → Ask
 making asked = record { from = record { client = 0; number = 1 }; caller = the_client.caller; request = asked }
 
--- ---- a round that looks up the root and `a`, asked at 1 and 2
-
-abbrev pub the_round : Option Course
-the_round = course_of (call.Stat (codes "/a/f"))
+-- ---- rounds of lookups, asked at 1, 2 and so on
 
 -- what was asked at a place was answered at another
 abbrev pub answered : ℕ → ℕ → Reply → Sent
 answered place serve_place given = record { place = place; told = Some (told_reply serve_place given) }
+
+-- a client whose round, the first of its call, was told so
+abbrev pub told_in_round : Call → List LookKey → List Sent → ClientState
+told_in_round asked keys sent =
+    let asking = record (idle the_client (asked ∷ [])) { stage = round keys; sent = sent } in
+    learned asking.stage asking
+
+-- it turns, and what it asks for next where it goes on
+abbrev pub turn_of : ClientState → Turn Stage
+turn_of s = round_turn digest s
+
+abbrev pub next_of : ClientState → Stage
+next_of s = next_stage digest s.who s.known (next_course s.left)
+
+-- the root and `a`
+abbrev pub after_round : List Sent → ClientState
+after_round sent = told_in_round (call.Stat (codes "/a/f")) (look.Top ∷ look.At zero_id (codes "a") ∷ []) sent
 
 -- the root was told at 3
 abbrev pub root_told : Entry
@@ -126,8 +146,37 @@ abbrev pub busy : ℕ → ℕ → ℕ → Sent
 busy place serve_place born = answered place serve_place (reply.Busy another spot.Slot born)
 
 -- the path stops at `a`
-abbrev pub stopped_at_a : Turn Flow
-stopped_at_a = turn.GoesOn (flow.File (file_flow.Finishes (root_told ∷ []) (op.Walk (codes "a"))))
+abbrev pub stopped_at_a : Stage
+stopped_at_a = act (flow.File (file_flow.Finishes (root_told ∷ []) (op.Walk (codes "a"))))
 
-abbrev pub out_of_memory : Turn Flow
+abbrev pub out_of_memory : Turn Stage
 out_of_memory = turn.WindsUp (ending.Answers answer.NoMemory None) []
+
+-- ---- `b` in `a` was made under another name, so that no prediction has its identifier
+
+abbrev pub longer : Call
+longer = call.Stat (codes "/a/b/c/f")
+
+abbrev pub predicted_b : Id
+predicted_b = identity digest (triple.Of a_dir.id (codes "b") 0)
+
+abbrev pub longer_keys : List LookKey
+longer_keys =
+    look.Top ∷ look.At zero_id (codes "a") ∷ look.At a_dir.id (codes "b") ∷ look.At predicted_b (codes "c") ∷ []
+
+abbrev pub moved : DirRef
+moved = record { id = identity digest (triple.Of a_dir.id (codes "x") 0); born = 6 }
+
+abbrev pub told_moved : Sent
+told_moved = answered 3 5 (reply.Found (key.At a_dir (codes "b")) (record {
+  id = moved.id;
+  born = moved.born;
+  mode = 0o755;
+  owner = 0;
+  group = 0;
+  birth = triple.Of a_dir.id (codes "x") 0;
+}))
+
+-- where it was predicted, `c` was asked for in vain
+abbrev pub told_in_vain : Sent
+told_in_vain = answered 4 6 reply.NoDir

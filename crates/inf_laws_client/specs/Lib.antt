@@ -1,5 +1,6 @@
 pub mod Asked
 pub mod Examples
+pub mod Keeps
 pub mod Paths
 pub mod Run
 pub mod Told

@@ -3,31 +3,19 @@ use Rattle.std.specs.Prelude.{◌≡◌, ℕ, List, [], ◌∷◌, ◌++◌, Ok}
 use Rattle.inf_base.specs.declared.call.Call.{Call}
 use Rattle.inf_base.specs.declared.call.Call.TheVariants as call
 use Rattle.inf_base.specs.declared.entry.Entry.{Entry}
-use Rattle.inf_base.specs.declared.id.Id.{Id}
-use Rattle.inf_base.specs.declared.key.Key.{Key}
-use Rattle.inf_base.specs.declared.key.Key.TheVariants as key
-use Rattle.inf_base.specs.declared.key.LookKey.{LookKey}
-use Rattle.inf_base.specs.declared.key.LookKey.TheVariants as look
 use Rattle.inf_base.specs.Path.{path_of}
 use Rattle.inf_message.specs.declared.op.Op.{Op}
 use Rattle.inf_message.specs.declared.op.Op.TheVariants as op
-use Rattle.inf_message.specs.declared.reply.Reply.{Reply}
-use Rattle.inf_message.specs.declared.reply.Reply.TheVariants as reply
 use Rattle.inf_flow_dir.specs.declared.dir_flow.DirFlow.TheVariants as dir_flow
 use Rattle.inf_flow_file.specs.declared.file_flow.FileFlow.TheVariants as file_flow
 use Rattle.inf_duty.specs.declared.flow.Flow.TheVariants as flow
 use Rattle.inf_message.specs.declared.turn.Turn.TheVariants as turn
-use Rattle.inf_duty.specs.ClientState.{ClientState, Stage, act, compose, round, winds}
-use Rattle.inf_duty.specs.Group.{keys_of, next_course, text_of}
+use Rattle.inf_duty.specs.ClientState.{ClientState, Stage, act}
+use Rattle.inf_duty.specs.Course.{text_of}
 use Rattle.inf_duty.specs.declared.flow.Flow.{Flow}
-use Rattle.inf_message.specs.Sent.{Sent}
-use Rattle.inf_message.specs.Who.{Who}
 use Rattle.inf_message.specs.declared.turn.Turn.{Turn}
-use Rattle.inf_laws_client.specs.Told.{IfTold}
-
-abbrev pub name_of : Key → List ℕ
-name_of key.Top = []
-name_of (key.At dir name) = name
+use Rattle.inf_laws_client.specs.Keeps.{AnyMessages, StageFits}
+use Rattle.inf_laws_client.specs.Told.{IsToldAsAsked, name_of}
 
 abbrev pub names_in : List Entry → List (List ℕ)
 names_in [] = []
@@ -77,33 +65,12 @@ Follows asked (flow.Dir (dir_flow.Unlinks chain)) = NamesAll asked call.Rmdir ch
 
 abbrev pub StageFollows : Call → Stage → Type 0
 StageFollows asked (act step) = Follows asked step
-StageFollows asked other = ⊥
+StageFollows asked other = Unit {0}
 
 -- where the attempt goes on, it does with a flow on the path
 abbrev pub TurnFollows : Call → Turn Flow → Type 0
-TurnFollows asked (turn.GoesOn next) = StageFollows asked (act next)
+TurnFollows asked (turn.GoesOn next) = Follows asked next
 TurnFollows asked (turn.WindsUp ending more) = Unit {0}
-
--- ---- answers to lookups
-
--- what is told to a lookup of a name is told under that name, and the root's access object under none
-abbrev pub IsToldFor : LookKey → Reply → Type 0
-IsToldFor look.Top (reply.Found k access) = k ≡ key.Top
-IsToldFor (look.At dir name) (reply.Found k access) = name_of k ≡ name
-IsToldFor any_key any_reply = Unit {0}
-
-abbrev pub AreToldFor : List LookKey → List Sent → Type 0
-AreToldFor (k ∷ keys) (x ∷ xs) = IfTold (IsToldFor k) x.told × AreToldFor keys xs
-AreToldFor any_keys any_sent = Unit {0}
-
--- where the Ask at a place is one of these lookups, this is an answer to it
-abbrev pub AnswersKeys : List LookKey → List Sent → ℕ → Reply → Type 0
-AnswersKeys (k ∷ keys) (x ∷ xs) place given = (x.place ≡ place → IsToldFor k given) × AnswersKeys keys xs place given
-AnswersKeys any_keys any_sent place given = Unit {0}
-
-abbrev pub AnswersLookup : Stage → List Sent → ℕ → Reply → Type 0
-AnswersLookup (round keys) sent place given = AnswersKeys keys sent place given
-AnswersLookup other sent place given = Unit {0}
 
 -- ---- clients
 
@@ -111,14 +78,10 @@ abbrev pub FlowFollows : List Call → Flow → Type 0
 FlowFollows [] step = ⊥
 FlowFollows (asked ∷ calls) step = Follows asked step
 
--- a round looks up the path of the call under way, and a flow stands on it; nothing is asked before a round is composed
-abbrev pub StandsOnPath : (List ℕ → Id) → Who → List Call → Stage → List Sent → Type 0
-StandsOnPath digest who calls compose sent = sent ≡ []
-StandsOnPath digest who calls (round keys) sent =
-    (keys_of digest who (next_course calls) ≡ round keys) × AreToldFor keys sent
-StandsOnPath digest who calls (act step) sent = FlowFollows calls step
-StandsOnPath digest who calls (winds ending m ms) sent = Unit {0}
+abbrev pub StandsOnPath : List Call → Stage → Type 0
+StandsOnPath calls stage = StageFits (FlowFollows calls) AnyMessages stage
 
--- so does the client
-pub record KeepsToPath (digest : List ℕ → Id) (s : ClientState) : Type 0 where
-  pub stands : StandsOnPath digest s.who s.left s.stage s.sent
+-- a flow stands on the path of the call under way
+pub record KeepsToPath (s : ClientState) : Type 0 where
+  pub as_asked : IsToldAsAsked s
+  pub stands : StandsOnPath s.left s.stage

@@ -6,6 +6,8 @@ use Rattle.inf_base.specs.declared.directory.DirRef.{DirRef}
 use Rattle.inf_base.specs.declared.entry.Entry.{Entry}
 use Rattle.inf_base.specs.declared.key.Key.{Key}
 use Rattle.inf_base.specs.declared.key.Key.TheVariants as key
+use Rattle.inf_base.specs.declared.key.LookKey.{LookKey}
+use Rattle.inf_base.specs.declared.key.LookKey.TheVariants as look
 use Rattle.inf_base.specs.Same.{dir_of}
 use Rattle.inf_message.specs.declared.reply.Reply.{Reply}
 use Rattle.inf_message.specs.declared.reply.Reply.TheVariants as reply
@@ -18,51 +20,75 @@ use Rattle.inf_duty.specs.declared.flow.Flow.TheVariants as flow
 use Rattle.inf_duty.specs.ClientState.{ClientState, Stage, act, compose, round, winds}
 use Rattle.inf_duty.specs.declared.flow.Flow.{Flow}
 use Rattle.inf_message.specs.Sent.{Sent}
+use Rattle.inf_resolve.specs.declared.known.Known.{Known}
+use Rattle.inf_resolve.specs.Known.{told_entry}
+use Rattle.inf_laws_client.specs.Keeps.{StageFits}
 
--- ---- answers, by what is true of a key and the access object that is told under it
+-- ---- answers
 
-abbrev pub TellsOnly : (Key → Access → Type 0) → Reply → Type 0
-TellsOnly T (reply.Found k access) = T k access
-TellsOnly T any_reply = Unit {0}
+abbrev pub name_of : Key → List ℕ
+name_of key.Top = []
+name_of (key.At dir name) = name
 
-abbrev pub IfTold : (Reply → Type 0) → Option Told → Type 0
+-- what is told to a lookup of a name is told under that name, and the root's access object under none
+abbrev pub IsToldFor : LookKey → Reply → Type 0
+IsToldFor look.Top (reply.Found k access) = k ≡ key.Top
+IsToldFor (look.At dir name) (reply.Found k access) = name_of k ≡ name
+IsToldFor any_key any_reply = Unit {0}
+
+-- by what is true of an entry: the access object that was told, with the place of its Serve as its stamp
+abbrev pub TellsOnly : (Entry → Type 0) → ℕ → Reply → Type 0
+TellsOnly T place (reply.Found k access) = T (told_entry k access place)
+TellsOnly T place any_reply = Unit {0}
+
+abbrev pub IfTold : (Told → Type 0) → Option Told → Type 0
 IfTold P None = Unit {0}
-IfTold P (Some told) = P told.reply
+IfTold P (Some told) = P told
 
-abbrev pub AllTell : (Key → Access → Type 0) → List Sent → Type 0
+abbrev pub AllTell : (Entry → Type 0) → List Sent → Type 0
 AllTell T [] = Unit {0}
-AllTell T (x ∷ xs) = IfTold (TellsOnly T) x.told × AllTell T xs
+AllTell T (x ∷ xs) = IfTold (λ (told : Told). TellsOnly T told.serve_place told.reply) x.told × AllTell T xs
 
--- the root's access object is told under no other key
-abbrev pub IsOfTop : Reply → Type 0
-IsOfTop (reply.Found k access) = k ≡ key.Top
-IsOfTop any_reply = Unit {0}
+-- each lookup of a round was told what is told to it
+abbrev pub AreToldFor : List LookKey → List Sent → Type 0
+AreToldFor (k ∷ keys) (x ∷ xs) = IfTold (λ (told : Told). IsToldFor k told.reply) x.told × AreToldFor keys xs
+AreToldFor any_keys any_sent = Unit {0}
 
--- a round's first lookup is that of the root, and nothing is asked before a round is composed
-abbrev pub FirstIsTop : List Sent → Type 0
-FirstIsTop [] = Unit {0}
-FirstIsTop (x ∷ xs) = IfTold IsOfTop x.told
+-- so was each that the attempt knows
+abbrev pub AreKnownFor : List Known → Type 0
+AreKnownFor [] = Unit {0}
+AreKnownFor (x ∷ xs) = IsToldFor x.key x.reply × AreKnownFor xs
 
-abbrev pub BeginsAtTop : Stage → List Sent → Type 0
-BeginsAtTop compose sent = sent ≡ []
-BeginsAtTop (round keys) sent = FirstIsTop sent
-BeginsAtTop (act step) sent = Unit {0}
-BeginsAtTop (winds ending m ms) sent = Unit {0}
+-- nothing is asked before a round is composed
+abbrev pub RoundIsToldFor : Stage → List Sent → Type 0
+RoundIsToldFor compose sent = sent ≡ []
+RoundIsToldFor (round keys) sent = AreToldFor keys sent
+RoundIsToldFor (act step) sent = Unit {0}
+RoundIsToldFor (winds ending m ms) sent = Unit {0}
 
-abbrev pub IfFirst : List Sent → ℕ → Reply → Type 0
-IfFirst [] place given = Unit {0}
-IfFirst (x ∷ xs) place given = x.place ≡ place → IsOfTop given
+-- what a client was told answers what it asked
+pub record IsToldAsAsked (s : ClientState) : Type 0 where
+  pub known : AreKnownFor s.known
+  pub sent : RoundIsToldFor s.stage s.sent
 
--- where the Ask at a place is the first of a round, this is an answer to the lookup of the root
-abbrev pub AnswersTop : Stage → List Sent → ℕ → Reply → Type 0
-AnswersTop (round keys) sent place given = IfFirst sent place given
-AnswersTop other sent place given = Unit {0}
+abbrev pub AllKnown : (Entry → Type 0) → List Known → Type 0
+AllKnown T [] = Unit {0}
+AllKnown T (x ∷ xs) = TellsOnly T x.place x.reply × AllKnown T xs
+
+-- where the Ask at a place is one of these lookups, this is an answer to it
+abbrev pub AnswersKeys : List LookKey → List Sent → ℕ → Reply → Type 0
+AnswersKeys (k ∷ keys) (x ∷ xs) place given = (x.place ≡ place → IsToldFor k given) × AnswersKeys keys xs place given
+AnswersKeys any_keys any_sent place given = Unit {0}
+
+abbrev pub AnswersLookup : Stage → List Sent → ℕ → Reply → Type 0
+AnswersLookup (round keys) sent place given = AnswersKeys keys sent place given
+AnswersLookup other sent place given = Unit {0}
 
 -- ---- chains
 
-abbrev pub CarriesOnly : (Key → Access → Type 0) → List Entry → Type 0
+abbrev pub CarriesOnly : (Entry → Type 0) → List Entry → Type 0
 CarriesOnly T [] = Unit {0}
-CarriesOnly T (e ∷ es) = T e.key e.access × CarriesOnly T es
+CarriesOnly T (e ∷ es) = T e × CarriesOnly T es
 
 abbrev pub IsIn : DirRef → Key → Type 0
 IsIn dir key.Top = ⊥
@@ -78,7 +104,7 @@ abbrev pub LinksUp : List Entry → Type 0
 LinksUp [] = ⊥
 LinksUp (e ∷ es) = (e.key ≡ key.Top) × LinksFrom e.access es
 
-pub record IsChainOf (T : Key → Access → Type 0) (chain : List Entry) : Type 0 where
+pub record IsChainOf (T : Entry → Type 0) (chain : List Entry) : Type 0 where
   pub carries : CarriesOnly T chain
   pub links_up : LinksUp chain
 
@@ -97,25 +123,16 @@ abbrev pub ArePlain : List Message → Type 0
 ArePlain [] = Unit {0}
 ArePlain (m ∷ ms) = (chains_of m.request ≡ []) × ArePlain ms
 
-abbrev pub StandsOn : (Key → Access → Type 0) → Stage → Type 0
-StandsOn T compose = Unit {0}
-StandsOn T (round keys) = Unit {0}
-StandsOn T (act step) = IsChainOf T (chain_of step)
-StandsOn T (winds ending m ms) = ArePlain (m ∷ ms)
+abbrev pub StandsOn : (Entry → Type 0) → Stage → Type 0
+StandsOn T stage = StageFits (λ (step : Flow). IsChainOf T (chain_of step)) ArePlain stage
 
-pub record KnowsOnly (T : Key → Access → Type 0) (s : ClientState) : Type 0 where
+pub record KnowsOnly (T : Entry → Type 0) (s : ClientState) : Type 0 where
+  pub as_asked : IsToldAsAsked s
+  pub known : AllKnown T s.known
   pub answers : AllTell T s.sent
-  pub begins : BeginsAtTop s.stage s.sent
   pub stands : StandsOn T s.stage
 
 -- ---- what was told, as it was
 
-pub record Telling : Type 0 where
-  pub key : Key
-  pub access : Access
-
-abbrev pub telling : Key → Access → Telling
-telling k access = record { key = k; access = access }
-
-abbrev pub IsAmong : List Telling → Key → Access → Type 0
-IsAmong tellings k access = Contains tellings (telling k access)
+abbrev pub IsAmong : List Entry → Entry → Type 0
+IsAmong told entry = Contains told entry

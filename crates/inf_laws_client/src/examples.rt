@@ -1,20 +1,20 @@
 //! What small scripts come to by the definitions of clients and servers: each clause is computed.
 
-ghost use Rattle.std.specs.Prelude.{◌≡◌, [], ◌∷◌, codes, replicate, Some};
+ghost use Rattle.std.specs.Prelude.{◌≡◌, [], ◌∷◌, codes};
 ghost use Rattle.inf_base.specs.declared.answer.Answer.TheVariants as answer;
 ghost use Rattle.inf_base.specs.declared.call.Call.TheVariants as call;
 ghost use Rattle.inf_base.specs.declared.errno.Errno.TheVariants as errno;
+ghost use Rattle.inf_base.specs.declared.key.LookKey.TheVariants as look;
 ghost use Rattle.inf_base.specs.declared.triple.Triple.TheVariants as triple;
 ghost use Rattle.inf_duty.specs.Duty.{asks, begun, next_step};
 ghost use Rattle.inf_flow_file.specs.declared.file_flow.FileFlow.TheVariants as file;
 ghost use Rattle.inf_duty.specs.declared.flow.Flow.TheVariants as flow;
 ghost use Rattle.inf_message.specs.declared.turn.Turn.TheVariants as turn;
-ghost use Rattle.inf_duty.specs.ClientState.{act};
+ghost use Rattle.inf_duty.specs.ClientState.{act, compose, idle, round};
 ghost use Rattle.inf_duty.specs.Flow.{clean_up};
-ghost use Rattle.inf_duty.specs.Turn.{after_round};
 ghost use Rattle.inf_flow_dir.specs.DirFlow.{after_unlink};
 ghost use Rattle.inf_message.specs.Turn.{ends};
-ghost use Rattle.inf_laws_client.specs.Examples.{a_told, another, answered, busy, out_of_memory, root_told, stopped_at_a, the_round, told_a, told_root, cancel, chain_to_a, chain_to_a_from_b, drop_made, forget_moved, link_a, make_a, making, the_client, the_maker, unlink_a, unseal_a};
+ghost use Rattle.inf_laws_client.specs.Examples.{a_told, after_round, another, answered, busy, cancel, chain_to_a, chain_to_a_from_b, drop_made, forget_moved, link_a, longer, longer_keys, make_a, making, moved, next_of, out_of_memory, root_told, stopped_at_a, the_client, the_maker, told_a, told_in_round, told_in_vain, told_moved, told_root, turn_of, unlink_a, unseal_a};
 ghost use Rattle.inf_message.specs.declared.op.Op.TheVariants as op;
 ghost use Rattle.inf_message.specs.declared.reply.Reply.TheVariants as reply;
 ghost use Rattle.inf_laws_client.specs.Run.{alone, digest, ended_at, opening_run, results, crossing_run, shows, zero_id};
@@ -74,11 +74,22 @@ pub fn example_of_wanting_memory()
 /// What comes of the answers to a round of two lookups: a name is followed where it links to the directory before it; a
 /// change in that directory is in the way; and a reply that memory is wanting ends the call, whatever the others say.
 pub fn example_of_rounds()
-    ensures linked { after_round the_round (told_root ∷ told_a 0 ∷ [])
-        ≡ turn.GoesOn ((flow.File (file.Finishes (root_told ∷ a_told ∷ []) (op.Stat (codes "f"))))) }
-    ensures of_another_birth { after_round the_round (told_root ∷ told_a 7 ∷ []) ≡ stopped_at_a }
-    ensures busy { after_round the_round (told_root ∷ busy 2 4 0 ∷ []) ≡ ends (answer.Again another) 4 }
-    ensures busy_elsewhere { after_round the_round (told_root ∷ busy 2 4 7 ∷ []) ≡ stopped_at_a }
-    ensures busy_at_top { after_round the_round (busy 1 3 7 ∷ told_a 0 ∷ []) ≡ ends (answer.Again another) 3 }
-    ensures wanting { after_round the_round (busy 1 3 7 ∷ answered 2 4 reply.NoMem ∷ []) ≡ out_of_memory }
+    ensures linked { next_of (after_round (told_root ∷ told_a 0 ∷ []))
+        ≡ act (flow.File (file.Finishes (root_told ∷ a_told ∷ []) (op.Stat (codes "f")))) }
+    ensures of_another_birth { next_of (after_round (told_root ∷ told_a 7 ∷ [])) ≡ stopped_at_a }
+    ensures busy { turn_of (after_round (told_root ∷ busy 2 4 0 ∷ [])) ≡ ends (answer.Again another) 4 }
+    ensures busy_elsewhere { turn_of (after_round (told_root ∷ busy 2 4 7 ∷ [])) ≡ turn.GoesOn compose }
+    ensures stopped { next_of (after_round (told_root ∷ busy 2 4 7 ∷ [])) ≡ stopped_at_a }
+    ensures busy_at_top { turn_of (after_round (busy 1 3 7 ∷ told_a 0 ∷ [])) ≡ ends (answer.Again another) 3 }
+    ensures wanting { turn_of (after_round (busy 1 3 7 ∷ answered 2 4 reply.NoMem ∷ [])) ≡ out_of_memory }
+{}
+
+/// The second of three directories has another identifier than the predicted one: a further round asks for the one
+/// lookup in it, whatever was told where it was predicted.
+pub fn example_of_a_further_round()
+    ensures first { next_of (idle the_client (longer ∷ [])) ≡ round longer_keys }
+    ensures goes_on { turn_of (told_in_round longer longer_keys
+        (told_root ∷ told_a 0 ∷ told_moved ∷ told_in_vain ∷ [])) ≡ turn.GoesOn compose }
+    ensures further { next_of (told_in_round longer longer_keys
+        (told_root ∷ told_a 0 ∷ told_moved ∷ told_in_vain ∷ [])) ≡ round (look.At moved.id (codes "c") ∷ []) }
 {}

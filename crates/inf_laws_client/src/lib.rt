@@ -5,8 +5,9 @@ mod examples;
 mod laws;
 
 pub use examples::{
-    example_of_clashes, example_of_clean_ups, example_of_paths, example_of_removals_and_creations,
-    example_of_rounds, example_of_wanting_memory, example_of_whole_lives,
+    example_of_a_further_round, example_of_clashes, example_of_clean_ups, example_of_paths,
+    example_of_removals_and_creations, example_of_rounds, example_of_wanting_memory,
+    example_of_whole_lives,
 };
 pub use laws::{
     chains_are_told_along, clients_ask_their_groups, clients_keep_to_paths,

@@ -1,5 +1,5 @@
 use Rattle.inf_laws_client.specs.Asked.{WasAsked}
-use Rattle.inf_laws_client.proofs.AskedFacts.{answers_lookup, answers_top, begun_asks, composed_asks, given_up_asks, idle_asks, placed_asks, served_asks, weaker_asks}
+use Rattle.inf_laws_client.proofs.AskedFacts.{answers_lookup, begun_asks, composed_asks, given_up_asks, idle_asks, placed_asks, served_asks, weaker_asks}
 use Rattle.inf_laws_client.proofs.laws.clients_ask_their_groups.Goals as goal
 
 pub returns-clause-start : goal.returns-clause-start
@@ -25,6 +25,3 @@ returns-clause-more c = λ postings others s more asks_its. weaker_asks (WasAske
 
 pub returns-clause-lookups : goal.returns-clause-lookups
 returns-clause-lookups c = λ postings s place given asks_its told. answers_lookup (WasAsked postings) place given s asks_its told
-
-pub returns-clause-roots : goal.returns-clause-roots
-returns-clause-roots c = λ digest s place given keeps told. answers_top digest place given s keeps told

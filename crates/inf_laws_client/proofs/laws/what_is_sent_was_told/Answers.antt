@@ -3,4 +3,4 @@ use Rattle.inf_laws_client.proofs.KnowsFacts.{sends}
 use Rattle.inf_laws_client.proofs.laws.what_is_sent_was_told.Goals as goal
 
 pub returns : goal.returns
-returns c = λ tellings s number ask knows is. sends (IsAmong tellings) number ask s knows is
+returns c = λ told_so s number ask knows is. sends (IsAmong told_so) number ask s knows is
