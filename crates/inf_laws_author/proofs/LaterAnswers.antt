@@ -14,8 +14,7 @@ use Rattle.inf_duty.specs.World.{World}
 use Rattle.inf_duty.specs.declared.own.OwnAsk.{OwnAsk}
 use Rattle.inf_duty.specs.ClientState.{ClientState, is_round, one_if, placed}
 use Rattle.inf_duty.specs.Group.{group}
-use Rattle.inf_duty.specs.Turn.{recorded, served}
-use Rattle.inf_message.specs.Heard.{heard}
+use Rattle.inf_duty.specs.Turn.{recorded, served, told_in}
 use Rattle.inf_message.specs.Sent.{Sent, is_first, is_told, told_at}
 use Rattle.inf_laws_author.proofs.Tests.{and_false, both_true}
 use Rattle.inf_laws_author.specs.LessTold.{HasWaiting, IsSameAsk, LessTold}
@@ -163,19 +162,21 @@ module _ (digest : List ℕ → Id) (place : ℕ) (told : Told) where
   told_so_more : (s : ClientState) (sent : List Sent) (last : Option ℕ) → length sent ≡ length s.sent
       → KnowsMore s (served digest place told (told_so sent last s))
   told_so_more s sent last as_many =
-      by_answer digest (KnowsMore s) place told (told_so sent last s)
+      let before = told_so sent last s in
+      let kept = told_in before told in
+      by_answer digest (KnowsMore s) place told before
       (λ apart. inl (record { sent = sent; last = last; same = refl; as_many = as_many }))
       (λ here going. inl (record {
-        sent = map (told_at place told) sent;
-        last = (recorded place told (told_so sent last s)).counts.last;
+        sent = map (told_at place kept) sent;
+        last = (recorded place kept before).counts.last;
         same = refl;
-        as_many = length-map sent (told_at place told) ∙ as_many;
+        as_many = length-map sent (told_at place kept) ∙ as_many;
       }))
       (λ here over.
-      let all : length (map (told_at place told) sent) ≡ length (group s.who s.stage) =
-      (Decides-eqb (length (map (told_at place told) sent)) (length (group s.who s.stage))).0
-      (both_true _ (list_all is_told (map (told_at place told) sent)) over).0 in
-      let as_before = length-map sent (told_at place told) in
+      let all : length (map (told_at place kept) sent) ≡ length (group s.who s.stage) =
+      (Decides-eqb (length (map (told_at place kept) sent)) (length (group s.who s.stage))).0
+      (both_true _ (list_all is_told (map (told_at place kept) sent)) over).0 in
+      let as_before = length-map sent (told_at place kept) in
       inr (omega arith))
 
   knows_told : (s t : ClientState) → Knows s t → KnowsMore s (served digest place told t)
@@ -188,32 +189,33 @@ module _ (digest : List ℕ → Id) (place : ℕ) (told : Told) where
   more_told s t (inr full) = inr full
 
   -- the first is told as well
-  more_recorded : (s t : ClientState) → KnowsMore s t → KnowsMore (recorded place told s) t
-  more_recorded s t (inl knows) = inl (record {
+  more_recorded : (kept : Told) (s t : ClientState) → KnowsMore s t → KnowsMore (recorded place kept s) t
+  more_recorded kept s t (inl knows) = inl (record {
     sent = knows.sent;
     last = knows.last;
     same = knows.same;
-    as_many = knows.as_many ∙ sym (length-map s.sent (told_at place told));
+    as_many = knows.as_many ∙ sym (length-map s.sent (told_at place kept));
   })
-  more_recorded s t (inr full) = inr (let as_many = length-map s.sent (told_at place told) in omega arith)
+  more_recorded kept s t (inr full) = inr (let as_many = length-map s.sent (told_at place kept) in omega arith)
 
   both_told : (last : ℕ) (s t : ClientState) → last < place → WaitsBy last s.sent → KnowsMore s t
       → WaitsBy last (served digest place told s).sent × KnowsMore (served digest place told s) t
   both_told last s t later waits more =
-      let still = waits_on last place told s.sent later waits in
+      let kept = told_in s told in
+      let still = waits_on last place kept s.sent later waits in
       by_answer digest (λ (x : ClientState). WaitsBy last x.sent × KnowsMore x t) place told s
       (λ apart. (waits, more))
-      (λ here going. (still, more_recorded s t more))
+      (λ here going. (still, more_recorded kept s t more))
       (λ here over.
-      let not_over = not_all_told last (map (told_at place told) s.sent) still in
-      let all = (both_true _ (list_all is_told (map (told_at place told) s.sent)) over).1 in
+      let not_over = not_all_told last (map (told_at place kept) s.sent) still in
+      let all = (both_true _ (list_all is_told (map (told_at place kept) s.sent)) over).1 in
       absurd (let never : ⊥ = cc in never))
 
 knows_itself : (s : ClientState) → Knows s s
 knows_itself s = record { sent = s.sent; last = s.counts.last; same = refl; as_many = refl }
 
 abbrev told_as : ℕ × Reply → Told
-told_as told = told_reply told.0 (heard told.1)
+told_as told = told_reply told.0 told.1
 
 module _ (digest : List ℕ → Id) (last place : ℕ) (later : last < place) where
   waits_here : (s t : ClientState) → WaitsBy last s.sent → KnowsMore s t → Behind place s t

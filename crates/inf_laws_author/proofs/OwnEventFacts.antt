@@ -7,7 +7,6 @@ use Rattle.inf_duty.specs.Start.{start}
 use Rattle.inf_duty.specs.World.{World}
 use Rattle.inf_duty.specs.ClientState.{ClientState}
 use Rattle.inf_duty.specs.Turn.{served}
-use Rattle.inf_message.specs.Heard.{heard}
 use Rattle.inf_message.specs.Sent.{has_place}
 use Rattle.inf_laws_author.proofs.Tests.{unless_true}
 use Rattle.inf_laws_author.specs.OwnEvents.{is_by, own_events}
@@ -19,7 +18,7 @@ use Rattle.inf_message.specs.History.{Told, asked_at, told_reply}
 abbrev follow : World → ℕ × Event → ClientState → ClientState
 follow world (place, event.Ask number ask) s = asked world.digest place ask s
 follow world (place, event.Serve number ask_place given) s =
-    served world.digest ask_place (told_reply place (heard given)) s
+    served world.digest ask_place (told_reply place given) s
 
 abbrev follow_all : World → ℕ → List (ℕ × Event) → ClientState
 follow_all world client [] = start world client
@@ -56,7 +55,7 @@ follows_own world client (event.Serve number ask_place given ∷ h) =
     own = (suc (length h), event.Serve number ask_place given) ∷ own_events client h
 
     told : Told
-    told = told_reply (suc (length h)) (heard given)
+    told = told_reply (suc (length h)) given
 
     by : client_after world client h ≡ follow_all world client (own_events client h) → (b : Bool)
         → is_by client (asked_at ask_place h) ≡ b

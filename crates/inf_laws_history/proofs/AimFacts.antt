@@ -7,16 +7,15 @@ use Rattle.inf_base.specs.declared.caller.Caller.{Caller}
 use Rattle.inf_base.specs.declared.entry.Entry.{Entry}
 use Rattle.inf_base.specs.declared.errno.Errno.{Errno}
 use Rattle.inf_base.specs.declared.errno.Errno.TheVariants as errno
-use Rattle.inf_base.specs.declared.key.Key.{Key}
 use Rattle.inf_base.specs.Path.{path_of}
 use Rattle.inf_flow_dir.specs.declared.dir_flow.DirFlow.TheVariants as dir_flow
 use Rattle.inf_flow_file.specs.declared.file_flow.FileFlow.TheVariants as file_flow
 use Rattle.inf_duty.specs.declared.flow.Flow.TheVariants as flow
 use Rattle.inf_duty.specs.ClientState.{ClientState, Stage, act, compose, round, winds}
 use Rattle.inf_duty.specs.Flow.{message_of}
-use Rattle.inf_duty.specs.Group.{course_at, course_of, group, text_of}
+use Rattle.inf_duty.specs.Group.{group}
+use Rattle.inf_duty.specs.Course.{course_at, course_of, text_of}
 use Rattle.inf_duty.specs.declared.flow.Flow.{Flow}
-use Rattle.inf_message.specs.Sent.{Sent}
 use Rattle.inf_message.specs.Who.{Who}
 use Rattle.inf_laws_client.specs.Paths.{Follows, KeepsToPath, OpFollows, StandsOnPath, StopsBefore, names_of}
 use Rattle.inf_laws_client.specs.Told.{IsChainOf, KnowsOnly, StandsOn, chain_of}
@@ -26,7 +25,7 @@ use Rattle.inf_laws_directory.specs.Objects.{Objects, Service}
 use Rattle.inf_laws_directory.specs.Owes.{Aims, AimsWith, IsAimed, IsAimedAt, IsStopped}
 use Rattle.inf_laws_directory.specs.Phases.{Phase, Phases, has_made, has_reserved, has_sealed, has_unlinked, idle}
 use Rattle.inf_laws_directory.specs.Standing.{IsToldAlong}
-use Rattle.inf_laws_directory.specs.Told.{IsToldAs}
+use Rattle.inf_laws_directory.specs.Told.{IsTold}
 use Rattle.inf_laws_history.specs.Pending.{Waits}
 use Rattle.inf_laws_history.specs.Phases.{FlowMay, HasPhase, IsLiftedBy, StageMay}
 use Rattle.inf_laws_history.proofs.GroupMessages.{look_in, only_one}
@@ -57,8 +56,8 @@ removed_has_last text [] course = absurd cc
 removed_has_last text (name ∷ names) course = last_behind name names
 
 module _ (service : Service) (objects : Objects) (root : Access) (phases : Phases) where
-  abbrev T : Key → Access → Type 0
-  T = IsToldAs service objects root phases
+  abbrev T : Entry → Type 0
+  T = IsTold service objects root phases
 
   told : (chain : List Entry) → IsChainOf T chain → IsToldAlong service objects root phases (names_of chain) chain
   told chain is = told_along service objects root phases chain is.carries is.links_up
@@ -145,27 +144,27 @@ module _ (service : Service) (objects : Objects) (root : Access) (phases : Phase
   lift_aims servers caller asked (has_sealed parent name target) m lifts = subst (λ (n : Message). AimsAt caller asked n.request) (sym lifts) tt
   lift_aims servers caller asked (has_unlinked target) m lifts = subst (λ (n : Message). AimsAt caller asked n.request) (sym lifts) tt
 
-  stage_aims : (who : Who) (asked : Call) (calls : List Call) (stage : Stage) (sent : List Sent) (phase : Phase) (index number : ℕ) (what : Request)
-      → StandsOn T stage → StandsOnPath service.digest who (asked ∷ calls) stage sent → StageHasCourse (asked ∷ calls) stage → HasPhase service.digest who stage phase
+  stage_aims : (who : Who) (asked : Call) (calls : List Call) (stage : Stage) (phase : Phase) (index number : ℕ) (what : Request)
+      → StandsOn T stage → StandsOnPath (asked ∷ calls) stage → StageHasCourse (asked ∷ calls) stage → HasPhase service.digest who stage phase
       → StageMay who.caller stage → slice_get (group who stage) index ≡ Some (record { number = number; request = what }) → AimsAt who.caller asked what
-  stage_aims who asked calls compose sent phase index number what stands path course has may is = absurd cc
-  stage_aims who asked calls (round keys) sent phase index number what stands path course has may is =
+  stage_aims who asked calls compose phase index number what stands path course has may is = absurd cc
+  stage_aims who asked calls (round keys) phase index number what stands path course has may is =
       let found = look_in who keys index number what is in
       subst (λ (r : Request). AimsAt who.caller asked r) (sym found.is) tt
-  stage_aims who asked calls (act step) sent phase index number what stands path course has may is =
+  stage_aims who asked calls (act step) phase index number what stands path course has may is =
       subst (λ (m : Message). AimsAt who.caller asked m.request) (only_one (message_of who step) index number what is)
       (flow_aims who asked step stands path may course)
-  stage_aims who asked calls (winds ending first ms) sent phase index number what stands path course has may is =
+  stage_aims who asked calls (winds ending first ms) phase index number what stands path course has may is =
       subst (λ (m : Message). AimsAt who.caller asked m.request) (only_one first index number what is)
       (lift_aims who.servers who.caller asked phase first has.0)
 
   pub aims : (s : ClientState) (asked : Call) (calls : List Call) (phase : Phase) (place number : ℕ) (ask : Ask) → s.left ≡ asked ∷ calls
-      → KnowsOnly T s → KeepsToPath service.digest s → HasCourse s → HasPhase service.digest s.who s.stage phase → StageMay s.who.caller s.stage
+      → KnowsOnly T s → KeepsToPath s → HasCourse s → HasPhase service.digest s.who s.stage phase → StageMay s.who.caller s.stage
       → Waits s place number ask → AimsAt ask.caller asked ask.request
   aims s asked calls phase place number ask left knows path course has may waits =
       subst (λ (c : Caller). AimsAt c asked ask.request) (sym waits.caller)
-      (stage_aims s.who asked calls s.stage s.sent phase waits.index number ask.request
+      (stage_aims s.who asked calls s.stage phase waits.index number ask.request
       knows.stands
-      (subst (λ (cs : List Call). StandsOnPath service.digest s.who cs s.stage s.sent) left path.stands)
+      (subst (λ (cs : List Call). StandsOnPath cs s.stage) left path.stands)
       (subst (λ (cs : List Call). StageHasCourse cs s.stage) left course.course)
       has may waits.message)

@@ -1,8 +1,7 @@
 -- An Ask keeps what every legal history keeps.
-use Rattle.std.proofs.Common.{◌≡◌, ℕ, suc, Bool, true, false, cond, eqb, List, ◌∷◌, length, refl, subst}
+use Rattle.std.proofs.Common.{◌≡◌, ℕ, suc, Bool, true, false, cond, eqb, List, ◌∷◌, length, refl, subst, arith}
 use Rattle.std.proofs.lemmas.Bool.Decides.{Decides-eqb}
-use Rattle.inf_base.specs.declared.access.Access.{Access}
-use Rattle.inf_base.specs.declared.key.Key.{Key}
+use Rattle.inf_base.specs.declared.entry.Entry.{Entry}
 use Rattle.inf_duty.specs.After.{client_after}
 use Rattle.inf_duty.specs.Duty.{Duty, asked, begun}
 use Rattle.inf_duty.specs.World.{World}
@@ -26,22 +25,26 @@ module _ (world : World) (h : List Event) (number : ℕ) (ask : Ask) (kept : Kep
   abbrev now : List Event
   now = event.Ask number ask ∷ h
 
-  abbrev TrueNow : Key → Access → Type 0
+  abbrev TrueNow : Entry → Type 0
   TrueNow = IsTrue world now kept.objects kept.root kept.phases
 
-  stays_true : (k : Key) (access : Access) → IsTrue world h kept.objects kept.root kept.phases k access → TrueNow k access
-  stays_true k access is = record { told = is.told; born = born_more (event.Ask number ask) h access.born is.born }
+  stays_true : (entry : Entry) → IsTrue world h kept.objects kept.root kept.phases entry → TrueNow entry
+  stays_true entry is = record {
+    told = is.told;
+    born = born_more (event.Ask number ask) h entry.access.born is.born;
+    stamped = omega (arith, is.stamped);
+  }
 
   -- a client, but for what it asks
   record Goes (s : ClientState) : Type 0 where
     knows : KnowsOnly TrueNow s
-    path : KeepsToPath world.digest s
+    path : KeepsToPath s
     hand : InHand world.digest kept.phases s
 
   goes_asked : (s : ClientState) → Duty world.digest s number ask → Goes s → Goes (asked world.digest (suc (length h)) ask s)
   goes_asked s duty goes = record {
     knows = placed_knows TrueNow (suc (length h)) number ask (begun world.digest ask s.sent s) (begun_knows world.digest TrueNow ask s goes.knows) duty;
-    path = placed_keeps world.digest (suc (length h)) number ask (begun world.digest ask s.sent s) (begun_keeps world.digest ask s goes.path) duty;
+    path = placed_keeps (suc (length h)) number ask (begun world.digest ask s.sent s) (begun_keeps world.digest ask s goes.path) duty;
     hand = placed_in_hand world.digest kept.phases (suc (length h)) (begun world.digest ask s.sent s) (begun_in_hand world.digest kept.phases ask s goes.hand);
   }
 

@@ -8,7 +8,6 @@ use Rattle.inf_duty.specs.Duty.{Duty, asked, begun}
 use Rattle.inf_duty.specs.Start.{starting, who_in, nobody}
 use Rattle.inf_duty.specs.World.{World}
 use Rattle.inf_duty.specs.ClientState.{ClientState}
-use Rattle.inf_message.specs.Heard.{heard}
 use Rattle.inf_laws_client.proofs.AskedFacts.{begun_asks, idle_asks, placed_asks, served_asks, weaker_asks}
 use Rattle.inf_laws_client.specs.Asked.{AsksItsGroup}
 use Rattle.inf_laws_history.specs.Legal.{Legal, MayAsk}
@@ -60,7 +59,7 @@ pub asks_group_serve : (world : World) (h : List Event) (number ask_place : ℕ)
     → ((client : ℕ) → AsksItsGroup (WasAskedIn h) (client_after world client h))
     → (client : ℕ) → AsksItsGroup (WasAskedIn (event.Serve number ask_place given ∷ h)) (client_after world client (event.Serve number ask_place given ∷ h))
 asks_group_serve world h number ask_place given asks client =
-    served_asks world.digest (WasAskedIn (event.Serve number ask_place given ∷ h)) ask_place (told_reply (suc (length h)) (heard given)) (client_after world client h)
+    served_asks world.digest (WasAskedIn (event.Serve number ask_place given ∷ h)) ask_place (told_reply (suc (length h)) given) (client_after world client h)
     (group_stays h (event.Serve number ask_place given) (client_after world client h) (asks client))
 
 pub asks_group : (world : World) (h : List Event) → Legal world h → (client : ℕ) → AsksItsGroup (WasAskedIn h) (client_after world client h)

@@ -15,8 +15,7 @@ use Rattle.inf_message.specs.declared.turn.Turn.TheVariants as turn
 use Rattle.inf_duty.specs.ClientState.{ClientState, Stage, act, begins_again, compose, ended, round, winds, wound}
 use Rattle.inf_duty.specs.Flow.{clean_up}
 use Rattle.inf_duty.specs.Group.{composed}
-use Rattle.inf_duty.specs.Turn.{after_record, is_complete, recorded, served, settled, turn_at, turned}
-use Rattle.inf_message.specs.Heard.{heard}
+use Rattle.inf_duty.specs.Turn.{after_group, after_record, is_complete, learned, recorded, served, settled, told_by, told_in, turn_at, turned}
 use Rattle.inf_message.specs.Sent.{Sent, has_place, told_at}
 use Rattle.inf_message.specs.declared.ending.Ending.{Ending}
 use Rattle.inf_message.specs.declared.turn.Turn.{Turn}
@@ -28,7 +27,7 @@ use Rattle.inf_message.specs.declared.step.Message.{Message}
 use Rattle.inf_message.specs.History.{Posted, Told, asked_at, posted_ask, told_reply}
 use Rattle.inf_message.proofs.HistoryLaws.{asked_newest, asked_stays, asked_within}
 use Rattle.inf_tree.specs.Replay.{Decided}
-use Rattle.inf_duty.specs.declared.flow.Flow.{Flow}
+use Rattle.inf_resolve.specs.declared.known.Known.{Known}
 
 -- ---- a property that ends, new attempts, clean-ups and new stages keep
 
@@ -37,6 +36,7 @@ pub record Lasts (digest : List ℕ → Id) (P : ClientState → Type 0) : Type 
   pub ending : (given : Answer) (place : Option ℕ) (s : ClientState) → P s → P (ended given place s)
   pub again : (s : ClientState) → P s → P (begins_again s)
   pub going_on : (next : Stage) (s : ClientState) → P s → P (record s { stage = next; sent = [] })
+  pub learning : (known : List Known) (s : ClientState) → P s → P (record s { known = known })
 
 module _ (digest : List ℕ → Id) (P : ClientState → Type 0) (lasts : Lasts digest P) where
   pub wound_lasts : (end : Ending) (more : List Message) (s : ClientState) → P s → P (wound end more s)
@@ -44,9 +44,19 @@ module _ (digest : List ℕ → Id) (P : ClientState → Type 0) (lasts : Lasts 
   wound_lasts ending.Retries [] s now = lasts.again s now
   wound_lasts end (m ∷ ms) s now = lasts.going_on (winds end m ms) s now
 
-  pub turned_lasts : (t : Turn Flow) (s : ClientState) → P s → P (turned t s)
-  turned_lasts (turn.GoesOn next) s now = lasts.going_on (act next) s now
+  pub turned_lasts : (t : Turn Stage) (s : ClientState) → P s → P (turned t s)
+  turned_lasts (turn.GoesOn next) s now = lasts.going_on next s now
   turned_lasts (turn.WindsUp end more) s now = wound_lasts end more s now
+
+  pub learned_lasts : (stage : Stage) (s : ClientState) → P s → P (learned stage s)
+  learned_lasts compose s now = now
+  learned_lasts (round keys) s now = lasts.learning (s.known ++ told_by keys s.sent) s now
+  learned_lasts (act flow) s now = now
+  learned_lasts (winds end m ms) s now = now
+
+  pub after_group_lasts : (s : ClientState) → P s → P (after_group digest s)
+  after_group_lasts s now =
+      turned_lasts (turn_at digest (learned s.stage s) s.stage) (learned s.stage s) (learned_lasts s.stage s now)
 
   given_up_at : (s : ClientState) (stage : Stage) → P s → P (given_up_in s stage)
   given_up_at s (act flow) now = wound_lasts (ending.Answers answer.NoMemory None) (clean_up s.who flow) s now
@@ -65,49 +75,54 @@ module _ (digest : List ℕ → Id) (P : ClientState → Type 0) (lasts : Lasts 
 
 -- ---- the cases of an answer
 
+-- the client with what it keeps of an answer
+abbrev pub recorded_in : ℕ → Told → ClientState → ClientState
+recorded_in ask_place told s = recorded ask_place (told_in s told) s
+
 -- a Serve is not the client's; or its group goes on; or its group is over
 pub by_serve : (digest : List ℕ → Id) (P : ClientState → List Decided → Type 0) (ask_place : ℕ) (told : Told) (s : ClientState)
     → (has_place ask_place s.sent ≡ false → P s [])
-    → (has_place ask_place s.sent ≡ true → is_complete (recorded ask_place told s) ≡ false → P (recorded ask_place told s) [])
-    → (has_place ask_place s.sent ≡ true → is_complete (recorded ask_place told s) ≡ true
-    → P (turned (turn_at digest (recorded ask_place told s) s.stage) (recorded ask_place told s)) (decided_at_stage digest (recorded ask_place told s) s.stage))
+    → (has_place ask_place s.sent ≡ true → is_complete (recorded_in ask_place told s) ≡ false → P (recorded_in ask_place told s) [])
+    → (has_place ask_place s.sent ≡ true → is_complete (recorded_in ask_place told s) ≡ true
+    → P (after_group digest (recorded_in ask_place told s)) (decided_at_stage digest (recorded_in ask_place told s) s.stage))
     → P (served digest ask_place told s) (decided_for digest ask_place told s)
 by_serve digest P ask_place told s apart going over = by_place (has_place ask_place s.sent) refl
   where
-    by_end : has_place ask_place s.sent ≡ true → (b : Bool) → is_complete (recorded ask_place told s) ≡ b
-        → P (settled digest b (recorded ask_place told s)) (decided_if digest b (recorded ask_place told s))
+    by_end : has_place ask_place s.sent ≡ true → (b : Bool) → is_complete (recorded_in ask_place told s) ≡ b
+        → P (settled digest b (recorded_in ask_place told s)) (decided_if digest b (recorded_in ask_place told s))
     by_end here false e = going here e
     by_end here true e = over here e
 
-    by_place : (b : Bool) → has_place ask_place s.sent ≡ b → P (cond b (after_record digest (recorded ask_place told s)) s) (decided_when digest b ask_place told s)
+    by_place : (b : Bool) → has_place ask_place s.sent ≡ b → P (cond b (after_record digest (recorded_in ask_place told s)) s) (decided_when digest b ask_place told s)
     by_place false e = apart e
-    by_place true e = by_end e (is_complete (recorded ask_place told s)) refl
+    by_place true e = by_end e (is_complete (recorded_in ask_place told s)) refl
 
 -- the same of the client alone
 pub by_answer : (digest : List ℕ → Id) (P : ClientState → Type 0) (ask_place : ℕ) (told : Told) (s : ClientState)
     → (has_place ask_place s.sent ≡ false → P s)
-    → (has_place ask_place s.sent ≡ true → is_complete (recorded ask_place told s) ≡ false → P (recorded ask_place told s))
-    → (has_place ask_place s.sent ≡ true → is_complete (recorded ask_place told s) ≡ true → P (turned (turn_at digest (recorded ask_place told s) s.stage) (recorded ask_place told s)))
+    → (has_place ask_place s.sent ≡ true → is_complete (recorded_in ask_place told s) ≡ false → P (recorded_in ask_place told s))
+    → (has_place ask_place s.sent ≡ true → is_complete (recorded_in ask_place told s) ≡ true → P (after_group digest (recorded_in ask_place told s)))
     → P (served digest ask_place told s)
 by_answer digest P ask_place told s apart going over = by_serve digest (λ t made. P t) ask_place told s apart going over
 
 pub served_apart : (digest : List ℕ → Id) (ask_place : ℕ) (told : Told) (s : ClientState) → has_place ask_place s.sent ≡ false → served digest ask_place told s ≡ s
-served_apart digest ask_place told s apart = ap (λ b. cond b (after_record digest (recorded ask_place told s)) s) apart
+served_apart digest ask_place told s apart = ap (λ b. cond b (after_record digest (recorded_in ask_place told s)) s) apart
 
-pub served_within : (digest : List ℕ → Id) (ask_place : ℕ) (told : Told) (s : ClientState) → has_place ask_place s.sent ≡ true → is_complete (recorded ask_place told s) ≡ false
-    → served digest ask_place told s ≡ recorded ask_place told s
+pub served_within : (digest : List ℕ → Id) (ask_place : ℕ) (told : Told) (s : ClientState) → has_place ask_place s.sent ≡ true
+    → is_complete (recorded_in ask_place told s) ≡ false → served digest ask_place told s ≡ recorded_in ask_place told s
 served_within digest ask_place told s here going =
-    ap (λ b. cond b (after_record digest (recorded ask_place told s)) s) here ∙ ap (λ b. settled digest b (recorded ask_place told s)) going
+    ap (λ b. cond b (after_record digest (recorded_in ask_place told s)) s) here
+    ∙ ap (λ b. settled digest b (recorded_in ask_place told s)) going
 
--- ---- a property that ending.Answers and Asks keep as well
+-- ---- a property that answers and Asks keep as well
 
 module _ (digest : List ℕ → Id) (P : ClientState → Type 0) (lasts : Lasts digest P) (recording : (place : ℕ) (told : Told) (s : ClientState) → P s → P (recorded place told s)) where
   pub served_lasts : (place : ℕ) (told : Told) (s : ClientState) → P s → P (served digest place told s)
   served_lasts place told s now =
       by_answer digest P place told s
       (λ apart. now)
-      (λ here going. recording place told s now)
-      (λ here over. turned_lasts digest P lasts (turn_at digest (recorded place told s) s.stage) (recorded place told s) (recording place told s now))
+      (λ here going. recording place (told_in s told) s now)
+      (λ here over. after_group_lasts digest P lasts (recorded place (told_in s told) s) (recording place (told_in s told) s now))
 
 -- ---- whom a client calls for
 
@@ -120,6 +135,7 @@ who_lasts world client = record {
   ending = λ given place s is. is;
   again = λ s is. is;
   going_on = λ next s is. is;
+  learning = λ known s is. is;
 }
 
 starting_who : (world : World) (client : ℕ) (line : Option ClientLine) → IsWho world client (starting world client line)
@@ -133,7 +149,7 @@ who_after world (event.Ask number ask ∷ h) client =
     (begun_lasts world.digest (IsWho world client) (who_lasts world client) ask (client_after world client h).sent (client_after world client h) (who_after world h client))
     (who_after world h client)
 who_after world (event.Serve number ask_place given ∷ h) client =
-    served_lasts world.digest (IsWho world client) (who_lasts world client) (λ place told s is. is) ask_place (told_reply (suc (length h)) (heard given))
+    served_lasts world.digest (IsWho world client) (who_lasts world client) (λ place told s is. is) ask_place (told_reply (suc (length h)) given)
     (client_after world client h) (who_after world h client)
 
 -- ---- the Asks that a client waits for are its own
@@ -159,6 +175,7 @@ waits_last digest place P = record {
   ending = λ given at s waits here. absurd cc;
   again = λ s waits here. absurd cc;
   going_on = λ next s waits here. absurd cc;
+  learning = λ known s waits. waits;
 }
 
 place_stays : (place : ℕ) (told : Told) (x : Sent) → (told_at place told x).place ≡ x.place
@@ -215,5 +232,5 @@ waits_for_own world client place (event.Ask number ask ∷ h) here =
 waits_for_own world client place (event.Serve number ask_place given ∷ h) here =
     served_lasts world.digest (WaitsBy place (IsAskedBy client place (event.Serve number ask_place given ∷ h))) (waits_last world.digest place _)
     (λ at told s waits there. waits (sym (has_place_stays place at told s.sent) ∙ there))
-    ask_place (told_reply (suc (length h)) (heard given)) (client_after world client h)
+    ask_place (told_reply (suc (length h)) given) (client_after world client h)
     (λ before. asked_by_stays client place _ h (waits_for_own world client place h before)) here

@@ -8,7 +8,6 @@ use Rattle.inf_duty.specs.Start.{starting}
 use Rattle.inf_duty.specs.World.{World}
 use Rattle.inf_duty.specs.ClientState.{ClientState}
 use Rattle.inf_duty.specs.Turn.{served}
-use Rattle.inf_message.specs.Heard.{heard}
 use Rattle.inf_message.specs.Sent.{has_place}
 use Rattle.inf_message.specs.declared.ask.Ask.{Ask}
 use Rattle.inf_message.specs.declared.event.Event.{Event}
@@ -38,13 +37,13 @@ waits_not world h client ask_place posted made unlike =
 pub others_stay : (world : World) (h : List Event) (client number ask_place : ℕ) (given : Reply) (posted : Posted) → asked_at ask_place h ≡ Some posted
     → posted.ask.from.client ≢ client → client_after world client (event.Serve number ask_place given ∷ h) ≡ client_after world client h
 others_stay world h client number ask_place given posted made unlike =
-    served_apart world.digest ask_place (told_reply (suc (length h)) (heard given)) (client_after world client h)
+    served_apart world.digest ask_place (told_reply (suc (length h)) given) (client_after world client h)
     (waits_not world h client ask_place posted made unlike)
 
 pub idle_stays : (world : World) (h : List Event) (client number ask_place : ℕ) (given : Reply) → (client_after world client h).sent ≡ []
     → client_after world client (event.Serve number ask_place given ∷ h) ≡ client_after world client h
 idle_stays world h client number ask_place given none =
-    served_apart world.digest ask_place (told_reply (suc (length h)) (heard given)) (client_after world client h) (ap (has_place ask_place) none)
+    served_apart world.digest ask_place (told_reply (suc (length h)) given) (client_after world client h) (ap (has_place ask_place) none)
 
 -- ---- places
 
@@ -68,6 +67,7 @@ counts_last digest most = record {
   ending = λ given place s within. omega arith;
   again = λ s within. within;
   going_on = λ next s within. within;
+  learning = λ known s within. within;
 }
 
 asked_counts : (digest : List ℕ → Id) (most place : ℕ) (ask : Ask) (s : ClientState) → Counts most s → Counts (suc most) (asked digest place ask s)
@@ -90,6 +90,6 @@ messages_within world (event.Ask number ask ∷ h) client =
     (asked_counts world.digest (length h) (suc (length h)) ask (client_after world client h) (messages_within world h client))
     (one_more (length h) (client_after world client h) (messages_within world h client))
 messages_within world (event.Serve number ask_place given ∷ h) client =
-    one_more (length h) (served world.digest ask_place (told_reply (suc (length h)) (heard given)) (client_after world client h))
-    (served_lasts world.digest (Counts (length h)) (counts_last world.digest (length h)) (λ place told s within. within) ask_place (told_reply (suc (length h)) (heard given))
+    one_more (length h) (served world.digest ask_place (told_reply (suc (length h)) given) (client_after world client h))
+    (served_lasts world.digest (Counts (length h)) (counts_last world.digest (length h)) (λ place told s within. within) ask_place (told_reply (suc (length h)) given)
     (client_after world client h) (messages_within world h client))

@@ -5,6 +5,7 @@ use Rattle.std.proofs.lemmas.List.Elements.{filter-append}
 use Rattle.inf_base.specs.declared.answer.Answer.{Answer}
 use Rattle.inf_base.specs.declared.answer.Answer.TheVariants as answer
 use Rattle.inf_base.specs.declared.call.Call.{Call}
+use Rattle.inf_base.specs.declared.key.LookKey.{LookKey}
 use Rattle.inf_base.specs.declared.setup.ClientLine.{ClientLine}
 use Rattle.inf_duty.specs.Duty.{asked, begun, given_up_in}
 use Rattle.inf_duty.specs.Outcome.{Agrees, all_given_up, is_place, results_of, so_far, stands_at, unanswered}
@@ -14,10 +15,12 @@ use Rattle.inf_message.specs.declared.ending.Ending.TheVariants as ending
 use Rattle.inf_message.specs.declared.turn.Turn.TheVariants as turn
 use Rattle.inf_duty.specs.ClientState.{ClientState, Stage, act, compose, ended, one_if, result_of, round, winds, wound}
 use Rattle.inf_duty.specs.Flow.{clean_up}
-use Rattle.inf_duty.specs.Group.{Course, composed_stage, keys_of, next_course}
-use Rattle.inf_duty.specs.Turn.{act_turn, after_round, recorded, served, turn_at, turned}
+use Rattle.inf_duty.specs.Group.{composed_stage}
+use Rattle.inf_duty.specs.declared.flow.Flow.{Flow}
+use Rattle.inf_duty.specs.Course.{next_course}
+use Rattle.inf_duty.specs.Turn.{act_turn, after_group, learned, recorded, round_turn, served, told_by, told_in, told_of, turn_at, turned}
 use Rattle.inf_message.specs.Sent.{Sent, told_at}
-use Rattle.inf_message.specs.Who.{Who}
+use Rattle.inf_message.specs.Turn.{turn_as}
 use Rattle.inf_message.specs.declared.ending.Ending.{Ending}
 use Rattle.inf_message.specs.declared.turn.Turn.{Turn}
 use Rattle.inf_message.specs.declared.ask.Ask.{Ask}
@@ -29,8 +32,8 @@ use Rattle.inf_duty.proofs.BegunKept.{IsKept, kept_all_given_up, kept_begun}
 use Rattle.inf_laws_history.proofs.ClientSteps.{by_answer}
 use Rattle.inf_laws_history.proofs.Open.{counted_same}
 use Rattle.inf_laws_history.proofs.ResultFacts.{none_behind}
-use Rattle.inf_laws_history.proofs.Turns.{IsOfRound, IsThere, TurnOf, act_turn_there, round_turn_is, serve_is, told_there, weaker_turn}
-use Rattle.inf_duty.specs.declared.flow.Flow.{Flow}
+use Rattle.inf_laws_history.proofs.Turns.{IsThere, TurnOf, act_turn_there, by_next, by_round, kept_place, known_there, serve_is, told_there, way_there}
+use Rattle.inf_resolve.specs.declared.known.Known.{Known}
 
 -- how many of these results stand at the place
 abbrev pub count_at : ℕ → List CallResult → ℕ
@@ -44,9 +47,11 @@ abbrev stage_count : ℕ → Stage → ℕ
 stage_count place (winds end m ms) = ending_count place end
 stage_count place other_stage = 0
 
--- how often a client holds a place: by calls that ended, by the one that winds up, or by its present group
+-- how often a client holds a place: by calls that ended, by the one that winds up, by its present group, or by what its
+-- attempt was told before
 abbrev pub held_at : ℕ → ClientState → ℕ
-held_at place s = count_at place s.results + stage_count place s.stage + one_if (told_there place s.sent)
+held_at place s =
+    count_at place s.results + stage_count place s.stage + one_if (told_there place s.sent) + one_if (known_there place s.known)
 
 pub count_both : (place : ℕ) (first second : List CallResult) → count_at place (first ++ second) ≡ count_at place first + count_at place second
 count_both place first second = ap length (filter-append (stands_at place) first second) ∙ length-append (filter (stands_at place) first) _
@@ -66,7 +71,8 @@ module _ (digest : List ℕ → Id) (place : ℕ) where
 
   -- ---- after a group
 
-  wound_holds : (end : Ending) (more : List Message) (s : ClientState) → held_at place (wound end more s) ≡ count_at place s.results + ending_count place end
+  wound_holds : (end : Ending) (more : List Message) (s : ClientState)
+      → held_at place (wound end more s) ≤ count_at place s.results + ending_count place end + one_if (known_there place s.known)
   wound_holds (ending.Answers given at) [] s = omega (arith, ended_count given at s)
   wound_holds ending.Retries [] s = omega arith
   wound_holds (ending.Answers given at) (m ∷ ms) s = omega arith
@@ -82,38 +88,85 @@ module _ (digest : List ℕ → Id) (place : ℕ) where
           let here : told_there place sent ≡ true = subst (λ p. told_there p sent ≡ true) (sym same) there in
           omega (arith, ap one_if here)
 
-  turned_holds : (t : Turn Flow) (s : ClientState) → TurnOf (IsThere s.sent) t → held_at place (turned t s) ≤ count_at place s.results + one_if (told_there place s.sent)
-  turned_holds (turn.GoesOn step) s is = omega arith
-  turned_holds (turn.WindsUp (ending.Answers given (Some at)) more) s is =
-      omega (arith, wound_holds (ending.Answers given (Some at)) more s, there_counts at s.sent is)
-  turned_holds (turn.WindsUp (ending.Answers given None) more) s is = omega (arith, wound_holds (ending.Answers given None) more s)
-  turned_holds (turn.WindsUp ending.Retries more) s is = omega (arith, wound_holds ending.Retries more s)
+  known_counts : (at : ℕ) (known : List Known) → known_there at known ≡ true → one_if (eqb place at) ≤ one_if (known_there place known)
+  known_counts at known there = by_test (eqb place at) refl
+    where
+      by_test : (b : Bool) → eqb place at ≡ b → one_if b ≤ one_if (known_there place known)
+      by_test false e = omega arith
+      by_test true e =
+          let same : place ≡ at = counted_same place at e in
+          let here : known_there place known ≡ true = subst (λ p. known_there p known ≡ true) (sym same) there in
+          omega (arith, ap one_if here)
 
-  stage_holds : (stage : Stage) (s : ClientState) → held_at place (turned (turn_at digest s stage) s) ≤ count_at place s.results + stage_count place stage + one_if (told_there place s.sent)
+  either : (b c : Bool) → one_if (b || c) ≤ one_if b + one_if c
+  either true c = omega arith
+  either false c = omega arith
+
+  -- what is learned was known before, or told to the round
+  both_known : (first second : List Known) → one_if (known_there place (first ++ second)) ≤ one_if (known_there place first) + one_if (known_there place second)
+  both_known [] second = omega arith
+  both_known (k ∷ first) second = by_test (eqb place k.place) (both_known first second)
+    where
+      by_test : (b : Bool) → one_if (known_there place (first ++ second)) ≤ one_if (known_there place first) + one_if (known_there place second)
+          → one_if (b || known_there place (first ++ second)) ≤ one_if (b || known_there place first) + one_if (known_there place second)
+      by_test true few = omega arith
+      by_test false few = few
+
+  one_told : (k : LookKey) (told : Option Told) (rest : List Known) (xs : List Sent) → one_if (known_there place rest) ≤ one_if (told_there place xs)
+      → one_if (known_there place (told_of k told ++ rest)) ≤ one_if (serve_is place told || told_there place xs)
+  one_told k None rest xs few = few
+  one_told k (Some told) rest xs few = by_test (eqb place told.serve_place)
+    where
+      by_test : (b : Bool) → one_if (b || known_there place rest) ≤ one_if (b || told_there place xs)
+      by_test true = omega arith
+      by_test false = few
+
+  all_told : (keys : List LookKey) (sent : List Sent) → one_if (known_there place (told_by keys sent)) ≤ one_if (told_there place sent)
+  all_told [] sent = omega arith
+  all_told (k ∷ keys) [] = omega arith
+  all_told (k ∷ keys) (x ∷ xs) = one_told k x.told (told_by keys xs) xs (all_told keys xs)
+
+  -- what a group's turn leaves: no more than was held before
+  abbrev Few : ClientState → ClientState → Type 0
+  Few s t = held_at place t ≤ count_at place s.results + one_if (told_there place s.sent) + one_if (known_there place s.known)
+
+  flow_holds : (t : Turn Flow) (s : ClientState) → TurnOf (IsThere s.sent) t → Few s (turned (turn_as act t) s)
+  flow_holds (turn.GoesOn step) s is = omega arith
+  flow_holds (turn.WindsUp (ending.Answers given (Some at)) more) s is =
+      omega (arith, wound_holds (ending.Answers given (Some at)) more s, there_counts at s.sent is)
+  flow_holds (turn.WindsUp (ending.Answers given None) more) s is = omega (arith, wound_holds (ending.Answers given None) more s)
+  flow_holds (turn.WindsUp ending.Retries more) s is = omega (arith, wound_holds ending.Retries more s)
+
+  round_holds : (keys : List LookKey) (s : ClientState) → Few s (turned (round_turn digest (learned (round keys) s)) (learned (round keys) s))
+  round_holds keys s =
+      let t : ClientState = learned (round keys) s in
+      let few : one_if (known_there place t.known) ≤ one_if (known_there place s.known) + one_if (told_there place s.sent) =
+      omega (arith, both_known s.known (told_by keys s.sent), all_told keys s.sent)
+      in
+      by_round (λ x. Few s (turned x t)) digest t (omega (arith, few)) (omega arith) (omega (arith, ended_count answer.NoMemory None t))
+      (λ by at way. omega (arith, few, ended_count (answer.Again by) (Some at) t, known_counts at t.known (way_there t.known by at way)))
+
+  stage_holds : (stage : Stage) (s : ClientState) → held_at place (turned (turn_at digest (learned stage s) stage) (learned stage s))
+      ≤ count_at place s.results + stage_count place stage + one_if (told_there place s.sent) + one_if (known_there place s.known)
   stage_holds compose s = omega arith
   stage_holds (round keys) s =
-      let fewer : held_at place (turned (turn_at digest s (round keys)) s) ≤ count_at place s.results + one_if (told_there place s.sent) =
-      turned_holds (after_round (next_course s.left) s.sent) s
-      (weaker_turn (IsOfRound s.sent) (IsThere s.sent) (λ given at is. is.there) _ (round_turn_is (next_course s.left) s.sent))
-      in
-      omega (arith, fewer)
+      let few : Few s (turned (turn_at digest (learned (round keys) s) (round keys)) (learned (round keys) s)) = round_holds keys s in
+      omega (arith, few)
   stage_holds (act flow) s =
-      let fewer : held_at place (turned (turn_at digest s (act flow)) s) ≤ count_at place s.results + one_if (told_there place s.sent) =
-      turned_holds (act_turn digest s.who flow s.sent) s (act_turn_there digest s.who flow s.sent)
+      let few : Few s (turned (turn_at digest s (act flow)) s) =
+      flow_holds (act_turn digest s.who flow s.sent) s (act_turn_there digest s.who flow s.sent)
       in
-      omega (arith, fewer)
+      omega (arith, few)
   stage_holds (winds end m ms) s =
-      let same : held_at place (turned (turn_at digest s (winds end m ms)) s) ≡ count_at place s.results + ending_count place end = wound_holds end ms s in
-      omega (arith, same)
+      let few : held_at place (turned (turn_at digest s (winds end m ms)) s)
+      ≤ count_at place s.results + ending_count place end + one_if (known_there place s.known) = wound_holds end ms s in
+      omega (arith, few)
 
   -- ---- before a group
 
-  keys_count : (who : Who) (course : Option Course) → stage_count place (keys_of digest who course) ≡ 0
-  keys_count who None = refl
-  keys_count who (Some course) = refl
-
   composed_count : (stage : Stage) (s : ClientState) → stage_count place (composed_stage digest s stage) ≡ stage_count place stage
-  composed_count compose s = keys_count s.who (next_course s.left)
+  composed_count compose s =
+      by_next (λ (next : Stage). stage_count place next ≡ 0) digest s.who s.known (next_course s.left) refl (λ keys. refl) (λ course old new leads. refl)
   composed_count (round keys) s = refl
   composed_count (act flow) s = refl
   composed_count (winds end m ms) s = refl
@@ -183,29 +236,30 @@ module _ (digest : List ℕ → Id) (place : ℕ) where
     all_same apart [] = refl
     all_same apart (x ∷ sent) = ap₂ (λ b c. b || c) (told_same apart x.place x.told (eqb x.place ask_place)) (all_same apart sent)
 
-    -- a Serve makes a client hold no more of another place
-    pub served_holds : (s : ClientState) → place ≢ told.serve_place → held_at place (served digest ask_place told s) ≤ held_at place s
-    served_holds s apart =
-        let now : ClientState = recorded ask_place told s in
-        let same : one_if (told_there place now.sent) ≡ one_if (told_there place s.sent) = ap one_if (all_same apart s.sent) in
-        by_answer digest (λ t. held_at place t ≤ held_at place s) ask_place told s
-        (λ e. omega arith)
-        (λ here going. omega (arith, same))
-        (λ here complete. omega (arith, stage_holds s.stage now, same))
+  one_at_most : (b : Bool) → one_if b ≤ 1
+  one_at_most true = omega arith
+  one_at_most false = omega arith
 
-    one_at_most : (b : Bool) → one_if b ≤ 1
-    one_at_most true = omega arith
-    one_at_most false = omega arith
+  -- a Serve makes a client hold no more of another place
+  pub served_holds : (ask_place : ℕ) (told : Told) (s : ClientState) → place ≢ told.serve_place → held_at place (served digest ask_place told s) ≤ held_at place s
+  served_holds ask_place told s apart =
+      let now : ClientState = recorded ask_place (told_in s told) s in
+      let same : one_if (told_there place now.sent) ≡ one_if (told_there place s.sent) =
+      ap one_if (all_same ask_place (told_in s told) (λ e. apart (e ∙ kept_place s told)) s.sent) in
+      by_answer digest (λ t. held_at place t ≤ held_at place s) ask_place told s
+      (λ e. omega arith)
+      (λ here going. let few : held_at place now ≤ held_at place s = omega (arith, same) in few)
+      (λ here complete. let few : held_at place (after_group digest now) ≤ held_at place s = omega (arith, stage_holds s.stage now, same) in few)
 
-    -- and its own place once, where it was not held before
-    pub served_holds_one : (s : ClientState) → held_at place s ≡ 0 → held_at place (served digest ask_place told s) ≤ 1
-    served_holds_one s none =
-        let now : ClientState = recorded ask_place told s in
-        let one : one_if (told_there place now.sent) ≤ 1 = one_at_most (told_there place now.sent) in
-        by_answer digest (λ t. held_at place t ≤ 1) ask_place told s
-        (λ e. omega (arith, none))
-        (λ here going. omega (arith, none, one))
-        (λ here complete. omega (arith, stage_holds s.stage now, none, one))
+  -- and its own place once, where it was not held before
+  pub served_holds_one : (ask_place : ℕ) (told : Told) (s : ClientState) → held_at place s ≡ 0 → held_at place (served digest ask_place told s) ≤ 1
+  served_holds_one ask_place told s none =
+      let now : ClientState = recorded ask_place (told_in s told) s in
+      let one : one_if (told_there place now.sent) ≤ 1 = one_at_most (told_there place now.sent) in
+      by_answer digest (λ t. held_at place t ≤ 1) ask_place told s
+      (λ e. omega (arith, none))
+      (λ here going. let few : held_at place now ≤ 1 = omega (arith, none, one) in few)
+      (λ here complete. let few : held_at place (after_group digest now) ≤ 1 = omega (arith, stage_holds s.stage now, none, one) in few)
 
 pub starting_holds : (world : World) (client place : ℕ) (line : Option ClientLine) → held_at place (starting world client line) ≡ 0
 starting_holds world client place None = refl

@@ -89,9 +89,9 @@ module _ (opens : OpeningStands) (roots : RootOpens) (world : World) where
   starts_knowing client None = idle_knows (IsTrue world [] objects root none_in_hand) (who_in world client nobody) []
   starts_knowing client (Some line) = idle_knows (IsTrue world [] objects root none_in_hand) (who_in world client line.caller) line.calls
 
-  starts_on_path : (client : ℕ) (line : Option ClientLine) → KeepsToPath world.digest (starting world client line)
-  starts_on_path client None = idle_keeps world.digest (who_in world client nobody) []
-  starts_on_path client (Some line) = idle_keeps world.digest (who_in world client line.caller) line.calls
+  starts_on_path : (client : ℕ) (line : Option ClientLine) → KeepsToPath (starting world client line)
+  starts_on_path client None = idle_keeps (who_in world client nobody) []
+  starts_on_path client (Some line) = idle_keeps (who_in world client line.caller) line.calls
 
   starts_in_hand : (client : ℕ) (line : Option ClientLine) → InHand world.digest none_in_hand (starting world client line)
   starts_in_hand client None = idle_in_hand world.digest none_in_hand (who_in world client nobody) [] (λ number. refl)

@@ -10,7 +10,6 @@ pub mod Begun
 pub mod BehindEntries
 pub mod BirthFacts
 pub mod BlockedRequests
-pub mod BusyRounds
 pub mod ClashCauses
 pub mod ClientSteps
 pub mod ContentBirths
@@ -23,7 +22,6 @@ pub mod HeldPlaces
 pub mod HistoryFacts
 pub mod LinkBirths
 pub mod LinkReplies
-pub mod NextAsks
 pub mod Numbered
 pub mod Open
 pub mod Ordered

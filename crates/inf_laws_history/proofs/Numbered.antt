@@ -17,23 +17,24 @@ use Rattle.inf_message.specs.declared.ending.Ending.TheVariants as ending
 use Rattle.inf_message.specs.declared.turn.Turn.TheVariants as turn
 use Rattle.inf_duty.specs.ClientState.{ClientState, Stage, act, call_ref, compose, ended, rest_of, round, winds, wound}
 use Rattle.inf_duty.specs.Flow.{clean_up}
-use Rattle.inf_duty.specs.Group.{Course, composed_stage, keys_of, next_course}
-use Rattle.inf_duty.specs.Turn.{recorded, served, turn_at, turned}
-use Rattle.inf_message.specs.Heard.{heard}
+use Rattle.inf_duty.specs.Group.{composed_stage, next_stage}
+use Rattle.inf_duty.specs.Course.{next_course}
+use Rattle.inf_duty.specs.Turn.{learned, served, turn_at, turned}
 use Rattle.inf_message.specs.Who.{Who}
 use Rattle.inf_message.specs.declared.ending.Ending.{Ending}
 use Rattle.inf_message.specs.declared.turn.Turn.{Turn}
 use Rattle.inf_laws_history.specs.Counted.{IsOfScript}
-use Rattle.inf_laws_history.proofs.ClientSteps.{by_answer}
+use Rattle.inf_laws_history.proofs.ClientSteps.{by_answer, recorded_in}
 use Rattle.inf_laws_history.proofs.GivingUp.{IsKept, kept_all_given_up, kept_begun}
 use Rattle.inf_laws_history.proofs.ResultFacts.{calls_of}
+use Rattle.inf_laws_history.proofs.Turns.{by_next}
 use Rattle.inf_message.specs.declared.ask.Ask.{Ask}
 use Rattle.inf_message.specs.declared.call_result.CallResult.{CallResult}
 use Rattle.inf_message.specs.declared.event.Event.{Event}
 use Rattle.inf_message.specs.declared.event.Event.TheVariants as event
 use Rattle.inf_message.specs.declared.step.Message.{Message}
 use Rattle.inf_message.specs.History.{Told, told_reply}
-use Rattle.inf_duty.specs.declared.flow.Flow.{Flow}
+use Rattle.inf_resolve.specs.declared.known.Known.{Known}
 
 -- ---- one client
 
@@ -86,14 +87,17 @@ module _ (digest : List ℕ → Id) (client total : ℕ) where
   any_under left (act flow) some = some
   any_under left (winds end m ms) some = some
 
-  turned_is : (t : Turn Flow) (s : ClientState) → 0 < length s.left → Is s → Is (turned t s)
+  turned_is : (t : Turn Stage) (s : ClientState) → 0 < length s.left → Is s → Is (turned t s)
   turned_is (turn.GoesOn next) s some is =
-      record { own = is.own; counted = is.counted; all = is.all; under = any_under s.left (act next) some; results = is.results }
+      record { own = is.own; counted = is.counted; all = is.all; under = any_under s.left next some; results = is.results }
   turned_is (turn.WindsUp end more) s some is = wound_is end more s some is
 
-  over_is : (s : ClientState) (stage : Stage) → IsUnder s.left stage → Is s → Is (turned (turn_at digest s stage) s)
+  over_is : (s : ClientState) (stage : Stage) → IsUnder s.left stage → Is s → Is (turned (turn_at digest (learned stage s) stage) (learned stage s))
   over_is s compose under is = record { own = is.own; counted = is.counted; all = is.all; under = tt; results = is.results }
-  over_is s (round keys) under is = turned_is (turn_at digest s (round keys)) s under is
+  over_is s (round keys) under is =
+      let t : ClientState = learned (round keys) s in
+      turned_is (turn_at digest t (round keys)) t under
+      (record { own = is.own; counted = is.counted; all = is.all; under = is.under; results = is.results })
   over_is s (act flow) under is = turned_is (turn_at digest s (act flow)) s under is
   over_is s (winds end m ms) under is = turned_is (turn_at digest s (winds end m ms)) s under is
 
@@ -103,16 +107,13 @@ module _ (digest : List ℕ → Id) (client total : ℕ) where
   given_up_is s compose some is = ended_is answer.NoMemory None s some is
   given_up_is s (round keys) some is = ended_is answer.NoMemory None s some is
 
-  keys_under : (left : List Call) (who : Who) → IsUnder left (keys_of digest who (next_course left))
-  keys_under [] who = tt
-  keys_under (call ∷ calls) who = by (next_course (call ∷ calls))
-    where
-      by : (course : Option Course) → IsUnder (call ∷ calls) (keys_of digest who course)
-      by None = tt
-      by (Some course) = omega arith
+  next_under : (left : List Call) (who : Who) (known : List Known) → IsUnder left (next_stage digest who known (next_course left))
+  next_under [] who known = tt
+  next_under (call ∷ calls) who known =
+      by_next (IsUnder (call ∷ calls)) digest who known (next_course (call ∷ calls)) tt (λ keys. omega arith) (λ course old new leads. omega arith)
 
   composed_under : (s : ClientState) (stage : Stage) → IsUnder s.left stage → IsUnder s.left (composed_stage digest s stage)
-  composed_under s compose under = keys_under s.left s.who
+  composed_under s compose under = next_under s.left s.who s.known
   composed_under s (round keys) under = under
   composed_under s (act flow) under = under
   composed_under s (winds end m ms) under = under
@@ -134,7 +135,7 @@ module _ (digest : List ℕ → Id) (client total : ℕ) where
       (λ apart. is)
       (λ here going. record { own = is.own; counted = is.counted; all = is.all; under = is.under; results = is.results })
       (λ here over.
-      over_is (recorded place told s) s.stage is.under
+      over_is (recorded_in place told s) s.stage is.under
       (record { own = is.own; counted = is.counted; all = is.all; under = is.under; results = is.results }))
 
   pub all_given_up_is : (s : ClientState) → Is s → Is (all_given_up s.left s)
@@ -155,7 +156,7 @@ numbered_after world client (event.Ask number ask ∷ h) =
     (asked_is world.digest client (total_of world client) (suc (length h)) ask (client_after world client h) (numbered_after world client h))
     (numbered_after world client h)
 numbered_after world client (event.Serve number ask_place given ∷ h) =
-    served_is world.digest client (total_of world client) ask_place (told_reply (suc (length h)) (heard given)) (client_after world client h) (numbered_after world client h)
+    served_is world.digest client (total_of world client) ask_place (told_reply (suc (length h)) given) (client_after world client h) (numbered_after world client h)
 
 -- ---- its results
 

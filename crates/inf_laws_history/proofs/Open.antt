@@ -12,7 +12,7 @@ use Rattle.inf_message.specs.declared.ending.Ending.TheVariants as ending
 use Rattle.inf_message.specs.declared.turn.Turn.TheVariants as turn
 use Rattle.inf_duty.specs.ClientState.{ClientState, Stage, act, compose, round, winds, wound}
 use Rattle.inf_duty.specs.Group.{group}
-use Rattle.inf_duty.specs.Turn.{is_complete, recorded, served, turned}
+use Rattle.inf_duty.specs.Turn.{is_complete, learned, recorded, served, told_in, turned}
 use Rattle.inf_message.specs.Sent.{Sent, has_place, is_told, told_at}
 use Rattle.inf_message.specs.Who.{Who}
 use Rattle.inf_message.specs.declared.ending.Ending.{Ending}
@@ -20,9 +20,8 @@ use Rattle.inf_message.specs.declared.turn.Turn.{Turn}
 use Rattle.inf_message.specs.declared.ask.Ask.{Ask}
 use Rattle.inf_message.specs.declared.step.Message.{Message}
 use Rattle.inf_message.specs.History.{Told, or_told}
-use Rattle.inf_laws_history.proofs.ClientSteps.{by_answer}
+use Rattle.inf_laws_history.proofs.ClientSteps.{by_answer, recorded_in}
 use Rattle.inf_laws_history.proofs.Turns.{first_told}
-use Rattle.inf_duty.specs.declared.flow.Flow.{Flow}
 
 -- the one message of a flow is not answered yet
 abbrev pub IsOpenAt : Stage → List Sent → Type 0
@@ -52,8 +51,8 @@ wound_open (ending.Answers given place) [] s = record { waits = tt }
 wound_open ending.Retries [] s = record { waits = tt }
 wound_open end (m ∷ ms) s = record { waits = tt }
 
-turned_open : (t : Turn Flow) (s : ClientState) → IsOpen (turned t s)
-turned_open (turn.GoesOn next) s = record { waits = none_sent (act next) }
+turned_open : (t : Turn Stage) (s : ClientState) → IsOpen (turned t s)
+turned_open (turn.GoesOn next) s = record { waits = none_sent next }
 turned_open (turn.WindsUp end more) s = wound_open end more s
 
 newly_sent : (sent : List Sent) (new : Sent) → new.told ≡ None → length (sent ++ new ∷ []) ≡ 1 → first_told (sent ++ new ∷ []) ≡ None
@@ -140,5 +139,5 @@ pub served_open : (digest : List ℕ → Id) (place : ℕ) (told : Told) (s : Cl
 served_open digest place told s is =
     by_answer digest IsOpen place told s
     (λ apart. is)
-    (λ here going. record { waits = still_open place told s.who s.stage s.sent here going })
-    (λ here complete. turned_open _ (recorded place told s))
+    (λ here going. record { waits = still_open place (told_in s told) s.who s.stage s.sent here going })
+    (λ here complete. turned_open _ (learned s.stage (recorded_in place told s)))

@@ -15,8 +15,7 @@ use Rattle.inf_duty.specs.World.{World}
 use Rattle.inf_message.specs.declared.ending.Ending.TheVariants as ending
 use Rattle.inf_message.specs.declared.turn.Turn.TheVariants as turn
 use Rattle.inf_duty.specs.ClientState.{ClientState, Stage, act, compose, round, winds}
-use Rattle.inf_duty.specs.Turn.{recorded, turn_at}
-use Rattle.inf_message.specs.Heard.{heard}
+use Rattle.inf_duty.specs.Turn.{learned, turn_at}
 use Rattle.inf_message.specs.Sent.{has_place}
 use Rattle.inf_message.specs.declared.turn.Turn.{Turn}
 use Rattle.inf_laws_history.specs.Decisions.{decided_at, decided_at_stage, decided_by_turn, decided_for, decided_in, decided_when, is_of_tree, of_tree}
@@ -32,12 +31,11 @@ use Rattle.inf_message.proofs.HistoryLaws.{itself, other}
 use Rattle.inf_tree.specs.Replay.{Decided, Replays}
 use Rattle.inf_tree.specs.Tree.{opening_tree}
 use Rattle.inf_duty.proofs.BegunKept.{if_both}
-use Rattle.inf_laws_history.proofs.ClientSteps.{IsAskedBy, by_serve, waits_for_own}
+use Rattle.inf_laws_history.proofs.ClientSteps.{IsAskedBy, by_serve, recorded_in, waits_for_own}
 use Rattle.inf_laws_history.proofs.DrivenFacts.{waits_not}
 use Rattle.inf_laws_history.proofs.Open.{IsOpen, asked_open, counted_same, served_open, starting_open}
 use Rattle.inf_laws_history.proofs.ResultFacts.{Reads, agrees_at, asked_comes, asked_reads, calls_of, comes_to, only_at, served_comes, served_reads, starting_reads, tree_at, tree_at_both}
 use Rattle.inf_laws_history.proofs.TreeReplays.{replays_of_tree}
-use Rattle.inf_duty.specs.declared.flow.Flow.{Flow}
 
 -- ---- each client after every history
 
@@ -48,7 +46,7 @@ reads world client (event.Ask number ask ∷ h) =
     (asked_reads world client _ (suc (length h)) ask (client_after world client h) (reads world client h))
     (reads world client h)
 reads world client (event.Serve number ask_place given ∷ h) =
-    served_reads world client _ ask_place (told_reply (suc (length h)) (heard given)) (client_after world client h) (reads world client h)
+    served_reads world client _ ask_place (told_reply (suc (length h)) given) (client_after world client h) (reads world client h)
 
 pub is_open : (world : World) (client : ℕ) (h : List Event) → IsOpen (client_after world client h)
 is_open world client [] = starting_open world client (slice_get world.setup.clients client)
@@ -57,7 +55,7 @@ is_open world client (event.Ask number ask ∷ h) =
     (asked_open world.digest (suc (length h)) ask (client_after world client h))
     (is_open world client h)
 is_open world client (event.Serve number ask_place given ∷ h) =
-    served_open world.digest ask_place (told_reply (suc (length h)) (heard given)) (client_after world client h) (is_open world client h)
+    served_open world.digest ask_place (told_reply (suc (length h)) given) (client_after world client h) (is_open world client h)
 
 -- where no Ask stands, nobody waits for one
 pub none_waits : (world : World) (client place : ℕ) (h : List Event) → asked_at place h ≡ None → has_place place (client_after world client h).sent ≡ false
@@ -82,9 +80,9 @@ ask_comes place world number ask h c =
 
 serve_comes : (place : ℕ) (world : World) (number ask_place : ℕ) (given : Reply) (h : List Event) (c : ℕ)
     → Comes world place (event.Serve number ask_place given ∷ h) c
-    ≡ Comes world place h c ++ only_at place (suc (length h)) (decided_for world.digest ask_place (told_reply (suc (length h)) (heard given)) (client_after world c h))
+    ≡ Comes world place h c ++ only_at place (suc (length h)) (decided_for world.digest ask_place (told_reply (suc (length h)) given) (client_after world c h))
 serve_comes place world number ask_place given h c =
-    served_comes world c _ refl place ask_place (told_reply (suc (length h)) (heard given)) (client_after world c h) (is_open world c h) (reads world c h)
+    served_comes world c _ refl place ask_place (told_reply (suc (length h)) given) (client_after world c h) (is_open world c h) (reads world c h)
 
 apart_only : (place at : ℕ) (these : List Decided) → place ≢ at → only_at place at these ≡ []
 apart_only place at these apart = ap (λ b. cond b these []) (other place at apart)
@@ -146,7 +144,7 @@ decided_from world h ask_place told client (line ∷ lines) = decided_for world.
 
 serve_decides : (world : World) (number ask_place : ℕ) (given : Reply) (h : List Event) (client : ℕ) (lines : List ClientLine)
     → all_come world (suc (length h)) (event.Serve number ask_place given ∷ h) client lines
-    ≡ decided_from world h ask_place (told_reply (suc (length h)) (heard given)) client lines
+    ≡ decided_from world h ask_place (told_reply (suc (length h)) given) client lines
 serve_decides world number ask_place given h client [] = refl
 serve_decides world number ask_place given h client (line ∷ lines) =
     ap₂ (λ a b. a ++ b)
@@ -160,7 +158,7 @@ serve_decides world number ask_place given h client (line ∷ lines) =
 apart_decides : (digest : List ℕ → Id) (ask_place : ℕ) (told : Told) (s : ClientState) → has_place ask_place s.sent ≡ false → decided_for digest ask_place told s ≡ []
 apart_decides digest ask_place told s apart = ap (λ b. decided_when digest b ask_place told s) apart
 
-no_call : (s : ClientState) (t : Turn Flow) → s.left ≡ [] → decided_by_turn s t ≡ []
+no_call : (s : ClientState) (t : Turn Stage) → s.left ≡ [] → decided_by_turn s t ≡ []
 no_call s (turn.GoesOn next) none = refl
 no_call s (turn.WindsUp (ending.Answers given None) more) none = refl
 no_call s (turn.WindsUp (ending.Answers given (Some place)) more) none = ap (λ left. of_tree (decides s left given)) none
@@ -169,13 +167,13 @@ no_call s (turn.WindsUp ending.Retries more) none = refl
 no_call_at : (digest : List ℕ → Id) (s : ClientState) (stage : Stage) → s.left ≡ [] → decided_at_stage digest s stage ≡ []
 no_call_at digest s (winds end m ms) none = refl
 no_call_at digest s compose none = refl
-no_call_at digest s (round keys) none = no_call s (turn_at digest s (round keys)) none
+no_call_at digest s (round keys) none = no_call s (turn_at digest (learned (round keys) s) (round keys)) none
 no_call_at digest s (act flow) none = no_call s (turn_at digest s (act flow)) none
 
 -- a client that has no call left decides none
 idle_decides : (digest : List ℕ → Id) (ask_place : ℕ) (told : Told) (s : ClientState) → s.left ≡ [] → decided_for digest ask_place told s ≡ []
 idle_decides digest ask_place told s none =
-    by_serve digest (λ t made. made ≡ []) ask_place told s (λ e. refl) (λ e f. refl) (λ e f. no_call_at digest (recorded ask_place told s) s.stage none)
+    by_serve digest (λ t made. made ≡ []) ask_place told s (λ e. refl) (λ e f. refl) (λ e f. no_call_at digest (recorded_in ask_place told s) s.stage none)
 
 nothing_left : (left : List Call) → slice_get left 0 ≡ None → left ≡ []
 nothing_left [] none = refl
@@ -265,7 +263,7 @@ up_to_are_decided world (event.Serve number ask_place given ∷ h) =
     (up_to_same (length h) world e h (λ place within. serve_leaves place world number ask_place given h (omega arith)) ∙ up_to_are_decided world h)
     (
     serve_decides world number ask_place given h 0 world.setup.clients
-    ∙ decided_there world h ask_place (told_reply (suc (length h)) (heard given)) (asked_at ask_place h) refl
+    ∙ decided_there world h ask_place (told_reply (suc (length h)) given) (asked_at ask_place h) refl
     )
 
 -- whatever the results that agree with a history, their calls in order of place are those that the Serves decide

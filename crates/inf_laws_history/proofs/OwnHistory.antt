@@ -15,7 +15,7 @@ use Rattle.inf_duty.specs.World.{World}
 use Rattle.inf_duty.specs.ClientState.{ClientState}
 use Rattle.inf_duty.specs.Group.{group}
 use Rattle.inf_duty.specs.Turn.{served}
-use Rattle.inf_laws_history.proofs.AnswerOrder.{IsOpenIn, differing, hear, open_recorded, open_stays, over_one}
+use Rattle.inf_laws_history.proofs.AnswerOrder.{IsOpenIn, differing, hear, kept_of, open_recorded, open_stays, over_one}
 use Rattle.inf_laws_history.proofs.DrivenFacts.{others_stay}
 use Rattle.inf_laws_history.proofs.PendingFacts.{begun_stays, flipped, goes, pending_after, unserved_before, waiting_at}
 use Rattle.inf_laws_history.specs.Legal.{Legal, MayAsk, MayServe}
@@ -124,7 +124,7 @@ module _ (world : World) (client : ℕ) where
       rw is.apart (inr (record {
         apart = waits.apart;
         before = open_on at place told owns unlike is.before waits.before;
-        waits = subst (IsOpenIn place) shown (open_stays at place (hear told) (client_from world client owns) (flipped at place unlike) waits.waits);
+        waits = subst (IsOpenIn place) shown (open_stays at place (kept_of (hear told)) (client_from world client owns) (flipped at place unlike) waits.waits);
       }))
 
   -- ---- histories

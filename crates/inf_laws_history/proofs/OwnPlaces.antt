@@ -7,7 +7,6 @@ use Rattle.inf_duty.specs.Outcome.{Outcome, OutcomeFrom, is_place, stands_at}
 use Rattle.inf_duty.specs.Places.{HaveOwnPlaces}
 use Rattle.inf_duty.specs.World.{World}
 use Rattle.inf_duty.specs.ClientState.{ClientState}
-use Rattle.inf_message.specs.Heard.{heard}
 use Rattle.inf_message.specs.Sent.{has_place}
 use Rattle.inf_message.specs.declared.ask.Ask.{Ask}
 use Rattle.inf_message.specs.declared.call_result.CallResult.{CallResult}
@@ -37,12 +36,12 @@ ask_holds place world number ask h c =
 serve_holds : (place : ℕ) (world : World) (number ask_place : ℕ) (given : Reply) (h : List Event) → place ≢ suc (length h) → (c : ℕ)
     → Held world place (event.Serve number ask_place given ∷ h) c ≤ Held world place h c
 serve_holds place world number ask_place given h apart c =
-    served_holds world.digest place ask_place (told_reply (suc (length h)) (heard given)) (client_after world c h) apart
+    served_holds world.digest place ask_place (told_reply (suc (length h)) given) (client_after world c h) apart
 
 serve_leaves : (place : ℕ) (world : World) (number ask_place : ℕ) (given : Reply) (h : List Event) (c : ℕ) → has_place ask_place (client_after world c h).sent ≡ false
     → Held world place (event.Serve number ask_place given ∷ h) c ≡ Held world place h c
 serve_leaves place world number ask_place given h c apart =
-    ap (held_at place) (served_apart world.digest ask_place (told_reply (suc (length h)) (heard given)) (client_after world c h) apart)
+    ap (held_at place) (served_apart world.digest ask_place (told_reply (suc (length h)) given) (client_after world c h) apart)
 
 -- no client holds a place that is still to come
 none_later : (world : World) (client place : ℕ) (h : List Event) → length h < place → Held world place h client ≡ 0
@@ -117,7 +116,7 @@ served_once world number ask_place given h (Some posted) made =
     (λ c unlike.
     serve_leaves place world number ask_place given h c (waits_not world h c ask_place posted made (λ same. unlike (sym same)))
     ∙ none_later world c place h (omega arith))
-    (served_holds_one world.digest place ask_place (told_reply place (heard given)) (client_after world owner h) (none_later world owner place h (omega arith)))
+    (served_holds_one world.digest place ask_place (told_reply place given) (client_after world owner h) (none_later world owner place h (omega arith)))
     0 world.setup.clients
 
 one_each : (place : ℕ) (world : World) (h : List Event) → all_hold world place h 0 world.setup.clients ≤ 1

@@ -22,7 +22,6 @@ use Rattle.inf_duty.specs.Group.{group}
 use Rattle.inf_duty.specs.Turn.{served}
 use Rattle.inf_duty.specs.declared.flow.Flow.{Flow}
 use Rattle.inf_message.specs.Chain.{dir_in, last_dir, last_entry}
-use Rattle.inf_message.specs.Heard.{heard}
 use Rattle.inf_message.specs.Sent.{Sent}
 use Rattle.inf_message.specs.Who.{Who, birth_of, id_or_root}
 use Rattle.inf_laws_client.specs.Asked.{AreAskedFor}
@@ -61,6 +60,7 @@ number_lasts digest n = record {
   ending = λ given place s less. omega (arith, less);
   again = λ s less. less;
   going_on = λ next s less. less;
+  learning = λ known s less. less;
 }
 
 pub numbers_grow : (world : World) (e : Event) (h : List Event) (client : ℕ) → (client_after world client h).number ≤ (client_after world client (e ∷ h)).number
@@ -70,7 +70,7 @@ numbers_grow world (event.Ask number ask) h client =
     (begun_lasts world.digest (λ (t : ClientState). s.number ≤ t.number) (number_lasts world.digest s.number) ask s.sent s (omega arith)) (omega arith)
 numbers_grow world (event.Serve number ask_place given) h client =
     let s : ClientState = client_after world client h in
-    served_lasts world.digest (λ (t : ClientState). s.number ≤ t.number) (number_lasts world.digest s.number) (λ place told t less. less) ask_place (told_reply (suc (length h)) (heard given)) s (omega arith)
+    served_lasts world.digest (λ (t : ClientState). s.number ≤ t.number) (number_lasts world.digest s.number) (λ place told t less. less) ask_place (told_reply (suc (length h)) given) s (omega arith)
 
 -- ---- where a call stands that is to make or link a directory
 
@@ -169,7 +169,7 @@ module _ (digest : List ℕ → Id) (A : ℕ → Request → Type 0) (s : Client
   flow_ends : (step : Flow) → (message_of s.who step).request ≡ request.Link way under dir bits
       → s.number < (served digest place told (staged s (act step) (one_ask place None))).number
   flow_ends (flow.Dir (dir_flow.Links chain name mode version dir)) is =
-      served_one digest (λ (t : ClientState). s.number < t.number) s (act (flow.Dir (dir_flow.Links chain name mode version dir))) place told refl (omega arith)
+      served_one digest (λ (t : ClientState). s.number < t.number) s (act (flow.Dir (dir_flow.Links chain name mode version dir))) place told refl refl (omega arith)
   flow_ends (flow.File (file_flow.Finishes chain asked)) is = absurd cc
   flow_ends (flow.Dir (dir_flow.Reserves chain name mode)) is = absurd cc
   flow_ends (flow.Dir (dir_flow.Makes chain name mode version id)) is = absurd cc

@@ -10,8 +10,7 @@ use Rattle.inf_duty.specs.Duty.{asked, asks, begun, next_in, next_of, next_step}
 use Rattle.inf_duty.specs.World.{World}
 use Rattle.inf_duty.specs.ClientState.{ClientState, call_ref, placed}
 use Rattle.inf_duty.specs.Group.{group}
-use Rattle.inf_duty.specs.Turn.{is_complete, recorded, served}
-use Rattle.inf_message.specs.Heard.{heard}
+use Rattle.inf_duty.specs.Turn.{is_complete, recorded, served, told_in}
 use Rattle.inf_message.specs.Sent.{Sent, is_told, told_at}
 use Rattle.inf_laws_history.proofs.ByIndex.{got_pushed, got_stays}
 use Rattle.inf_laws_history.specs.Legal.{Legal, MayAsk}
@@ -126,7 +125,7 @@ not_complete place s index found =
 waits_still : (digest : List ℕ → Id) (at place number : ℕ) (told : Told) (ask : Ask) (s : ClientState) → eqb place at ≡ false → Waits s place number ask
     → Waits (served digest at told s) place number ask
 waits_still digest at place number told ask s unlike waits =
-    let still = sent_recorded at place told s.sent waits.index unlike waits.sent in
+    let still = sent_recorded at place (told_in s told) s.sent waits.index unlike waits.sent in
     by_answer digest (λ t. Waits t place number ask) at told s
     (λ apart. waits)
     (λ here going. record {
@@ -137,7 +136,7 @@ waits_still digest at place number told ask s unlike waits =
       caller = waits.caller;
       under_way = waits.under_way;
     })
-    (λ here over. absurd (let not_over = not_complete place (recorded at told s) waits.index still in cc))
+    (λ here over. absurd (let not_over = not_complete place (recorded at (told_in s told) s) waits.index still in cc))
 
 -- ---- histories
 
@@ -187,7 +186,7 @@ pub pending_serve : (world : World) (h : List Event) (number ask_place : ℕ) (g
     → ArePending world (event.Serve number ask_place given ∷ h)
 pending_serve world h number ask_place given pending place posted found unserved =
     let before = unserved_before number ask_place place given h unserved in
-    waits_still world.digest ask_place place posted.number (told_reply (suc (length h)) (heard given)) posted.ask (client_after world posted.ask.from.client h)
+    waits_still world.digest ask_place place posted.number (told_reply (suc (length h)) given) posted.ask (client_after world posted.ask.from.client h)
     (flipped ask_place place before.0) (pending place posted found before.1)
 
 pub pending_after : (world : World) (h : List Event) → Legal world h → ArePending world h

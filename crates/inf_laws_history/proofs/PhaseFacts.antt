@@ -5,12 +5,10 @@ use Rattle.std.specs.List.{list_all}
 use Rattle.std.proofs.lemmas.Bool.{both_ways}
 use Rattle.std.proofs.lemmas.Bool.Decides.{Decides-eqb}
 use Rattle.inf_base.specs.declared.answer.Answer.TheVariants as answer
-use Rattle.inf_base.specs.declared.access.Access.{Access}
 use Rattle.inf_base.specs.declared.call.Call.{Call}
 use Rattle.inf_base.specs.declared.caller.Caller.{Caller}
 use Rattle.inf_base.specs.declared.caller.CallRef.{CallRef}
 use Rattle.inf_base.specs.declared.entry.Entry.{Entry}
-use Rattle.inf_base.specs.declared.key.Key.{Key}
 use Rattle.inf_base.specs.declared.key.LookKey.{LookKey}
 use Rattle.inf_duty.specs.Duty.{begun, given_up_in}
 use Rattle.inf_duty.proofs.BegunKept.{IsKept, if_both, kept_begun}
@@ -18,8 +16,10 @@ use Rattle.inf_message.specs.declared.ending.Ending.TheVariants as ending
 use Rattle.inf_message.specs.declared.turn.Turn.TheVariants as turn
 use Rattle.inf_duty.specs.ClientState.{ClientState, Stage, act, call_ref, compose, finished, idle as idle_client, placed, round, winds, wound}
 use Rattle.inf_duty.specs.Flow.{clean_up, message_of}
-use Rattle.inf_duty.specs.Group.{Course, composed_stage, group, keys_of, next_course}
-use Rattle.inf_duty.specs.Turn.{after_record, is_complete, later_place, recorded, served, settled, turn_at, turned}
+use Rattle.inf_duty.specs.Group.{composed_stage, group}
+use Rattle.inf_duty.specs.Course.{next_course}
+use Rattle.inf_duty.specs.Messages.{has_one_message}
+use Rattle.inf_duty.specs.Turn.{after_group, after_record, is_complete, later_place, learned, recorded, round_turn, served, settled, told_in, turn_at, turned}
 use Rattle.inf_message.specs.Heard.{heard}
 use Rattle.inf_message.specs.Sent.{Sent, has_place, is_told}
 use Rattle.inf_message.specs.Who.{Who}
@@ -36,7 +36,7 @@ use Rattle.inf_laws_directory.proofs.CallFacts.{phase_apart, phase_here, same_ph
 use Rattle.inf_laws_history.specs.Pending.{Waits}
 use Rattle.inf_laws_history.specs.Phases.{HasPhase, Lifts, StageMay}
 use Rattle.inf_laws_history.proofs.GroupMessages.{IsAlone, alone, look_in}
-use Rattle.inf_laws_history.proofs.PhaseTurns.{MayGoOn, TurnHas, act_has, clean_up_lifts, lifted_by, round_has}
+use Rattle.inf_laws_history.proofs.PhaseTurns.{MayGoOn, TurnHas, act_has, clean_up_lifts, lifted_by, next_opens, round_has}
 use Rattle.inf_message.specs.declared.step.Message.{Message}
 use Rattle.inf_message.specs.declared.ask.Ask.{Ask}
 use Rattle.inf_message.specs.declared.reply.Reply.{Reply}
@@ -45,7 +45,6 @@ use Rattle.inf_message.specs.declared.request.Request.{Request}
 use Rattle.inf_message.specs.declared.request.Request.TheVariants as request
 use Rattle.inf_message.specs.History.{Told, told_reply}
 use Rattle.inf_server.specs.Chains.{before_last}
-use Rattle.inf_duty.specs.declared.flow.Flow.{Flow}
 
 abbrev pub call_of : ClientState → ℕ → CallRef
 call_of s number = record { client = s.who.client; number = number }
@@ -65,7 +64,6 @@ IsCleanUp other_stage = ⊥
 
 -- what is asked of a reply to the client's Ask
 pub record Answering (s : ClientState) (ask : Ask) (given : Reply) : Type 0 where
-  pub same : heard given ≡ given
   pub cleans : IsCleanUp s.stage → given ≡ reply.Fine
   pub reserves : (chain : List Entry) (name : List ℕ) (version : ℕ) → ask.request ≡ request.Reserve chain name → given ≡ reply.Reserved version
       → MayWriteAt ask.caller chain
@@ -93,20 +91,23 @@ wound_in_hand : (digest : List ℕ → Id) (phases : Phases) (end : Ending) (mor
 wound_in_hand digest phases end [] s lifts others = finished_in_hand digest phases end s (all_idle phases s lifts others)
 wound_in_hand digest phases end (m ∷ ms) s lifts others = record { phase = lifts; others = others; may = tt }
 
-turned_in_hand : (digest : List ℕ → Id) (phases : Phases) (t : Turn Flow) (s : ClientState) → TurnHas digest s.who (phases (call_ref s)) t → OthersIdle phases s → InHand digest phases (turned t s)
+learns_nothing : (s : ClientState) (stage : Stage) → has_one_message stage ≡ true → learned stage s ≡ s
+learns_nothing s compose one = refl
+learns_nothing s (round keys) one = absurd cc
+learns_nothing s (act flow) one = refl
+learns_nothing s (winds end m ms) one = refl
+
+turned_in_hand : (digest : List ℕ → Id) (phases : Phases) (t : Turn Stage) (s : ClientState) → TurnHas digest s.who (phases (call_ref s)) t → OthersIdle phases s → InHand digest phases (turned t s)
 turned_in_hand digest phases (turn.GoesOn next) s has others = record { phase = has.0; others = others; may = has.1 }
 turned_in_hand digest phases (turn.WindsUp end more) s has others = wound_in_hand digest phases end more s has others
 
 -- ---- before a group
 
-keys_in_hand : (digest : List ℕ → Id) (phases : Phases) (s : ClientState) (found : Option Course) → phases (call_ref s) ≡ idle → OthersIdle phases s
-    → InHand digest phases (record s { stage = keys_of digest s.who found })
-keys_in_hand digest phases s None here others = record { phase = here; others = others; may = tt }
-keys_in_hand digest phases s (Some course) here others = record { phase = here; others = others; may = tt }
-
 composed_in_hand : (digest : List ℕ → Id) (phases : Phases) (s : ClientState) (stage : Stage) → HasPhase digest s.who stage (phases (call_ref s)) → OthersIdle phases s
     → StageMay s.who.caller stage → InHand digest phases (record s { stage = composed_stage digest s stage })
-composed_in_hand digest phases s compose here others may = keys_in_hand digest phases s (next_course s.left) here others
+composed_in_hand digest phases s compose here others may =
+    let opens = next_opens digest s.who (phases (call_ref s)) here s.known (next_course s.left) in
+    record { phase = opens.0; others = others; may = opens.1 }
 composed_in_hand digest phases s (round keys) here others may = record { phase = here; others = others; may = may }
 composed_in_hand digest phases s (act flow) here others may = record { phase = here; others = others; may = may }
 composed_in_hand digest phases s (winds end m ms) here others may = record { phase = here; others = others; may = may }
@@ -161,10 +162,20 @@ abbrev pub answered : ℕ → Told → Stage → ClientState → ClientState
 answered place told stage s =
     record s { stage = stage; sent = one_ask place (Some told); counts = record s.counts { last = later_place s.counts.last told.serve_place } }
 
--- a group of one message is over with its answer
+lone_told : (b : Bool) (told : Told) → b ≡ true
+    → (if b then told else record told { reply = heard told.reply }) ≡ told
+lone_told true told is = refl
+lone_told false told is = absurd cc
+
+-- a group of one message is over with its answer, which is kept as it was replied
 pub served_one : (digest : List ℕ → Id) (P : ClientState → Type 0) (s : ClientState) (stage : Stage) (place : ℕ) (told : Told) → length (group s.who stage) ≡ 1
-    → P (turned (turn_at digest (answered place told stage s) stage) (answered place told stage s)) → P (served digest place told (staged s stage (one_ask place None)))
-served_one digest P s stage place told one now = by (place == place) ((Decides-eqb place place).1 refl)
+    → has_one_message stage ≡ true
+    → P (after_group digest (answered place told stage s)) → P (served digest place told (staged s stage (one_ask place None)))
+served_one digest P s stage place told one lone now =
+    let before : ClientState = staged s stage (one_ask place None) in
+    subst (λ (t : Told). P (if has_place place before.sent then after_record digest (recorded place t before) else before))
+    (sym (lone_told (has_one_message stage && (length before.sent == 1)) told (ap (λ b. b && true) lone)))
+    (by (place == place) ((Decides-eqb place place).1 refl))
   where
     by : (b : Bool) → b ≡ true
         → P (if b || false then after_record digest (record s {
@@ -176,30 +187,35 @@ served_one digest P s stage place told one now = by (place == place) ((Decides-e
     by false same = absurd cc
 
 one_in_hand : (digest : List ℕ → Id) (phases : Phases) (s : ClientState) (stage : Stage) (place : ℕ) (told : Told) (phase : Phase) → length (group s.who stage) ≡ 1
-    → TurnHas digest s.who phase (turn_at digest (answered place told stage s) stage) → OthersIdle phases s
+    → has_one_message stage ≡ true → TurnHas digest s.who phase (turn_at digest (answered place told stage s) stage) → OthersIdle phases s
     → InHand digest (with_phase (call_ref s) phase phases) (served digest place told (staged s stage (one_ask place None)))
-one_in_hand digest phases s stage place told phase one has others =
+one_in_hand digest phases s stage place told phase one lone has others =
     let now = with_phase (call_ref s) phase phases in
     let t = turn_at digest (answered place told stage s) stage in
-    served_one digest (λ (c : ClientState). InHand digest now c) s stage place told one
+    served_one digest (λ (c : ClientState). InHand digest now c) s stage place told one lone
+    (subst (λ (c : ClientState). InHand digest now (turned (turn_at digest c stage) c)) (sym (learns_nothing (answered place told stage s) stage lone))
     (turned_in_hand digest now t (answered place told stage s)
-    (subst (λ (p : Phase). TurnHas digest s.who p t) (sym (phase_here (call_ref s) phase phases)) has) (others_stay phases s phase others))
+    (subst (λ (p : Phase). TurnHas digest s.who p t) (sym (phase_here (call_ref s) phase phases)) has) (others_stay phases s phase others)))
 
-settled_in_hand : (digest : List ℕ → Id) (phases : Phases) (b : Bool) (s : ClientState) → InHand digest phases s → TurnHas digest s.who (phases (call_ref s)) (turn_at digest s s.stage)
-    → InHand digest phases (settled digest b s)
-settled_in_hand digest phases true s hand has = turned_in_hand digest phases (turn_at digest s s.stage) s has hand.others
-settled_in_hand digest phases false s hand has = hand
+-- a round, and what follows it, has nothing in hand
+round_ends : (digest : List ℕ → Id) (phases : Phases) (b : Bool) (s : ClientState) (keys : List LookKey)
+    (sent : List Sent) → phases (call_ref s) ≡ idle → OthersIdle phases s
+    → InHand digest phases (settled digest b (staged s (round keys) sent))
+round_ends digest phases true s keys sent none others =
+    let now : ClientState = learned (round keys) (staged s (round keys) sent) in
+    turned_in_hand digest phases (round_turn digest now) now (round_has digest now (phases (call_ref s)) none) others
+round_ends digest phases false s keys sent none others = record { phase = none; others = others; may = tt }
 
 round_in_hand : (digest : List ℕ → Id) (phases : Phases) (s : ClientState) (keys : List LookKey) (sent : List Sent) (place : ℕ) (told : Told) → phases (call_ref s) ≡ idle
     → OthersIdle phases s → InHand digest phases (served digest place told (staged s (round keys) sent))
 round_in_hand digest phases s keys sent place told none others =
-    let now = recorded place told (staged s (round keys) sent) in
-    if_both (InHand digest phases) (has_place place sent) (after_record digest now) (staged s (round keys) sent)
-    (settled_in_hand digest phases (is_complete now) now (record { phase = none; others = others; may = tt })
-    (round_has digest s.who (phases (call_ref s)) none s.left now.sent))
+    let before : ClientState = staged s (round keys) sent in
+    let now : ClientState = recorded place (told_in before told) before in
+    if_both (InHand digest phases) (has_place place sent) (after_record digest now) before
+    (round_ends digest phases (is_complete now) now keys now.sent none others)
     (record { phase = none; others = others; may = tt })
 
-module _ (service : Service) (A : ℕ → Request → Type 0) (T : Key → Access → Type 0) (s : ClientState) (index : ℕ)
+module _ (service : Service) (A : ℕ → Request → Type 0) (T : Entry → Type 0) (s : ClientState) (index : ℕ)
     (at : At) (asked : Request) (given : Reply) (phases : Phases) where
   abbrev after : Request → Phases
   after r = with_phase (call_ref s) (next_phase service at (phases (call_ref s)) r given) phases
@@ -236,7 +252,7 @@ module _ (service : Service) (A : ℕ → Request → Type 0) (T : Key → Acces
       let same : asked ≡ m.request = sym (ap (λ (x : Message). x.request) one.message) in
       come m (act flow) sent one
       (one_in_hand service.digest phases s (act flow) at.ask_place (told_reply at.serve_place given)
-      (next_phase service at (phases (call_ref s)) m.request given) refl
+      (next_phase service at (phases (call_ref s)) m.request given) refl refl
       (act_has service s.who at (phases (call_ref s)) flow given phase.0 phase.1 may stands.links_up
       (subst (λ (r : Request). MayGoOn s.who.caller r given) same goes)) others)
   stage_in_hand (winds end m ms) sent phase others may stands asks there is goes cleans =
@@ -245,26 +261,22 @@ module _ (service : Service) (A : ℕ → Request → Type 0) (T : Key → Acces
       ∙ lifted_by service at s.who.servers (phases (call_ref s)) m phase.0 in
       come m (winds end m ms) sent one
       (one_in_hand service.digest phases s (winds end m ms) at.ask_place (told_reply at.serve_place given)
-      (next_phase service at (phases (call_ref s)) m.request given) refl
+      (next_phase service at (phases (call_ref s)) m.request given) refl refl
       (subst (λ (p : Phase). Lifts s.who.servers p ms) (sym lifts) phase.1) others)
 
-pub served_in_hand : (service : Service) (A : ℕ → Request → Type 0) (T : Key → Access → Type 0) (s : ClientState)
+pub served_in_hand : (service : Service) (A : ℕ → Request → Type 0) (T : Entry → Type 0) (s : ClientState)
     (at : At) (ask : Ask) (given : Reply) (phases : Phases)
     → s.who.servers ≡ service.servers
     → InHand service.digest phases s → AsksItsGroup A s → KnowsOnly T s → Waits s at.ask_place at.number ask
     → Answering s ask given
     → InHand service.digest (with_phase ask.from (next_phase service at (phases ask.from) ask.request given) phases)
-    (served service.digest at.ask_place (told_reply at.serve_place (heard given)) s)
+    (served service.digest at.ask_place (told_reply at.serve_place given) s)
 served_in_hand service A T s at ask given phases servers hand asks knows waits answering =
     let may : MayGoOn s.who.caller ask.request given =
     subst (λ (caller : Caller). MayGoOn caller ask.request given) waits.caller (record { reserves = answering.reserves; seals = answering.seals }) in
-    subst (λ (r : Reply). InHand service.digest
-    (with_phase ask.from (next_phase service at (phases ask.from) ask.request given) phases)
-    (served service.digest at.ask_place (told_reply at.serve_place r) s))
-    (sym answering.same)
-    (subst (λ (by : CallRef). InHand service.digest
+    subst (λ (by : CallRef). InHand service.digest
     (with_phase by (next_phase service at (phases by) ask.request given) phases)
     (served service.digest at.ask_place (told_reply at.serve_place given) s))
     (sym waits.from)
     (stage_in_hand service A T s waits.index at ask.request given phases s.stage s.sent hand.phase hand.others
-    hand.may knows.stands asks.asked waits.sent waits.message may answering.cleans))
+    hand.may knows.stands asks.asked waits.sent waits.message may answering.cleans)

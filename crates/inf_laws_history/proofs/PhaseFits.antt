@@ -1,11 +1,8 @@
 -- What a client's Ask fits, where clean-ups are sent, and what servers reply to it.
 use Rattle.std.proofs.Common.{◌≡◌, ℕ, List, slice_get, Option, Some, None, refl, sym, subst}
-use Rattle.inf_base.specs.declared.access.Access.{Access}
 use Rattle.inf_base.specs.declared.caller.CallRef.{CallRef}
 use Rattle.inf_base.specs.declared.entry.Entry.{Entry}
 use Rattle.inf_base.specs.declared.id.Id.{Id}
-use Rattle.inf_base.specs.declared.item.Item.{Item}
-use Rattle.inf_base.specs.declared.key.Key.{Key}
 use Rattle.inf_base.specs.Identity.{server_of}
 use Rattle.inf_flow_dir.specs.declared.dir_flow.DirFlow.TheVariants as dir_flow
 use Rattle.inf_flow_file.specs.declared.file_flow.FileFlow.TheVariants as file_flow
@@ -15,14 +12,13 @@ use Rattle.inf_duty.specs.Flow.{message_of}
 use Rattle.inf_duty.specs.Group.{group}
 use Rattle.inf_duty.specs.declared.flow.Flow.{Flow}
 use Rattle.inf_message.specs.Chain.{dir_in}
-use Rattle.inf_message.specs.Heard.{heard}
 use Rattle.inf_message.specs.Who.{Who}
 use Rattle.inf_laws_client.specs.Told.{KnowsOnly, LinksUp, StandsOn, chain_of}
 use Rattle.inf_laws_directory.specs.At.{At}
 use Rattle.inf_laws_directory.specs.Fits.{EndsIn, Fits}
 use Rattle.inf_laws_directory.specs.Objects.{Service, site_in}
 use Rattle.inf_laws_directory.specs.Phases.{Phase, Phases, has_made, has_reserved, has_sealed, has_unlinked, idle}
-use Rattle.inf_laws_directory.proofs.ServedReplies.{cancel_fine, drop_fine, forget_fine, no_listing, reserved_may_write, sealed_may_write, unseal_fine}
+use Rattle.inf_laws_directory.proofs.ServedReplies.{cancel_fine, drop_fine, forget_fine, reserved_may_write, sealed_may_write, unseal_fine}
 use Rattle.inf_laws_history.specs.Pending.{Waits}
 use Rattle.inf_laws_history.specs.Phases.{FlowHas, FlowMay, HasPhase, IsLiftedBy, StageMay}
 use Rattle.inf_laws_history.proofs.GroupMessages.{look_in, only_one}
@@ -74,7 +70,7 @@ lifted_fits at servers (has_sealed parent name target) m is =
 lifted_fits at servers (has_unlinked target) m is =
     subst (λ (x : Message). Fits at (has_unlinked target) x.request) (sym is) refl
 
-stage_fits : (digest : List ℕ → Id) (T : Key → Access → Type 0) (who : Who) (stage : Stage) (index : ℕ) (at : At)
+stage_fits : (digest : List ℕ → Id) (T : Entry → Type 0) (who : Who) (stage : Stage) (index : ℕ) (at : At)
     (asked : Request) (phase : Phase) → HasPhase digest who stage phase
     → StageMay who.caller stage → StandsOn T stage
     → slice_get (group who stage) index ≡ Some (record { number = at.number; request = asked })
@@ -91,7 +87,7 @@ stage_fits digest T who (winds ending m ms) index at asked phase has may stands 
     subst (λ (x : Message). Fits at phase x.request) (only_one m index at.number asked is)
     (lifted_fits at who.servers phase m has.0)
 
-pub fits_phase : (digest : List ℕ → Id) (T : Key → Access → Type 0) (s : ClientState) (at : At) (ask : Ask)
+pub fits_phase : (digest : List ℕ → Id) (T : Entry → Type 0) (s : ClientState) (at : At) (ask : Ask)
     (phases : Phases)
     → HasPhase digest s.who s.stage (phases (call_ref s)) → StageMay s.who.caller s.stage → KnowsOnly T s
     → Waits s at.ask_place at.number ask
@@ -102,7 +98,7 @@ fits_phase digest T s at ask phases phase may knows waits =
     waits.message)
 
 -- what a client asks fits what its call has in hand
-pub fits : (digest : List ℕ → Id) (T : Key → Access → Type 0) (s : ClientState) (at : At) (ask : Ask) (phases : Phases)
+pub fits : (digest : List ℕ → Id) (T : Entry → Type 0) (s : ClientState) (at : At) (ask : Ask) (phases : Phases)
     → InHand digest phases s → KnowsOnly T s → Waits s at.ask_place at.number ask
     → Fits at (phases ask.from) ask.request
 fits digest T s at ask phases hand knows waits = fits_phase digest T s at ask phases hand.phase hand.may knows waits
@@ -159,10 +155,6 @@ clean_up_done service s place number ask given phases old new servers phase wait
 
 -- ---- what servers reply
 
-heard_same : (given : Reply) → ((items : List Item) → given ≡ reply.Listing items → ⊥) → heard given ≡ given
-heard_same (reply.Listing items) no_listing_here = absurd (no_listing_here items refl)
-heard_same given no_listing_here = refl
-
 -- the replies of servers are such
 pub is_answering : (service : Service) (s : ClientState) (place number : ℕ) (ask : Ask) (given : Reply) (phases : Phases) (old new : State)
     → s.who.servers ≡ service.servers → InHand service.digest phases s → Waits s place number ask
@@ -170,7 +162,6 @@ pub is_answering : (service : Service) (s : ClientState) (place number : ℕ) (a
 is_answering service s place number ask given phases old new servers hand waits serves =
     let site = site_in service number in
     record {
-      same = heard_same given (λ items is. no_listing site old place ask given new serves items is);
       cleans = λ cleans. clean_up_done service s place number ask given phases old new servers hand.phase waits serves cleans;
       reserves = λ chain name version asked is. reserved_may_write site old place ask given new serves chain name version asked is;
       seals = λ chain asked is. sealed_may_write site old place ask given new serves chain asked is;

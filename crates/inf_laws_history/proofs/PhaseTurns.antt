@@ -1,34 +1,35 @@
 -- What a call has in hand once its group was answered: what the turn that comes of it rests on, or winds up.
-use Rattle.std.proofs.Common.{◌≡◌, ℕ, Bool, true, false, if◌then◌else◌, List, [], ◌∷◌, ◌++◌, take, Option, Some, None, Result, Ok, refl, sym, ap, ◌∙◌, subst}
+use Rattle.std.proofs.Common.{◌≡◌, ℕ, Bool, true, false, if◌then◌else◌, List, [], ◌∷◌, take, Option, Some, None, refl, sym, ap, ◌∙◌, subst}
 use Rattle.inf_base.specs.declared.access.Access.{Access}
 use Rattle.inf_base.specs.declared.answer.Answer.TheVariants as answer
-use Rattle.inf_base.specs.declared.call.Call.{Call}
-use Rattle.inf_base.specs.declared.call.Call.TheVariants as call
 use Rattle.inf_base.specs.declared.caller.Caller.{Caller}
 use Rattle.inf_base.specs.declared.directory.DirRef.{DirRef}
 use Rattle.inf_base.specs.declared.entry.Entry.{Entry}
-use Rattle.inf_base.specs.declared.errno.Errno.{Errno}
 use Rattle.inf_base.specs.declared.id.Id.{Id}
 use Rattle.inf_base.specs.declared.key.Key.{Key}
 use Rattle.inf_base.specs.declared.key.Key.TheVariants as key
 use Rattle.inf_base.specs.declared.triple.Triple.{Triple}
 use Rattle.inf_base.specs.declared.triple.Triple.TheVariants as triple
 use Rattle.inf_base.specs.Identity.{identity}
-use Rattle.inf_base.specs.Path.{path_of}
 use Rattle.inf_base.specs.Same.{dir_of}
 use Rattle.inf_flow_dir.specs.declared.dir_flow.DirFlow.TheVariants as dir_flow
 use Rattle.inf_message.specs.declared.ending.Ending.TheVariants as ending
 use Rattle.inf_flow_file.specs.declared.file_flow.FileFlow.TheVariants as file_flow
 use Rattle.inf_duty.specs.declared.flow.Flow.TheVariants as flow
 use Rattle.inf_message.specs.declared.turn.Turn.TheVariants as turn
-use Rattle.inf_duty.specs.ClientState.{act}
+use Rattle.inf_duty.specs.ClientState.{ClientState, Stage, act}
 use Rattle.inf_duty.specs.Flow.{HasBirthId, after_act, clean_up, message_of}
-use Rattle.inf_duty.specs.Group.{Course, course_at, course_in, next_course, split, text_of}
-use Rattle.inf_duty.specs.Turn.{Next, after_round, by_next, follow, from_root, is_busy, next_entry, steps, stops, told_entry}
+use Rattle.inf_duty.specs.declared.course.Course.{Course}
+use Rattle.inf_duty.specs.declared.course.Deed.{Deed}
+use Rattle.inf_duty.specs.declared.course.Deed.TheVariants as deed
+use Rattle.inf_duty.specs.Course.{flow_at, next_course}
+use Rattle.inf_duty.proofs.BegunKept.{if_both}
+use Rattle.inf_duty.specs.Group.{next_stage, stage_by}
+use Rattle.inf_duty.specs.Turn.{known_turn, round_turn, turn_by}
 use Rattle.inf_duty.specs.declared.flow.Flow.{Flow}
 use Rattle.inf_flow_dir.specs.DirFlow.{forget_in, lives_at, row_of}
 use Rattle.inf_message.specs.Chain.{dir_in, last_dir, way_to}
-use Rattle.inf_message.specs.Sent.{Sent}
+use Rattle.inf_message.specs.Sent.{is_wanting}
 use Rattle.inf_message.specs.Turn.{fails, turn_as}
 use Rattle.inf_message.specs.Who.{Who, birth_of, id_or_root, last_id, lift}
 use Rattle.inf_message.specs.declared.turn.Turn.{Turn}
@@ -48,12 +49,15 @@ use Rattle.inf_message.specs.declared.reply.Reply.TheVariants as reply
 use Rattle.inf_message.specs.declared.request.Request.{Request}
 use Rattle.inf_message.specs.declared.request.Request.TheVariants as request
 use Rattle.inf_message.specs.declared.step.Message.{Message}
-use Rattle.inf_message.specs.History.{Told}
+use Rattle.inf_resolve.specs.declared.known.Known.{Known}
+use Rattle.inf_resolve.specs.declared.resolved.Resolved.{Resolved}
+use Rattle.inf_resolve.specs.declared.resolved.Resolved.TheVariants as comes
+use Rattle.inf_resolve.specs.Resolved.{resolved}
 use Rattle.inf_server.specs.Chains.{before_last, last_of}
 
 -- what the call has in hand is what the turn needs
-abbrev pub TurnHas : (List ℕ → Id) → Who → Phase → Turn Flow → Type 0
-TurnHas digest who phase (turn.GoesOn next) = HasPhase digest who (act next) phase × StageMay who.caller (act next)
+abbrev pub TurnHas : (List ℕ → Id) → Who → Phase → Turn Stage → Type 0
+TurnHas digest who phase (turn.GoesOn next) = HasPhase digest who next phase × StageMay who.caller next
 TurnHas digest who phase (turn.WindsUp end more) = Lifts who.servers phase more
 
 -- ---- clean-ups
@@ -84,7 +88,8 @@ lifted_by service at servers (has_unlinked target) m is =
 
 -- ---- after a message of a flow that does not succeed
 
-fails_has : {F : Type 0} (wrap : F → Flow) (digest : List ℕ → Id) (who : Who) (step : Flow) (place : ℕ) (given : Reply) (phase : Phase) → FlowHas who step phase → TurnHas digest who phase (turn_as wrap (fails (clean_up who step) place given))
+fails_has : {F : Type 0} (wrap : F → Flow) (digest : List ℕ → Id) (who : Who) (step : Flow) (place : ℕ) (given : Reply) (phase : Phase)
+    → FlowHas who step phase → TurnHas digest who phase (turn_as act (turn_as wrap (fails (clean_up who step) place given)))
 fails_has wrap digest who step place (reply.Busy by at born) phase has = clean_up_lifts who step phase has
 fails_has wrap digest who step place (reply.Refused error) phase has = clean_up_lifts who step phase has
 fails_has wrap digest who step place reply.NoMem phase has = clean_up_lifts who step phase has
@@ -168,7 +173,7 @@ module _ (service : Service) (who : Who) (at : At) (phase : Phase) where
   abbrev Comes : Flow → Reply → Type 0
   Comes step given =
       TurnHas service.digest who (next_phase service at phase (message_of who step).request given)
-      (after_act service.digest who step at.ask_place at.serve_place given)
+      (turn_as act (after_act service.digest who step at.ask_place at.serve_place given))
 
   finish_has : (chain : List Entry) (asked : Op) (given : Reply) → FlowHas who (flow.File (file_flow.Finishes chain asked)) phase → Comes (flow.File (file_flow.Finishes chain asked)) given
   finish_has chain (op.Create name mode) reply.Fine has = has
@@ -236,66 +241,47 @@ module _ (service : Service) (who : Who) (at : At) (phase : Phase) where
   act_has (flow.Dir (dir_flow.Seals chain)) given has of_birth may up goes = seal_has chain given has up (λ is. goes.seals chain refl is)
   act_has (flow.Dir (dir_flow.Unlinks chain)) given has of_birth may up goes = unlink_has chain given has up may
 
--- ---- after a round
+-- ---- after a round, and before what follows it
 
 module _ (digest : List ℕ → Id) (who : Who) (phase : Phase) (none : phase ≡ idle) where
-  -- a course begins with nothing in hand
-  record Opens (course : Course) : Type 0 where
-    opens : (way : List Entry) → HasPhase digest who (act (course.arrive way)) phase × FlowMay who.caller (course.arrive way)
+  abbrev Opens : Stage → Type 0
+  Opens stage = HasPhase digest who stage phase × StageMay who.caller stage
 
-  abbrev IfOpens : Option Course → Type 0
-  IfOpens None = Unit {0}
-  IfOpens (Some course) = Opens course
+  -- a flow begins with nothing in hand
+  flow_opens : (what : Deed) (chain : List Entry) (left : List (List ℕ)) → Opens (act (flow_at what chain left))
+  flow_opens (deed.Create name mode) chain [] = ((none, tt), tt)
+  flow_opens (deed.Stat name) chain [] = ((none, tt), tt)
+  flow_opens (deed.Mkdir name mode) chain [] = ((none, tt), tt)
+  flow_opens deed.Rmdir chain [] = ((none, tt), tt)
+  flow_opens deed.Rmdir chain (name ∷ []) = ((none, tt), tt)
+  flow_opens deed.Rmdir chain (name ∷ next ∷ rest) = ((none, tt), tt)
+  flow_opens (deed.Create last mode) chain (name ∷ rest) = ((none, tt), tt)
+  flow_opens (deed.Stat last) chain (name ∷ rest) = ((none, tt), tt)
+  flow_opens (deed.Mkdir last mode) chain (name ∷ rest) = ((none, tt), tt)
 
-  opens_in : (asked : Call) (names : List (List ℕ) × List ℕ) → IfOpens (course_in asked names)
-  opens_in (call.Create path mode) (way, name) = record { opens = λ chain. ((none, tt), tt) }
-  opens_in (call.Stat path) (way, name) = record { opens = λ chain. ((none, tt), tt) }
-  opens_in (call.Mkdir path mode) (way, name) = record { opens = λ chain. ((none, tt), tt) }
-  opens_in other names = tt
+  stage_opens : (what : Deed) (r : Resolved) → Opens (stage_by what r)
+  stage_opens what (comes.Asks keys) = (none, tt)
+  stage_opens what (comes.Leads old new) = flow_opens what old.chain old.left
+  stage_opens what (comes.IsBusy by place) = (none, tt)
+  stage_opens what comes.Lacks = (none, tt)
 
-  opens_at : (asked : Call) (path : Result (List (List ℕ)) Errno) → IfOpens (course_at asked path)
-  opens_at (call.Rmdir path) (Ok (name ∷ names)) = record { opens = λ chain. ((none, tt), tt) }
-  opens_at asked (Ok (name ∷ names)) = opens_in asked (split name names)
-  opens_at asked other = tt
+  pub next_opens : (known : List Known) (found : Option Course) → Opens (next_stage digest who known found)
+  next_opens known None = (none, tt)
+  next_opens known (Some course) = stage_opens course.deed (resolved digest who.root course.looked known)
 
-  course_opens : (calls : List Call) → IfOpens (next_course calls)
-  course_opens [] = tt
-  course_opens (next ∷ calls) = opens_at next (path_of (text_of next))
+  resolved_has : (r : Resolved) → TurnHas digest who phase (turn_by r)
+  resolved_has (comes.Asks keys) = (none, tt)
+  resolved_has (comes.Leads old new) = (none, tt)
+  resolved_has (comes.IsBusy by place) = none
+  resolved_has comes.Lacks = none
 
-  by_next_has : (course : Course) (chain : List Entry) (name : List ℕ) (names : List (List ℕ)) (go : Entry → Turn Flow) (next : Next)
-      → ((e : Entry) → TurnHas digest who phase (go e)) → TurnHas digest who phase (by_next course chain name names go next)
-  by_next_has course chain name names go (steps e) goes = goes e
-  by_next_has course chain name names go stops goes = ((none, tt), tt)
-  by_next_has course chain name names go (is_busy given place) goes = none
+  known_has : (known : List Known) (found : Option Course) → TurnHas digest who phase (known_turn digest who known found)
+  known_has known None = none
+  known_has known (Some course) = resolved_has (resolved digest who.root course.looked known)
 
-  follow_has : (course : Course) (chain : List Entry) (before : Entry) (names : List (List ℕ)) (sent : List Sent) → Opens course
-      → TurnHas digest who phase (follow course chain before names sent)
-  follow_has course chain before [] sent opens = opens.opens chain
-  follow_has course chain before (name ∷ names) [] opens = ((none, tt), tt)
-  follow_has course chain before (name ∷ names) (x ∷ xs) opens =
-      by_next_has course chain name names (λ e. follow course (chain ++ e ∷ []) e names xs) (next_entry before x.told)
-      (λ e. follow_has course (chain ++ e ∷ []) e names xs opens)
-
-  from_root_has : (course : Course) (xs : List Sent) (told : Told) (given : Reply) → Opens course → TurnHas digest who phase (from_root course xs told given)
-  from_root_has course xs told (reply.Found k access) opens =
-      let first = told_entry k access told.serve_place in follow_has course (first ∷ []) first course.looked xs opens
-  from_root_has course xs told (reply.Busy by at born) opens = none
-  from_root_has course xs told any_reply opens = none
-
-  turn_if : (b : Bool) (first second : Turn Flow) → TurnHas digest who phase first → TurnHas digest who phase second → TurnHas digest who phase (if b then first else second)
-  turn_if true first second one other = one
-  turn_if false first second one other = other
-
-  first_has : (course : Course) (place : ℕ) (told : Option Told) (xs : List Sent) → Opens course
-      → TurnHas digest who phase (after_round (Some course) (record { place = place; told = told } ∷ xs))
-  first_has course place None xs opens = turn_if _ (turn.WindsUp (ending.Answers answer.NoMemory None) []) (turn.WindsUp ending.Retries []) none none
-  first_has course place (Some told) xs opens =
-      turn_if _ (turn.WindsUp (ending.Answers answer.NoMemory None) []) (from_root course xs told told.reply) none (from_root_has course xs told told.reply opens)
-
-  found_has : (found : Option Course) (sent : List Sent) → IfOpens found → TurnHas digest who phase (after_round found sent)
-  found_has None sent opens = none
-  found_has (Some course) [] opens = none
-  found_has (Some course) (x ∷ xs) opens = first_has course x.place x.told xs opens
-
-  pub round_has : (calls : List Call) (sent : List Sent) → TurnHas digest who phase (after_round (next_course calls) sent)
-  round_has calls sent = found_has (next_course calls) sent (course_opens calls)
+pub round_has : (digest : List ℕ → Id) (s : ClientState) (phase : Phase) → phase ≡ idle
+    → TurnHas digest s.who phase (round_turn digest s)
+round_has digest s phase none =
+    if_both (TurnHas digest s.who phase) (is_wanting s.sent) (turn.WindsUp (ending.Answers answer.NoMemory None) [])
+    (known_turn digest s.who s.known (next_course s.left)) none
+    (known_has digest s.who phase none s.known (next_course s.left))

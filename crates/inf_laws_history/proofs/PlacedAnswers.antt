@@ -1,18 +1,16 @@
 -- What holds of each answer that a group may come to, with its place, holds of all results that agree with a history.
-use Rattle.std.proofs.Common.{◌≡◌, ℕ, suc, ◌+◌, ◌==◌, Bool, true, false, eqb, List, [], ◌∷◌, ◌++◌, length, slice_get, Option, None, Some, All, sym, subst, ⊎_elim}
+use Rattle.std.proofs.Common.{◌≡◌, ℕ, suc, ◌+◌, Bool, true, false, eqb, List, [], ◌∷◌, length, slice_get, Option, None, Some, All, sym, subst, ⊎_elim}
 use Rattle.std.proofs.lemmas.List.Elements.{All-append, All-cons, All-nil, All-push}
 use Rattle.inf_base.specs.declared.id.Id.{Id}
 use Rattle.inf_base.specs.declared.answer.Answer.{Answer}
 use Rattle.inf_base.specs.declared.answer.Answer.TheVariants as answer
 use Rattle.inf_base.specs.declared.call.Call.{Call}
 use Rattle.inf_base.specs.declared.caller.CallRef.{CallRef}
-use Rattle.inf_base.specs.declared.entry.Entry.{Entry}
 use Rattle.inf_base.specs.declared.errno.Errno.{Errno}
 use Rattle.inf_base.specs.declared.file.FileMeta.{FileMeta}
 use Rattle.inf_base.specs.declared.item.Kind.{Kind}
 use Rattle.inf_base.specs.declared.setup.ClientLine.{ClientLine}
 use Rattle.inf_base.specs.declared.triple.Triple.{Triple}
-use Rattle.inf_base.specs.Same.{dir_of}
 use Rattle.inf_duty.specs.After.{client_after}
 use Rattle.inf_duty.specs.Duty.{asked, given_up_in}
 use Rattle.inf_duty.specs.Outcome.{Agrees, OutcomeFrom, all_given_up, come_to, results_of, so_far, unanswered}
@@ -26,17 +24,17 @@ use Rattle.inf_duty.specs.declared.flow.Flow.TheVariants as flow
 use Rattle.inf_message.specs.declared.turn.Turn.TheVariants as turn
 use Rattle.inf_duty.specs.ClientState.{ClientState, Stage, act, compose, ended, result_of, round, winds, wound}
 use Rattle.inf_duty.specs.Flow.{after_act, clean_up}
-use Rattle.inf_duty.specs.Group.{Course, composed_stage, keys_of, next_course}
-use Rattle.inf_duty.specs.Turn.{Next, act_turn, after_round, by_next, follow, from_root, is_busy, links_to, next_entry, recorded, served, steps, stops, told_entry, turn_at, turned}
+use Rattle.inf_duty.specs.Group.{composed_stage}
+use Rattle.inf_duty.specs.Course.{next_course}
+use Rattle.inf_duty.specs.Turn.{act_turn, learned, round_turn, served, turn_at, turned}
 use Rattle.inf_duty.specs.declared.flow.Flow.{Flow}
-use Rattle.inf_message.specs.Heard.{heard}
 use Rattle.inf_message.specs.Sent.{Sent, is_wanting}
 use Rattle.inf_message.specs.Turn.{fails, turn_as}
 use Rattle.inf_message.specs.Who.{Who, birth_of}
 use Rattle.inf_message.specs.declared.ending.Ending.{Ending}
 use Rattle.inf_message.specs.declared.turn.Turn.{Turn}
-use Rattle.inf_laws_history.proofs.ClientSteps.{by_answer}
-use Rattle.inf_message.specs.declared.ask.Ask.{Ask}
+use Rattle.inf_laws_history.proofs.ClientSteps.{by_answer, recorded_in}
+use Rattle.inf_laws_history.proofs.Turns.{by_next, by_round}
 use Rattle.inf_message.specs.declared.call_result.CallResult.{CallResult}
 use Rattle.inf_message.specs.declared.event.Event.{Event}
 use Rattle.inf_message.specs.declared.event.Event.TheVariants as event
@@ -50,7 +48,7 @@ use Rattle.inf_message.specs.History.{Told, told_reply}
 abbrev pub Of : Type 1
 Of = Answer → Option ℕ → Type 0
 
--- so are the ending.Answers of calls: those that a reply brings have its place, and want of memory has none
+-- so are the answers of calls: those that a reply brings have its place, and want of memory has none
 pub record IsOfServes (P : Of) : Type 0 where
   pub done : (place : ℕ) → P answer.Done (Some place)
   pub stat : (kind : Kind) (meta : FileMeta) (place : ℕ) → P (answer.Stat kind meta) (Some place)
@@ -67,8 +65,12 @@ abbrev pub StageIs : Of → Stage → Type 0
 StageIs P (winds end m ms) = EndingIs P end
 StageIs P other_stage = Unit {0}
 
-abbrev TurnIs : Of → Turn Flow → Type 0
-TurnIs P (turn.GoesOn next) = StageIs P (act next)
+abbrev FlowIs : Of → Turn Flow → Type 0
+FlowIs P (turn.GoesOn next) = Unit {0}
+FlowIs P (turn.WindsUp end more) = EndingIs P end
+
+abbrev TurnIs : Of → Turn Stage → Type 0
+TurnIs P (turn.GoesOn next) = StageIs P next
 TurnIs P (turn.WindsUp end more) = EndingIs P end
 
 abbrev pub ResultIs : Of → CallResult → Type 0
@@ -77,13 +79,13 @@ ResultIs P result = P result.answer result.place
 module _ (P : Of) (of : IsOfServes P) where
   -- ---- after a message of a flow
 
-  fails_is : {F : Type 0} (wrap : F → Flow) (who : Who) (step : Flow) (place : ℕ) (given : Reply) → TurnIs P (turn_as wrap (fails (clean_up who step) place given))
+  fails_is : {F : Type 0} (wrap : F → Flow) (who : Who) (step : Flow) (place : ℕ) (given : Reply) → FlowIs P (turn_as wrap (fails (clean_up who step) place given))
   fails_is wrap who step place (reply.Busy by at born) = of.again by place
   fails_is wrap who step place (reply.Refused error) = of.refused error place
   fails_is wrap who step place reply.NoMem = of.wanting
   fails_is wrap who step place any_reply = tt
 
-  act_is : (digest : List ℕ → Id) (who : Who) (step : Flow) (asked place : ℕ) (given : Reply) → TurnIs P (after_act digest who step asked place given)
+  act_is : (digest : List ℕ → Id) (who : Who) (step : Flow) (asked place : ℕ) (given : Reply) → FlowIs P (after_act digest who step asked place given)
   act_is digest who (flow.File (file_flow.Finishes chain (op.Create name mode))) asked place reply.Fine = of.done place
   act_is digest who (flow.File (file_flow.Finishes chain (op.Stat name))) asked place (reply.Stat kind meta) = of.stat kind meta place
   act_is digest who (flow.Dir (dir_flow.Reserves chain name mode)) asked place (reply.Reserved version) = tt
@@ -97,63 +99,27 @@ module _ (P : Of) (of : IsOfServes P) where
   act_is digest who (flow.Dir step) asked place given = fails_is flow.Dir who (flow.Dir step) place given
 
   told_is : (digest : List ℕ → Id) (who : Who) (step : Flow) (place : ℕ) (told : Option Told) (xs : List Sent)
-      → TurnIs P (act_turn digest who step (record { place = place; told = told } ∷ xs))
+      → FlowIs P (act_turn digest who step (record { place = place; told = told } ∷ xs))
   told_is digest who step place None xs = tt
   told_is digest who step place (Some told) xs = act_is digest who step place told.serve_place told.reply
 
-  flow_is : (digest : List ℕ → Id) (who : Who) (step : Flow) (sent : List Sent) → TurnIs P (act_turn digest who step sent)
+  flow_is : (digest : List ℕ → Id) (who : Who) (step : Flow) (sent : List Sent) → FlowIs P (act_turn digest who step sent)
   flow_is digest who step [] = tt
   flow_is digest who step (x ∷ xs) = told_is digest who step x.place x.told xs
 
-  -- ---- after a round
+  -- ---- after a group
 
-  abbrev NextIs : Next → Type 0
-  NextIs (is_busy given place) = P given (Some place)
-  NextIs other_next = Unit {0}
+  as_act : (t : Turn Flow) → FlowIs P t → TurnIs P (turn_as act t)
+  as_act (turn.GoesOn next) is = tt
+  as_act (turn.WindsUp end more) is = is
 
-  reply_is : (before : Entry) (place : ℕ) (given : Reply) → NextIs (next_entry before (Some (record { serve_place = place; reply = given })))
-  reply_is before place (reply.Found k access) = if_both NextIs (links_to (dir_of before.access) k) (steps (told_entry k access place)) stops tt tt
-  reply_is before place (reply.Busy by at born) = if_both NextIs (born == before.access.born) (is_busy (answer.Again by) place) stops (of.again by place) tt
-  reply_is before place any_reply = tt
-
-  next_is : (before : Entry) (told : Option Told) → NextIs (next_entry before told)
-  next_is before None = tt
-  next_is before (Some told) = reply_is before told.serve_place told.reply
-
-  by_next_is : (course : Course) (chain : List Entry) (name : List ℕ) (names : List (List ℕ)) (go : Entry → Turn Flow) (next : Next) → NextIs next
-      → ((e : Entry) → TurnIs P (go e)) → TurnIs P (by_next course chain name names go next)
-  by_next_is course chain name names go (steps e) is goes = goes e
-  by_next_is course chain name names go stops is goes = tt
-  by_next_is course chain name names go (is_busy given place) is goes = is
-
-  follow_is : (course : Course) (chain : List Entry) (before : Entry) (names : List (List ℕ)) (sent : List Sent) → TurnIs P (follow course chain before names sent)
-  follow_is course chain before [] sent = tt
-  follow_is course chain before (name ∷ names) [] = tt
-  follow_is course chain before (name ∷ names) (x ∷ xs) =
-      by_next_is course chain name names (λ e. follow course (chain ++ e ∷ []) e names xs) (next_entry before x.told) (next_is before x.told)
-      (λ e. follow_is course (chain ++ e ∷ []) e names xs)
-
-  root_is : (course : Course) (xs : List Sent) (told : Told) (given : Reply) → TurnIs P (from_root course xs told given)
-  root_is course xs told (reply.Found k access) =
-      follow_is course (told_entry k access told.serve_place ∷ []) (told_entry k access told.serve_place) course.looked xs
-  root_is course xs told (reply.Busy by at born) = of.again by told.serve_place
-  root_is course xs told any_reply = tt
-
-  first_is : (course : Course) (place : ℕ) (told : Option Told) (xs : List Sent)
-      → TurnIs P (after_round (Some course) (record { place = place; told = told } ∷ xs))
-  first_is course place None xs = if_both (TurnIs P) _ (turn.WindsUp (ending.Answers answer.NoMemory None) []) (turn.WindsUp ending.Retries []) of.wanting tt
-  first_is course place (Some told) xs =
-      if_both (TurnIs P) _ (turn.WindsUp (ending.Answers answer.NoMemory None) []) (from_root course xs told told.reply) of.wanting (root_is course xs told told.reply)
-
-  round_is : (course : Option Course) (sent : List Sent) → TurnIs P (after_round course sent)
-  round_is None sent = tt
-  round_is (Some course) [] = tt
-  round_is (Some course) (x ∷ xs) = first_is course x.place x.told xs
+  round_is : (digest : List ℕ → Id) (s : ClientState) → TurnIs P (round_turn digest s)
+  round_is digest s = by_round (TurnIs P) digest s tt tt of.wanting (λ by place way. of.again by place)
 
   turn_is : (digest : List ℕ → Id) (s : ClientState) (stage : Stage) → StageIs P stage → TurnIs P (turn_at digest s stage)
   turn_is digest s compose is = tt
-  turn_is digest s (round keys) is = round_is (next_course s.left) s.sent
-  turn_is digest s (act step) is = flow_is digest s.who step s.sent
+  turn_is digest s (round keys) is = round_is digest s
+  turn_is digest s (act step) is = as_act (act_turn digest s.who step s.sent) (flow_is digest s.who step s.sent)
   turn_is digest s (winds end m ms) is = is
 
   -- ---- a client
@@ -171,9 +137,17 @@ module _ (P : Of) (of : IsOfServes P) where
   wound_are ending.Retries [] s is before = record { results = before; stage = tt }
   wound_are end (m ∷ ms) s is before = record { results = before; stage = is }
 
-  turned_are : (t : Turn Flow) (s : ClientState) → TurnIs P t → All (ResultIs P) s.results → AllAre (turned t s)
+  turned_are : (t : Turn Stage) (s : ClientState) → TurnIs P t → All (ResultIs P) s.results → AllAre (turned t s)
   turned_are (turn.GoesOn next) s is before = record { results = before; stage = is }
   turned_are (turn.WindsUp end more) s is before = wound_are end more s is before
+
+  over_are : (digest : List ℕ → Id) (s : ClientState) (stage : Stage) → StageIs P stage → All (ResultIs P) s.results
+      → AllAre (turned (turn_at digest (learned stage s) stage) (learned stage s))
+  over_are digest s compose is before = turned_are (turn_at digest s compose) s tt before
+  over_are digest s (round keys) is before =
+      let t : ClientState = learned (round keys) s in turned_are (turn_at digest t (round keys)) t (turn_is digest t (round keys) tt) before
+  over_are digest s (act step) is before = turned_are (turn_at digest s (act step)) s (turn_is digest s (act step) tt) before
+  over_are digest s (winds end m ms) is before = turned_are (turn_at digest s (winds end m ms)) s is before
 
   given_up_are : (s : ClientState) (stage : Stage) → AllAre s → AllAre (given_up_in s stage)
   given_up_are s (act step) before = wound_are (ending.Answers answer.NoMemory None) (clean_up s.who step) s of.wanting before.results
@@ -181,12 +155,8 @@ module _ (P : Of) (of : IsOfServes P) where
   given_up_are s compose before = ended_are answer.NoMemory None s of.wanting before.results
   given_up_are s (round keys) before = ended_are answer.NoMemory None s of.wanting before.results
 
-  keys_are : (digest : List ℕ → Id) (who : Who) (course : Option Course) → StageIs P (keys_of digest who course)
-  keys_are digest who None = tt
-  keys_are digest who (Some course) = tt
-
   composed_is : (digest : List ℕ → Id) (s : ClientState) (stage : Stage) → StageIs P stage → StageIs P (composed_stage digest s stage)
-  composed_is digest s compose is = keys_are digest s.who (next_course s.left)
+  composed_is digest s compose is = by_next (StageIs P) digest s.who s.known (next_course s.left) tt (λ keys. tt) (λ course old new leads. tt)
   composed_is digest s (round keys) is = is
   composed_is digest s (act step) is = is
   composed_is digest s (winds end m ms) is = is
@@ -202,9 +172,7 @@ module _ (P : Of) (of : IsOfServes P) where
       by_answer digest AllAre ask_place told s
       (λ apart. before)
       (λ here going. record { results = before.results; stage = before.stage })
-      (λ here over.
-      turned_are (turn_at digest (recorded ask_place told s) s.stage) (recorded ask_place told s)
-      (turn_is digest (recorded ask_place told s) s.stage before.stage) before.results)
+      (λ here over. over_are digest (recorded_in ask_place told s) s.stage before.stage before.results)
 
   starting_are : (world : World) (client : ℕ) (line : Option ClientLine) → AllAre (starting world client line)
   starting_are world client None = record { results = All-nil (ResultIs P); stage = tt }
@@ -218,7 +186,7 @@ module _ (P : Of) (of : IsOfServes P) where
       if_both AllAre (eqb ask.from.client client) (asked world.digest (suc (length h)) ask s) s
       (record { results = now.results; stage = now.stage }) (answers_after world client h)
   answers_after world client (event.Serve number ask_place given ∷ h) =
-      served_are world.digest ask_place (told_reply (suc (length h)) (heard given)) (client_after world client h) (answers_after world client h)
+      served_are world.digest ask_place (told_reply (suc (length h)) given) (client_after world client h) (answers_after world client h)
 
   pub all_given_up_are : (digest : List ℕ → Id) (s : ClientState) → AllAre s → AllAre (all_given_up s.left s)
   all_given_up_are digest s are = kept_all_given_up digest AllAre (kept digest) s.left s are
@@ -254,7 +222,7 @@ module _ (P : Of) (of : IsOfServes P) where
         subst (All (ResultIs P)) (sym gave.1) (results_are (all_given_up s.left s) (all_given_up_are digest s are)))
         agrees
 
-    -- the ending.Answers of all results, with their places
+    -- the answers of all results, with their places
     pub outcome_are : (world : World) (h : List Event) (client : ℕ) (lines : List ClientLine) (results : List CallResult)
         → OutcomeFrom world h client lines results → All (ResultIs P) results
     outcome_are world h client [] results out = subst (All (ResultIs P)) (sym out) (All-nil (ResultIs P))

@@ -17,18 +17,18 @@ use Rattle.inf_message.specs.declared.ending.Ending.TheVariants as ending
 use Rattle.inf_message.specs.declared.turn.Turn.TheVariants as turn
 use Rattle.inf_duty.specs.ClientState.{ClientState, Stage, act, call_ref, compose, ended, result_of, round, winds, wound}
 use Rattle.inf_duty.specs.Flow.{clean_up}
-use Rattle.inf_duty.specs.Group.{Course, composed_stage, keys_of, next_course}
-use Rattle.inf_duty.specs.Turn.{act_turn, after_round, recorded, served, turn_at, turned}
+use Rattle.inf_duty.specs.Group.{composed_stage}
+use Rattle.inf_duty.specs.Course.{next_course}
+use Rattle.inf_duty.specs.Turn.{act_turn, learned, served, turn_at, turned}
 use Rattle.inf_duty.specs.declared.flow.Flow.{Flow}
-use Rattle.inf_message.specs.Heard.{heard}
 use Rattle.inf_message.specs.Sent.{has_place}
-use Rattle.inf_message.specs.Who.{Who}
+use Rattle.inf_message.specs.Turn.{turn_as}
 use Rattle.inf_message.specs.declared.ending.Ending.{Ending}
 use Rattle.inf_message.specs.declared.turn.Turn.{Turn}
 use Rattle.inf_laws_history.specs.Legal.{Legal, MayServe}
-use Rattle.inf_laws_history.proofs.ClientSteps.{by_answer}
-use Rattle.inf_laws_history.proofs.Turns.{TurnOf}
-use Rattle.inf_message.specs.declared.ask.Ask.{Ask}
+use Rattle.inf_laws_history.proofs.ClientSteps.{by_answer, recorded_in}
+use Rattle.inf_laws_history.proofs.Turns.{TurnOf, by_next, by_round}
+use Rattle.inf_resolve.specs.InTheWay.{IsInTheWay}
 use Rattle.inf_message.specs.declared.call_result.CallResult.{CallResult}
 use Rattle.inf_message.specs.declared.event.Event.{Event}
 use Rattle.inf_message.specs.declared.event.Event.TheVariants as event
@@ -54,8 +54,8 @@ abbrev StageHas : Of → List Event → CallRef → Stage → Type 0
 StageHas P h call (winds end m ms) = EndingHas P h call end
 StageHas P h call other_stage = Unit {0}
 
-abbrev TurnHas : Of → List Event → CallRef → Turn Flow → Type 0
-TurnHas P h call (turn.GoesOn next) = StageHas P h call (act next)
+abbrev TurnHas : Of → List Event → CallRef → Turn Stage → Type 0
+TurnHas P h call (turn.GoesOn next) = StageHas P h call next
 TurnHas P h call (turn.WindsUp end more) = EndingHas P h call end
 
 -- it lasts, and each group that is over brings it
@@ -63,12 +63,13 @@ pub record IsBrought (world : World) (P : Of) : Type 0 where
   pub stays : (e : Event) (h : List Event) (call : CallRef) (given : Answer) (place : ℕ) → P h call given place → P (e ∷ h) call given place
   pub by_round : (h : List Event) → Legal world h → (number ask_place : ℕ) (given : Reply) → MayServe world h number ask_place given → (client : ℕ) (keys : List LookKey)
       → (client_after world client h).stage ≡ round keys → has_place ask_place (client_after world client h).sent ≡ true
-      → TurnOf (P (event.Serve number ask_place given ∷ h) (call_ref (client_after world client h)))
-      (after_round (next_course (client_after world client h).left) (recorded ask_place (told_reply (suc (length h)) (heard given)) (client_after world client h)).sent)
+      → (by : CallRef) (place : ℕ)
+      → IsInTheWay (learned (round keys) (recorded_in ask_place (told_reply (suc (length h)) given) (client_after world client h))).known by place
+      → P (event.Serve number ask_place given ∷ h) (call_ref (client_after world client h)) (answer.Again by) place
   pub by_flow : (h : List Event) → Legal world h → (number ask_place : ℕ) (given : Reply) → MayServe world h number ask_place given → (client : ℕ) (flow : Flow)
       → (client_after world client h).stage ≡ act flow → has_place ask_place (client_after world client h).sent ≡ true
       → TurnOf (P (event.Serve number ask_place given ∷ h) (call_ref (client_after world client h)))
-      (act_turn world.digest (client_after world client h).who flow (recorded ask_place (told_reply (suc (length h)) (heard given)) (client_after world client h)).sent)
+      (act_turn world.digest (client_after world client h).who flow (recorded_in ask_place (told_reply (suc (length h)) given) (client_after world client h)).sent)
 
 module _ (world : World) (P : Of) (brought : IsBrought world P) where
   record AllHave (h : List Event) (s : ClientState) : Type 0 where
@@ -102,7 +103,7 @@ module _ (world : World) (P : Of) (brought : IsBrought world P) where
     wound_have ending.Retries [] s is before = record { results = before; stage = tt }
     wound_have end (m ∷ ms) s is before = record { results = before; stage = is }
 
-    turned_have : (t : Turn Flow) (s : ClientState) → TurnHas P h (call_ref s) t → All (ResultHas P h) s.results → AllHave h (turned t s)
+    turned_have : (t : Turn Stage) (s : ClientState) → TurnHas P h (call_ref s) t → All (ResultHas P h) s.results → AllHave h (turned t s)
     turned_have (turn.GoesOn next) s is before = record { results = before; stage = is }
     turned_have (turn.WindsUp end more) s is before = wound_have end more s is before
 
@@ -112,12 +113,9 @@ module _ (world : World) (P : Of) (brought : IsBrought world P) where
     given_up_have s compose before = ended_have answer.NoMemory None s tt before.results
     given_up_have s (round keys) before = ended_have answer.NoMemory None s tt before.results
 
-    keys_have : (call : CallRef) (who : Who) (course : Option Course) → StageHas P h call (keys_of world.digest who course)
-    keys_have call who None = tt
-    keys_have call who (Some course) = tt
-
     composed_has : (s : ClientState) (stage : Stage) → StageHas P h (call_ref s) stage → StageHas P h (call_ref s) (composed_stage world.digest s stage)
-    composed_has s compose is = keys_have (call_ref s) s.who (next_course s.left)
+    composed_has s compose is =
+        by_next (StageHas P h (call_ref s)) world.digest s.who s.known (next_course s.left) tt (λ keys. tt) (λ course old new leads. tt)
     composed_has s (round keys) is = is
     composed_has s (act flow) is = is
     composed_has s (winds end m ms) is = is
@@ -130,7 +128,7 @@ module _ (world : World) (P : Of) (brought : IsBrought world P) where
 
     -- ---- a Serve
 
-    turn_has : (call : CallRef) (t : Turn Flow) → TurnOf (P h call) t → TurnHas P h call t
+    turn_has : (call : CallRef) (t : Turn Flow) → TurnOf (P h call) t → TurnHas P h call (turn_as act t)
     turn_has call (turn.GoesOn step) is = tt
     turn_has call (turn.WindsUp (ending.Answers given (Some place)) more) is = is
     turn_has call (turn.WindsUp other_ending more) is = tt
@@ -143,21 +141,34 @@ module _ (world : World) (P : Of) (brought : IsBrought world P) where
     s = client_after world client h
 
     abbrev told : Told
-    told = told_reply (suc (length h)) (heard given)
+    told = told_reply (suc (length h)) given
+
+    abbrev told_now : ClientState
+    told_now = recorded_in ask_place told s
 
     by_stage : has_place ask_place s.sent ≡ true → (stage : Stage) → s.stage ≡ stage → StageHas P now (call_ref s) stage
-        → TurnHas P now (call_ref s) (turn_at world.digest (recorded ask_place told s) stage)
+        → TurnHas P now (call_ref s) (turn_at world.digest (learned stage told_now) stage)
     by_stage here compose is has = tt
-    by_stage here (round keys) is has = turn_has now (call_ref s) _ (brought.by_round h legal number ask_place given may client keys is here)
+    by_stage here (round keys) is has =
+        by_round (TurnHas P now (call_ref s)) world.digest (learned (round keys) told_now) tt tt tt
+        (brought.by_round h legal number ask_place given may client keys is here)
     by_stage here (act flow) is has = turn_has now (call_ref s) _ (brought.by_flow h legal number ask_place given may client flow is here)
     by_stage here (winds end m ms) is has = has
+
+    over_has : (stage : Stage) → TurnHas P now (call_ref s) (turn_at world.digest (learned stage told_now) stage) → All (ResultHas P now) s.results
+        → AllHave now (turned (turn_at world.digest (learned stage told_now) stage) (learned stage told_now))
+    over_has compose has before = turned_have now (turn_at world.digest told_now compose) told_now has before
+    over_has (round keys) has before =
+        turned_have now (turn_at world.digest (learned (round keys) told_now) (round keys)) (learned (round keys) told_now) has before
+    over_has (act flow) has before = turned_have now (turn_at world.digest told_now (act flow)) told_now has before
+    over_has (winds end m ms) has before = turned_have now (turn_at world.digest told_now (winds end m ms)) told_now has before
 
     served_has : AllHave now s → AllHave now (served world.digest ask_place told s)
     served_has before =
         by_answer world.digest (AllHave now) ask_place told s
         (λ apart. before)
         (λ here going. record { results = before.results; stage = before.stage })
-        (λ here over. turned_have now (turn_at world.digest (recorded ask_place told s) s.stage) (recorded ask_place told s) (by_stage here s.stage refl before.stage) before.results)
+        (λ here over. over_has s.stage (by_stage here s.stage refl before.stage) before.results)
 
   starting_have : (client : ℕ) (line : Option ClientLine) → AllHave [] (starting world client line)
   starting_have client None = record { results = All-nil (ResultHas P []); stage = tt }

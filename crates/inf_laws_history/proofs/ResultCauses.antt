@@ -14,6 +14,8 @@ use Rattle.inf_message.specs.Sent.{Sent}
 use Rattle.inf_message.specs.declared.ending.Ending.{Ending}
 use Rattle.inf_laws_history.specs.Causes.{before}
 use Rattle.inf_laws_history.specs.Legal.{Legal, MayServe}
+use Rattle.inf_laws_history.specs.Objects.{WasAskedIn}
+use Rattle.inf_laws_history.proofs.AskedGroups.{asked_in_stays}
 use Rattle.inf_message.specs.declared.ask.Ask.{Ask}
 use Rattle.inf_message.specs.declared.call_result.CallResult.{CallResult}
 use Rattle.inf_message.specs.declared.event.Event.{Event}
@@ -22,7 +24,8 @@ use Rattle.inf_message.specs.declared.reply.Reply.{Reply}
 use Rattle.inf_message.specs.declared.reply.Reply.TheVariants as reply
 use Rattle.inf_message.specs.declared.reply.Spot.{Spot}
 use Rattle.inf_message.specs.declared.request.Request.TheVariants as request
-use Rattle.inf_message.specs.History.{Posted, Told, asked_at, event_at}
+use Rattle.inf_message.specs.History.{Posted, Told, asked_at, event_at, told_reply}
+use Rattle.inf_resolve.specs.declared.known.Known.{Known}
 use Rattle.inf_message.proofs.HistoryLaws.{asked_stays, asked_within, by_test, event_stays, event_within}
 
 -- ---- earlier events
@@ -88,10 +91,16 @@ pub record IsServedFor (h : List Event) (call : CallRef) (place : ℕ) (told : T
   pub number : ℕ
   pub given : Reply
   pub stands : event_at told.serve_place h ≡ Some (event.Serve number place given)
-  pub hears : heard given ≡ told.reply
+  pub hears : heard given ≡ heard told.reply
   pub posted : Posted
   pub asked : asked_at place (before told.serve_place h) ≡ Some posted
   pub own : posted.ask.from ≡ call
+
+-- and it was a lookup of this key
+pub record IsKnownFor (h : List Event) (call : CallRef) (known : Known) : Type 0 where
+  pub ask_place : ℕ
+  pub served : IsServedFor h call ask_place (told_reply known.place known.reply)
+  pub looks : WasAskedIn h ask_place (request.Lookup known.key)
 
 -- a Serve told the call that another one is in the way
 pub record IsBusyFor (h : List Event) (call by : CallRef) (at : Option ℕ) : Type 0 where
@@ -143,10 +152,15 @@ abbrev pub AreServed : List Event → CallRef → List Sent → Type 0
 AreServed h call [] = Unit {0}
 AreServed h call (x ∷ xs) = IsServedIf h call x.place x.told × AreServed h call xs
 
--- a client's results, and the answer that its call comes to, rest on Serves; so does what its group was told
+abbrev pub AreKnown : List Event → CallRef → List Known → Type 0
+AreKnown h call [] = Unit {0}
+AreKnown h call (k ∷ ks) = IsKnownFor h call k × AreKnown h call ks
+
+-- a client's results, and the answer that its call comes to, rest on Serves; so does what its attempt was told
 pub record IsCaused (h : List Event) (s : ClientState) : Type 0 where
   pub results : AllCaused h s.results
   pub stage : StageCaused h (call_ref s) s.stage
+  pub known : AreKnown h (call_ref s) s.known
   pub sent : AreServed h (call_ref s) s.sent
 
 -- ---- one event more
@@ -217,6 +231,17 @@ module _ (e : Event) (h : List Event) (call : CallRef) where
   sent_stays [] is = tt
   sent_stays (x ∷ xs) is = (if_stays x.place x.told is.0, sent_stays xs is.1)
 
+  pub known_stays : (known : List Known) → AreKnown h call known → AreKnown (e ∷ h) call known
+  known_stays [] is = tt
+  known_stays (k ∷ ks) is = (
+    record {
+      ask_place = is.0.ask_place;
+      served = served_stays is.0.ask_place (told_reply k.place k.reply) is.0.served;
+      looks = asked_in_stays h e is.0.ask_place (request.Lookup k.key) is.0.looks;
+    },
+    known_stays ks is.1,
+  )
+
 results_stay : (e : Event) (h : List Event) (results : List CallResult) → AllCaused h results → AllCaused (e ∷ h) results
 results_stay e h [] all = tt
 results_stay e h (r ∷ rs) all = (cause_stays e h r.call r.answer r.place all.0, results_stay e h rs all.1)
@@ -225,5 +250,6 @@ pub caused_stays : (e : Event) (h : List Event) (s : ClientState) → IsCaused h
 caused_stays e h s is = record {
   results = results_stay e h s.results is.results;
   stage = stage_stays e h (call_ref s) s.stage is.stage;
+  known = known_stays e h (call_ref s) s.known is.known;
   sent = sent_stays e h (call_ref s) s.sent is.sent;
 }

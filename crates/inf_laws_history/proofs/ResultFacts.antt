@@ -16,8 +16,9 @@ use Rattle.inf_message.specs.declared.ending.Ending.TheVariants as ending
 use Rattle.inf_message.specs.declared.turn.Turn.TheVariants as turn
 use Rattle.inf_duty.specs.ClientState.{ClientState, Stage, act, compose, ended, rest_of, result_of, round, winds, wound}
 use Rattle.inf_duty.specs.Flow.{clean_up}
-use Rattle.inf_duty.specs.Group.{Course, composed_stage, keys_of, next_course}
-use Rattle.inf_duty.specs.Turn.{act_turn, after_round, recorded, served, turn_at, turned}
+use Rattle.inf_duty.specs.Group.{composed_stage}
+use Rattle.inf_duty.specs.Course.{next_course}
+use Rattle.inf_duty.specs.Turn.{act_turn, learned, round_turn, served, told_in, turn_at, turned}
 use Rattle.inf_message.specs.Who.{Who}
 use Rattle.inf_message.specs.declared.ending.Ending.{Ending}
 use Rattle.inf_message.specs.declared.turn.Turn.{Turn}
@@ -30,10 +31,9 @@ use Rattle.inf_message.specs.declared.step.Message.{Message}
 use Rattle.inf_message.specs.History.{Told}
 use Rattle.inf_tree.specs.Replay.{Decided}
 use Rattle.inf_duty.proofs.BegunKept.{IsKept, kept_all_given_up, kept_begun}
-use Rattle.inf_laws_history.proofs.ClientSteps.{Lasts, begun_lasts, by_serve, lasts_kept, served_lasts}
+use Rattle.inf_laws_history.proofs.ClientSteps.{Lasts, begun_lasts, by_serve, lasts_kept, recorded_in, served_lasts}
 use Rattle.inf_laws_history.proofs.Open.{IsOpen, TellsFlow, told_completes}
-use Rattle.inf_laws_history.proofs.Turns.{IsAt, IsOfRound, TurnOf, act_turn_at, round_turn_is, weaker_turn}
-use Rattle.inf_duty.specs.declared.flow.Flow.{Flow}
+use Rattle.inf_laws_history.proofs.Turns.{IsAt, IsOnward, StageTurnOf, act_turn_at, by_next, by_round, kept_place, turn_as_act, weaker_turn}
 
 -- ---- what a client reads off its line of the setup
 
@@ -73,6 +73,7 @@ module _ (world : World) (client : ℕ) (line : Option ClientLine) where
     };
     again = λ s is. record { who = is.who; counted = is.counted; left = is.left };
     going_on = λ next s is. record { who = is.who; counted = is.counted; left = is.left };
+    learning = λ known s is. record { who = is.who; counted = is.counted; left = is.left };
   }
 
   pub asked_reads : (place : ℕ) (ask : Ask) (s : ClientState) → Reads world client line s → Reads world client line (asked world.digest place ask s)
@@ -222,12 +223,10 @@ module _ (world : World) (client : ℕ) (line : Option ClientLine) (found : slic
 
   -- ---- before a group
 
-  keys_at : (who : Who) (caller : Caller) (left : List Call) (course : Option Course) → by_stage place caller left (keys_of world.digest who course) ≡ []
-  keys_at who caller left None = refl
-  keys_at who caller left (Some course) = refl
-
   composed_at : (stage : Stage) (s : ClientState) → by_stage place s.who.caller s.left (composed_stage world.digest s stage) ≡ by_stage place s.who.caller s.left stage
-  composed_at compose s = keys_at s.who s.who.caller s.left (next_course s.left)
+  composed_at compose s =
+      by_next (λ (next : Stage). by_stage place s.who.caller s.left next ≡ []) world.digest s.who s.known (next_course s.left) refl (λ keys. refl)
+      (λ course old new leads. refl)
   composed_at (round keys) s = refl
   composed_at (act flow) s = refl
   composed_at (winds end m ms) s = refl
@@ -304,9 +303,16 @@ module _ (world : World) (client : ℕ) (line : Option ClientLine) (found : slic
       none_only place at _ none ∙ sym (none_only place now _ (called_is s s.left given ∙ none)))
       said
 
-  turned_comes : (now : ℕ) (t : Turn Flow) (s : ClientState) → Reads world client line s → TurnOf (IsSaidAt now) t
+  onward_at : (caller : Caller) (left : List Call) (next : Stage) → IsOnward next → by_stage place caller left next ≡ []
+  onward_at caller left compose is = refl
+  onward_at caller left (round keys) is = refl
+  onward_at caller left (act flow) is = refl
+  onward_at caller left (winds end m ms) is = absurd is
+
+  turned_comes : (now : ℕ) (t : Turn Stage) (s : ClientState) → Reads world client line s → StageTurnOf (IsSaidAt now) t
       → comes_to world place (turned t s) ≡ tree_at world place s.results ++ only_at place now (decided_by_turn s t)
-  turned_comes now (turn.GoesOn step) s reads is = ap (λ more. tree_at world place s.results ++ more) (sym (no_more (eqb place now)))
+  turned_comes now (turn.GoesOn next) s reads is =
+      ap (λ more. tree_at world place s.results ++ more) (onward_at s.who.caller s.left next is ∙ sym (no_more (eqb place now)))
   turned_comes now (turn.WindsUp (ending.Answers given (Some at)) more) s reads is =
       wound_comes (ending.Answers given (Some at)) more s reads
       ∙ ap (λ these. tree_at world place s.results ++ these) (said_at now at given s is)
@@ -317,19 +323,26 @@ module _ (world : World) (client : ℕ) (line : Option ClientLine) (found : slic
       wound_comes ending.Retries more s reads
       ∙ ap (λ these. tree_at world place s.results ++ these) (sym (no_more (eqb place now)))
 
+  round_said : (now : ℕ) (s : ClientState) → StageTurnOf (IsSaidAt now) (round_turn world.digest s)
+  round_said now s = by_round (StageTurnOf (IsSaidAt now)) world.digest s tt tt tt (λ by at way. inr refl)
+
   stage_comes : (told : Told) (stage : Stage) (s : ClientState) → Reads world client line s → TellsFlow told stage s.sent
-      → comes_to world place (turned (turn_at world.digest s stage) s) ≡ (tree_at world place s.results ++ by_stage place s.who.caller s.left stage) ++ only_at place told.serve_place (decided_at_stage world.digest s stage)
+      → comes_to world place (turned (turn_at world.digest (learned stage s) stage) (learned stage s))
+      ≡ (tree_at world place s.results ++ by_stage place s.who.caller s.left stage) ++ only_at place told.serve_place (decided_at_stage world.digest s stage)
   stage_comes told compose s reads tells =
       ap (λ front. front ++ []) (sym (append-nil (tree_at world place s.results)))
       ∙ ap (λ more. (tree_at world place s.results ++ []) ++ more) (sym (no_more (eqb place told.serve_place)))
   stage_comes told (round keys) s reads tells =
-      turned_comes told.serve_place (after_round (next_course s.left) s.sent) s reads
-      (weaker_turn (IsOfRound s.sent) (IsSaidAt told.serve_place) (λ given at is. inr is.other) _ (round_turn_is (next_course s.left) s.sent))
-      ∙ ap (λ front. front ++ only_at place told.serve_place (decided_by_turn s (after_round (next_course s.left) s.sent))) (sym (append-nil (tree_at world place s.results)))
+      let t : ClientState = learned (round keys) s in
+      turned_comes told.serve_place (round_turn world.digest t) t (record { who = reads.who; counted = reads.counted; left = reads.left })
+      (round_said told.serve_place t)
+      ∙ ap (λ front. front ++ only_at place told.serve_place (decided_by_turn s (round_turn world.digest t))) (sym (append-nil (tree_at world place s.results)))
   stage_comes told (act flow) s reads tells =
-      turned_comes told.serve_place (act_turn world.digest s.who flow s.sent) s reads
-      (weaker_turn (IsAt told.serve_place) (IsSaidAt told.serve_place) (λ given at is. inl is) _ (act_turn_at world.digest s.who flow s.sent told tells))
-      ∙ ap (λ front. front ++ only_at place told.serve_place (decided_by_turn s (act_turn world.digest s.who flow s.sent))) (sym (append-nil (tree_at world place s.results)))
+      let t : Turn Stage = turn_at world.digest s (act flow) in
+      turned_comes told.serve_place t s reads
+      (turn_as_act (IsSaidAt told.serve_place) (act_turn world.digest s.who flow s.sent)
+      (weaker_turn (IsAt told.serve_place) (IsSaidAt told.serve_place) (λ given at is. inl is) _ (act_turn_at world.digest s.who flow s.sent told tells)))
+      ∙ ap (λ front. front ++ only_at place told.serve_place (decided_by_turn s t)) (sym (append-nil (tree_at world place s.results)))
   stage_comes told (winds end m ms) s reads tells =
       wound_comes end ms s reads
       ∙ sym (append-nil _)
@@ -339,11 +352,13 @@ module _ (world : World) (client : ℕ) (line : Option ClientLine) (found : slic
   pub served_comes : (ask_place : ℕ) (told : Told) (s : ClientState) → IsOpen s → Reads world client line s
       → comes_to world place (served world.digest ask_place told s) ≡ comes_to world place s ++ only_at place told.serve_place (decided_for world.digest ask_place told s)
   served_comes ask_place told s is reads =
-      let now : Reads world client line (recorded ask_place told s) = record { who = reads.who; counted = reads.counted; left = reads.left } in
+      let now : Reads world client line (recorded_in ask_place told s) = record { who = reads.who; counted = reads.counted; left = reads.left } in
       let same : comes_to world place s ≡ comes_to world place s ++ only_at place told.serve_place nothing =
       sym (append-nil _) ∙ ap (λ more. comes_to world place s ++ more) (sym (no_more (eqb place told.serve_place)))
       in
       by_serve world.digest (λ t made. comes_to world place t ≡ comes_to world place s ++ only_at place told.serve_place made) ask_place told s
       (λ apart. same)
       (λ here going. same)
-      (λ here complete. stage_comes told s.stage (recorded ask_place told s) now (told_completes ask_place told s is here complete))
+      (λ here complete.
+      stage_comes (told_in s told) s.stage (recorded_in ask_place told s) now (told_completes ask_place (told_in s told) s is here complete)
+      ∙ ap (λ p. comes_to world place s ++ only_at place p (decided_at_stage world.digest (recorded_in ask_place told s) s.stage)) (kept_place s told))

@@ -5,10 +5,9 @@ use Rattle.inf_base.specs.declared.caller.Caller.{Caller}
 use Rattle.inf_base.specs.declared.id.Id.{Id}
 use Rattle.inf_duty.specs.ClientState.{ClientState, Stage, act, compose, round, winds}
 use Rattle.inf_duty.specs.Flow.{message_of}
-use Rattle.inf_duty.specs.Group.{group, next_course}
-use Rattle.inf_duty.specs.Turn.{is_complete, recorded}
+use Rattle.inf_duty.specs.Group.{group}
+use Rattle.inf_duty.specs.Turn.{is_complete, learned, recorded, told_in}
 use Rattle.inf_duty.specs.declared.flow.Flow.{Flow}
-use Rattle.inf_message.specs.Heard.{heard}
 use Rattle.inf_message.specs.Sent.{Sent, has_place, told_at}
 use Rattle.inf_laws_client.specs.Asked.{AreAskedFor, AsksItsGroup}
 use Rattle.inf_laws_directory.specs.Owes.{Goes, Moment, Owes}
@@ -65,8 +64,10 @@ if_none : (digest : List ℕ → Id) (b : Bool) (s : ClientState) → decided_at
 if_none digest true s none = none
 if_none digest false s none = refl
 
-when_none : (digest : List ℕ → Id) (b : Bool) (place : ℕ) (told : Told) (s : ClientState) → decided_at_stage digest (recorded place told s) s.stage ≡ [] → decided_when digest b place told s ≡ []
-when_none digest true place told s none = if_none digest (is_complete (recorded place told s)) (recorded place told s) none
+when_none : (digest : List ℕ → Id) (b : Bool) (place : ℕ) (told : Told) (s : ClientState)
+    → decided_at_stage digest (recorded place (told_in s told) s) s.stage ≡ [] → decided_when digest b place told s ≡ []
+when_none digest true place told s none =
+    let now : ClientState = recorded place (told_in s told) s in if_none digest (is_complete now) now none
 when_none digest false place told s none = refl
 
 abbrev waiting : ℕ → Sent
@@ -78,9 +79,10 @@ module _ (digest : List ℕ → Id) (A : ℕ → Request → Type 0) (m : Moment
   in_stage stage sent = record s { stage = stage; sent = sent }
 
   abbrev told : Told
-  told = told_reply serve_place (heard given)
+  told = told_reply serve_place given
 
-  quiet_comes : (t : ClientState) → decided_at_stage digest (recorded place told t) t.stage ≡ [] → IsQuiet ask.request → Comes m (decided_for digest place told t)
+  quiet_comes : (t : ClientState) → decided_at_stage digest (recorded place (told_in t told) t) t.stage ≡ []
+      → IsQuiet ask.request → Comes m (decided_for digest place told t)
   quiet_comes t none quiet =
       subst (λ (ds : List Decided). Comes m ds) (sym (when_none digest (has_place place t.sent) place told t none))
       (comes_on m (quiet_goes m s.who.caller asked ask.request given quiet owes))
@@ -108,8 +110,9 @@ module _ (digest : List ℕ → Id) (A : ℕ → Request → Type 0) (m : Moment
   by_stage compose sent phase waits asks has = let none = waits.message in absurd cc
   by_stage (round keys) sent phase waits asks has =
       let found = look_in s.who keys waits.index number ask.request waits.message in
-      quiet_comes (in_stage (round keys) sent)
-      (round_undecided (recorded place told (in_stage (round keys) sent)) (next_course s.left) (recorded place told (in_stage (round keys) sent)).sent)
+      let before : ClientState = in_stage (round keys) sent in
+      let now : ClientState = recorded place (told_in before told) before in
+      quiet_comes before (round_undecided digest now (learned (round keys) now))
       (subst (λ (r : Request). IsQuiet r) (sym found.is) tt)
   by_stage (act flow) sent phase waits asks has =
       let lone = alone A (message_of s.who flow) sent waits.index place number ask.request waits.sent waits.message asks in

@@ -4,6 +4,7 @@ use Rattle.std.proofs.lemmas.Bool.Decides.{Decides-eqb}
 use Rattle.inf_base.specs.declared.access.Access.{Access}
 use Rattle.inf_base.specs.declared.caller.Caller.{Caller}
 use Rattle.inf_base.specs.declared.directory.DirRef.{DirRef}
+use Rattle.inf_base.specs.declared.entry.Entry.{Entry}
 use Rattle.inf_base.specs.declared.key.Key.{Key}
 use Rattle.inf_base.specs.declared.key.Key.TheVariants as key
 use Rattle.inf_base.specs.declared.key.LookKey.{LookKey}
@@ -12,12 +13,11 @@ use Rattle.inf_base.specs.Same.{dir_of}
 use Rattle.inf_duty.specs.After.{client_after}
 use Rattle.inf_duty.specs.World.{World}
 use Rattle.inf_duty.specs.ClientState.{ClientState, call_ref}
-use Rattle.inf_message.specs.Heard.{heard}
 use Rattle.inf_message.specs.Who.{Who}
 use Rattle.inf_laws_client.specs.Asked.{AnswersAsked}
-use Rattle.inf_laws_client.specs.Paths.{AnswersLookup, IsToldFor, KeepsToPath, name_of}
-use Rattle.inf_laws_client.specs.Told.{KnowsOnly, TellsOnly}
-use Rattle.inf_laws_client.proofs.AskedFacts.{answers_lookup, answers_top}
+use Rattle.inf_laws_client.specs.Paths.{KeepsToPath}
+use Rattle.inf_laws_client.specs.Told.{AnswersLookup, IsToldFor, KnowsOnly, TellsOnly, name_of}
+use Rattle.inf_laws_client.proofs.AskedFacts.{answers_lookup}
 use Rattle.inf_laws_client.proofs.KnowsFacts.{served_knows, weaker_knows}
 use Rattle.inf_laws_client.proofs.PathClients.{served_keeps}
 use Rattle.inf_laws_directory.specs.At.{At}
@@ -25,7 +25,7 @@ use Rattle.inf_laws_directory.specs.Fits.{next_phase}
 use Rattle.inf_laws_directory.specs.Objects.{Objects, Service, site_in, with_state}
 use Rattle.inf_laws_directory.specs.Owes.{Moment, Owes}
 use Rattle.inf_laws_directory.specs.Phases.{Phases, with_phase}
-use Rattle.inf_laws_directory.specs.Told.{IsToldAs}
+use Rattle.inf_laws_directory.specs.Told.{IsTold, IsToldAs}
 use Rattle.inf_laws_directory.proofs.Lookups.{IsThere, there_is_told}
 use Rattle.inf_laws_directory.proofs.ServedReplies.{found_there, found_under}
 use Rattle.inf_laws_directory.proofs.TopStays.{no_other, root_kept}
@@ -56,20 +56,21 @@ use Rattle.inf_message.specs.declared.request.Request.{Request}
 use Rattle.inf_message.specs.declared.request.Request.TheVariants as request
 use Rattle.inf_message.specs.History.{Posted, Told, told_reply}
 use Rattle.inf_message.proofs.HistoryLaws.{asked_within}
+use Rattle.inf_resolve.specs.Known.{told_entry}
 use Rattle.inf_server.specs.Machine.{Serves}
 use Rattle.inf_server.specs.State.{State}
 use Rattle.inf_tree.specs.Replay.{Decided, Replays, replayed}
 use Rattle.inf_tree.specs.Tree.{Node, opening_tree}
 
 -- what a client hears of an access object was told
-tells_if_found : (T : Key → Access → Type 0) (given : Reply) → ((k : Key) (access : Access) → given ≡ reply.Found k access → T k access)
-    → TellsOnly T (heard given)
-tells_if_found T (reply.Found k access) found = found k access refl
-tells_if_found T other_reply found = tt
+tells_if_found : (T : Entry → Type 0) (place : ℕ) (given : Reply)
+    → ((k : Key) (access : Access) → given ≡ reply.Found k access → T (told_entry k access place)) → TellsOnly T place given
+tells_if_found T place (reply.Found k access) found = found k access refl
+tells_if_found T place other_reply found = tt
 
 -- and what it hears for a lookup is of what that asked for
 told_for : (sought : LookKey) (given : Reply) → ((k : Key) (access : Access) → given ≡ reply.Found k access → IsToldFor sought (reply.Found k access))
-    → IsToldFor sought (heard given)
+    → IsToldFor sought given
 told_for sought (reply.Found k access) found = found k access refl
 told_for look.Top other_reply found = tt
 told_for (look.At id name) other_reply found = tt
@@ -88,7 +89,7 @@ module _ (stands : ServedStands) (world : World) (h : List Event) (number place 
   ask = may.posted.ask
 
   abbrev told : Told
-  told = told_reply (suc (length h)) (heard given)
+  told = told_reply (suc (length h)) given
 
   abbrev asker : ClientState
   asker = client_after world ask.from.client h
@@ -113,10 +114,10 @@ module _ (stands : ServedStands) (world : World) (h : List Event) (number place 
   next : HasNext asker.left
   next = has_next asker.left waits.under_way
 
-  knows_told : KnowsOnly (IsToldAs service kept.objects kept.root kept.phases) asker
+  knows_told : KnowsOnly (IsTold service kept.objects kept.root kept.phases) asker
   knows_told =
-      weaker_knows (IsTrue world h kept.objects kept.root kept.phases) (IsToldAs service kept.objects kept.root kept.phases) (λ k access is. is.told)
-      asker (kept.clients ask.from.client).knows
+      weaker_knows (IsTrue world h kept.objects kept.root kept.phases)
+      (IsTold service kept.objects kept.root kept.phases) (λ entry is. is.told) asker (kept.clients ask.from.client).knows
 
   hand : InHand world.digest kept.phases asker
   hand = in_hands world h kept ask.from.client
@@ -127,7 +128,7 @@ module _ (stands : ServedStands) (world : World) (h : List Event) (number place 
   owed : Owes moment ask.caller next.asked ask.request given
   owed =
       stands service kept.objects at kept.root kept.tree kept.phases ask next.asked given may.after kept.standing
-      (fits world.digest (IsToldAs service kept.objects kept.root kept.phases) asker at ask kept.phases hand
+      (fits world.digest (IsTold service kept.objects kept.root kept.phases) asker at ask kept.phases hand
       knows_told waits)
       (aims service kept.objects kept.root kept.phases asker next.asked next.more (kept.phases (call_ref asker)) place number ask next.is knows_told
       (kept.clients ask.from.client).path (has_course world ask.from.client h) hand.phase hand.may waits)
@@ -141,31 +142,38 @@ module _ (stands : ServedStands) (world : World) (h : List Event) (number place 
 
   -- ---- what clients know
 
-  abbrev TrueNow : Key → Access → Type 0
+  abbrev TrueNow : Entry → Type 0
   TrueNow = IsTrue world now objects kept.root phases
 
   older : (born : ℕ) → IsBorn h born → born ≡ place → ⊥
   older born is same = not_born h born place may.waits counted is same
 
-  stays_true : (k : Key) (access : Access) → IsTrue world h kept.objects kept.root kept.phases k access → TrueNow k access
-  stays_true k access is = record {
-    told = comes.told k access (older access.born is.born) is.told;
-    born = born_more (event.Serve number place given) h access.born is.born;
+  still_told : (k : Key) (access : Access) → IsBorn h access.born → IsToldAs service kept.objects kept.root kept.phases k access
+      → IsToldAs service objects kept.root phases k access
+  still_told k access born told_so = comes.told k access (older access.born born) told_so
+
+  stays_true : (entry : Entry) → IsTrue world h kept.objects kept.root kept.phases entry → TrueNow entry
+  stays_true entry is = record {
+    told = still_told entry.key entry.access is.born is.told;
+    born = born_more (event.Serve number place given) h entry.access.born is.born;
+    stamped = omega (arith, is.stamped);
   }
 
   there_born : (k : Key) (access : Access) → IsThere service kept.objects kept.root k access → IsBorn h access.born
   there_born key.Top access there = inl (ap (λ (a : Access). a.born) there ∙ ap (λ (d : DirRef). d.born) kept.root_stands.of_root)
   there_born (key.At dir name) access there = kept.born (dir_of access) (kept.standing.owned.linked_kept dir name access there)
 
-  found_true : (k : Key) (access : Access) → given ≡ reply.Found k access → TrueNow k access
+  found_true : (k : Key) (access : Access) → given ≡ reply.Found k access → TrueNow (told_entry k access (suc (length h)))
   found_true k access found =
       let there = found_there service kept.objects number place kept.root ask k access may.after
       (no_other service kept.objects kept.root kept.root_stands)
       (subst (λ (r : Reply). Serves (site_in service number) (kept.objects number) place ask r may.after) found replies) in
-      stays_true k access (record {
-        told = there_is_told service kept.objects kept.root kept.phases k access there;
-        born = there_born k access there;
-      })
+      record {
+        told = still_told k access (there_born k access there)
+            (there_is_told service kept.objects kept.root kept.phases k access there);
+        born = born_more (event.Serve number place given) h access.born (there_born k access there);
+        stamped = omega arith;
+      }
 
   same_request : (asked : Request) → WasAskedIn h place asked → ask.request ≡ asked
   same_request asked was =
@@ -181,20 +189,19 @@ module _ (stands : ServedStands) (world : World) (h : List Event) (number place 
       let under = found_under (site_in service number) (kept.objects number) place ask given may.after replies (look.At id name) k access asked found in
       ap name_of under.is_key
 
-  answers : AnswersAsked (WasAskedIn h) place (heard given)
+  answers : AnswersAsked (WasAskedIn h) place given
   answers sought was = told_for sought given (found_for sought (same_request (request.Lookup sought) was))
 
-  looks : (client : ℕ) → AnswersLookup (client_after world client h).stage (client_after world client h).sent place (heard given)
-  looks client = answers_lookup (WasAskedIn h) place (heard given) (client_after world client h) (kept.clients client).asks answers
+  looks : (client : ℕ) → AnswersLookup (client_after world client h).stage (client_after world client h).sent place given
+  looks client = answers_lookup (WasAskedIn h) place given (client_after world client h) (kept.clients client).asks answers
 
   knows_now : (client : ℕ) → KnowsOnly TrueNow (client_after world client now)
   knows_now client =
       served_knows world.digest TrueNow place told (client_after world client h)
       (weaker_knows (IsTrue world h kept.objects kept.root kept.phases) TrueNow stays_true (client_after world client h) (kept.clients client).knows)
-      (tells_if_found TrueNow given found_true)
-      (answers_top world.digest place (heard given) (client_after world client h) (kept.clients client).path (looks client))
+      (tells_if_found TrueNow (suc (length h)) given found_true) (looks client)
 
-  path_now : (client : ℕ) → KeepsToPath world.digest (client_after world client now)
+  path_now : (client : ℕ) → KeepsToPath (client_after world client now)
   path_now client = served_keeps world.digest place told (client_after world client h) (kept.clients client).path (looks client)
 
   -- ---- what calls have in hand
@@ -202,7 +209,7 @@ module _ (stands : ServedStands) (world : World) (h : List Event) (number place 
   asker_hand : InHand world.digest phases (client_after world ask.from.client now)
   asker_hand =
       let who = who_after world h ask.from.client in
-      served_in_hand service (WasAskedIn h) (IsToldAs service kept.objects kept.root kept.phases) asker at ask
+      served_in_hand service (WasAskedIn h) (IsTold service kept.objects kept.root kept.phases) asker at ask
       given kept.phases (ap (λ (w : Who). w.servers) who) hand (kept.clients ask.from.client).asks knows_told waits
       (is_answering service asker place number ask given kept.phases (kept.objects number) may.after (ap (λ (w : Who). w.servers) who) hand waits replies)
 

@@ -142,7 +142,7 @@ others_have world h phases hands call apart =
     subst (λ (c : ℕ). phases (numbered c call.number) ≡ idle) (client_is world h call.client) ((hands call.client).others call.number apart)
 
 pub is_kept : (world : World) (h : List Event) (objects : Objects) (root : Access) (phases : Phases) (client : ℕ)
-    → KnowsOnly (IsTrue world h objects root phases) (client_after world client h) → KeepsToPath world.digest (client_after world client h)
+    → KnowsOnly (IsTrue world h objects root phases) (client_after world client h) → KeepsToPath (client_after world client h)
     → AsksItsGroup (WasAskedIn h) (client_after world client h) → InHand world.digest phases (client_after world client h)
     → IsKept world h objects root phases client (client_after world client h)
 is_kept world h objects root phases client knows path asks hand = record {

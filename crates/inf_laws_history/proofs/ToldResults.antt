@@ -1,16 +1,17 @@
 -- Each result of a client that was given up rests on a Serve that said so.
-use Rattle.std.proofs.Common.{◌≡◌, ℕ, zero, suc, ◌+◌, ◌==◌, Bool, true, false, eqb, if◌then◌else◌, List, [], ◌∷◌, ◌++◌, length, map, slice_get, Option, None, Some, refl, sym, ap, subst, ◌∙◌, ⊎_elim, arith}
+use Rattle.std.proofs.Common.{◌≡◌, inl, inr, ℕ, zero, suc, ◌+◌, Bool, true, false, eqb, if◌then◌else◌, List, [], ◌∷◌, ◌++◌, length, map, slice_get, Option, None, Some, refl, sym, ap, subst, ◌∙◌, ⊎_elim, arith}
 use Rattle.inf_base.specs.declared.id.Id.{Id}
 use Rattle.std.specs.Prelude.{All}
+use Rattle.std.specs.List.{Contains}
 use Rattle.std.proofs.lemmas.Bool.Decides.{Decides-eqb}
 use Rattle.inf_base.specs.declared.answer.Answer.{Answer}
 use Rattle.inf_base.specs.declared.answer.Answer.TheVariants as answer
 use Rattle.inf_base.specs.declared.call.Call.{Call}
 use Rattle.inf_base.specs.declared.caller.CallRef.{CallRef}
-use Rattle.inf_base.specs.declared.entry.Entry.{Entry}
+use Rattle.inf_base.specs.declared.key.LookKey.{LookKey}
+use Rattle.inf_base.specs.declared.key.LookKey.TheVariants as look
 use Rattle.inf_base.specs.declared.setup.ClientLine.{ClientLine}
 use Rattle.inf_base.specs.declared.triple.Triple.{Triple}
-use Rattle.inf_base.specs.Same.{dir_of}
 use Rattle.inf_duty.specs.After.{client_after}
 use Rattle.inf_duty.specs.Duty.{asked, begun, given_up_in}
 use Rattle.inf_duty.specs.Outcome.{Agrees, Outcome, OutcomeFrom, all_given_up, come_to, results_of, so_far, unanswered}
@@ -23,8 +24,9 @@ use Rattle.inf_duty.specs.declared.flow.Flow.TheVariants as flow
 use Rattle.inf_message.specs.declared.turn.Turn.TheVariants as turn
 use Rattle.inf_duty.specs.ClientState.{ClientState, Stage, act, call_ref, compose, ended, result_of, round, winds, wound}
 use Rattle.inf_duty.specs.Flow.{after_act, clean_up, message_of}
-use Rattle.inf_duty.specs.Group.{Course, composed_stage, group, keys_of, next_course}
-use Rattle.inf_duty.specs.Turn.{Next, act_turn, after_round, by_next, follow, from_root, is_busy, links_to, next_entry, recorded, served, steps, stops, told_entry, turn_at, turned}
+use Rattle.inf_duty.specs.Group.{composed_stage, group}
+use Rattle.inf_duty.specs.Course.{next_course}
+use Rattle.inf_duty.specs.Turn.{act_turn, is_lone, learned, round_turn, served, told_by, told_in, told_of, turn_at, turned}
 use Rattle.inf_duty.specs.declared.flow.Flow.{Flow}
 use Rattle.inf_message.specs.Heard.{heard}
 use Rattle.inf_message.specs.Sent.{Sent, has_place, is_wanting, told_at}
@@ -50,9 +52,14 @@ use Rattle.inf_message.specs.History.{Posted, Told, asked_at, or_told, told_repl
 use Rattle.inf_message.proofs.HistoryLaws.{itself}
 use Rattle.inf_laws_history.proofs.AskedGroups.{asks_group, group_stays}
 use Rattle.inf_duty.proofs.BegunKept.{IsKept, if_both, kept_all_given_up, kept_begun}
-use Rattle.inf_laws_history.proofs.ClientSteps.{by_answer, waits_for_own}
+use Rattle.inf_laws_history.proofs.ClientSteps.{by_answer, recorded_in, waits_for_own}
 use Rattle.inf_laws_history.proofs.PendingFacts.{pending_after}
-use Rattle.inf_laws_history.proofs.ResultCauses.{AllCaused, AreServed, EndsCaused, IsBusyFor, IsCaused, IsCausedFor, IsClashFor, IsServedFor, IsServedIf, StageCaused, asked_before, before_all, before_stays, caused_stays}
+use Rattle.inf_laws_history.proofs.ResultCauses.{AllCaused, AreKnown, AreServed, EndsCaused, IsBusyFor, IsCaused, IsCausedFor, IsClashFor, IsKnownFor, IsServedFor, IsServedIf, StageCaused, asked_before, before_all, before_stays, caused_stays}
+use Rattle.inf_laws_history.proofs.Turns.{by_next, by_round}
+use Rattle.inf_resolve.specs.declared.known.Known.{Known}
+use Rattle.inf_resolve.specs.InTheWay.{IsInTheWay, IsToldBusy}
+use Rattle.inf_resolve.specs.Known.{told_under}
+use Rattle.inf_resolve.proofs.KnownFacts.{same_key, told_is_known}
 
 -- ---- what a client does
 
@@ -65,16 +72,18 @@ module _ (h : List Event) where
   ended_caused given at s all new = record {
     results = both_caused h s.results (result_of given at s.counts.last s ∷ []) all (new, tt);
     stage = tt;
+    known = tt;
     sent = tt;
   }
 
-  wound_caused : (end : Ending) (more : List Message) (s : ClientState) → AllCaused h s.results → EndsCaused h (call_ref s) end → IsCaused h (wound end more s)
-  wound_caused (ending.Answers given at) [] s all new = ended_caused given at s all new
-  wound_caused ending.Retries [] s all new = record { results = all; stage = tt; sent = tt }
-  wound_caused end (m ∷ ms) s all new = record { results = all; stage = new; sent = tt }
+  wound_caused : (end : Ending) (more : List Message) (s : ClientState) → AllCaused h s.results → AreKnown h (call_ref s) s.known → EndsCaused h (call_ref s) end
+      → IsCaused h (wound end more s)
+  wound_caused (ending.Answers given at) [] s all known new = ended_caused given at s all new
+  wound_caused ending.Retries [] s all known new = record { results = all; stage = tt; known = tt; sent = tt }
+  wound_caused end (m ∷ ms) s all known new = record { results = all; stage = new; known = known; sent = tt }
 
   given_up_caused : (stage : Stage) (s : ClientState) → IsCaused h s → IsCaused h (given_up_in s stage)
-  given_up_caused (act step) s is = wound_caused (ending.Answers answer.NoMemory None) (clean_up s.who step) s is.results tt
+  given_up_caused (act step) s is = wound_caused (ending.Answers answer.NoMemory None) (clean_up s.who step) s is.results is.known tt
   given_up_caused (winds end m ms) s is = is
   given_up_caused compose s is = ended_caused answer.NoMemory None s is.results tt
   given_up_caused (round keys) s is = ended_caused answer.NoMemory None s is.results tt
@@ -86,11 +95,11 @@ module _ (h : List Event) where
   -- ---- what comes of a group
 
   module _ (call : CallRef) where
-    abbrev TurnCaused : Turn Flow → Type 0
-    TurnCaused (turn.GoesOn next) = StageCaused h call (act next)
+    abbrev TurnCaused : Turn Stage → Type 0
+    TurnCaused (turn.GoesOn next) = StageCaused h call next
     TurnCaused (turn.WindsUp end more) = EndsCaused h call end
 
-    heard_busy : (given : Reply) (by : CallRef) (at : Spot) (born : ℕ) → heard given ≡ reply.Busy by at born → given ≡ reply.Busy by at born
+    pub heard_busy : (given : Reply) (by : CallRef) (at : Spot) (born : ℕ) → heard given ≡ reply.Busy by at born → given ≡ reply.Busy by at born
     heard_busy (reply.Listing items) by at born is = absurd cc
     heard_busy other_reply by at born is = is
 
@@ -107,7 +116,7 @@ module _ (h : List Event) where
       ask_place = place;
       spot = at;
       born = born;
-      told = is.stands ∙ ap (λ (r : Reply). Some (event.Serve is.number place r)) (heard_busy is.given by at born (is.hears ∙ reads));
+      told = is.stands ∙ ap (λ (r : Reply). Some (event.Serve is.number place r)) (heard_busy is.given by at born (is.hears ∙ ap heard reads));
       posted = is.posted;
       asked = is.asked;
       own = is.own;
@@ -123,15 +132,24 @@ module _ (h : List Event) where
           placed = refl;
           number = is.number;
           ask_place = place;
-          told = is.stands ∙ ap (λ (r : Reply). Some (event.Serve is.number place r)) (heard_clash is.given kept (is.hears ∙ reads));
+          told = is.stands ∙ ap (λ (r : Reply). Some (event.Serve is.number place r)) (heard_clash is.given kept (is.hears ∙ ap heard reads));
           posted = is.posted;
           asked = is.asked;
           caller = is.own;
           makes = ap (λ (p : Posted). p.ask.request) same ∙ was.is;
         }
 
+    -- of a turn that goes on with a message of a flow
+    abbrev FlowCaused : Turn Flow → Type 0
+    FlowCaused (turn.GoesOn next) = Unit {0}
+    FlowCaused (turn.WindsUp end more) = EndsCaused h call end
+
+    as_act : (t : Turn Flow) → FlowCaused t → TurnCaused (turn_as act t)
+    as_act (turn.GoesOn next) is = tt
+    as_act (turn.WindsUp end more) is = is
+
     fails_caused : {F : Type 0} (wrap : F → Flow) (who : Who) (step : Flow) (place : ℕ) (told : Told) (given : Reply) → IsServedFor h call place told → told.reply ≡ given
-        → TurnCaused (turn_as wrap (fails (clean_up who step) told.serve_place given))
+        → FlowCaused (turn_as wrap (fails (clean_up who step) told.serve_place given))
     fails_caused wrap who step place told (reply.Busy by at born) is reads = busy_for place told by at born is reads
     fails_caused wrap who step place told (reply.Refused error) is reads = tt
     fails_caused wrap who step place told reply.NoMem is reads = tt
@@ -139,82 +157,72 @@ module _ (h : List Event) where
 
     -- ---- a round
 
-    abbrev NextCaused : Next → Type 0
-    NextCaused (is_busy given place) = IsCausedFor h call given (Some place)
-    NextCaused other_next = Unit {0}
+    known_in : (known : List Known) (k : Known) → AreKnown h call known → Contains known k → IsKnownFor h call k
+    known_in [] k are at = absurd (omega (arith, at.1))
+    known_in (x ∷ xs) k are (zero, within, same) = subst (IsKnownFor h call) same are.0
+    known_in (x ∷ xs) k are (suc n, within, same) = known_in xs k are.1 (n, omega (arith, within), same)
 
-    next_if : (b : Bool) (x y : Next) → NextCaused x → NextCaused y → NextCaused (if b then x else y)
-    next_if true x y one two = one
-    next_if false x y one two = two
+    -- what was told under a key was served so to an Ask of the call for this key
+    pub known_under : (known : List Known) (asked : LookKey) (told : Known) → AreKnown h call known → told_under asked known ≡ Some told
+        → IsKnownFor h call told × (told.key ≡ asked)
+    known_under known asked told are is =
+        let found = told_is_known asked known told is in
+        (known_in known told are found.0, sym (same_key asked told.key found.1))
 
-    next_by : (ahead : Entry) (place serve_place : ℕ) (given : Reply) → IsServedFor h call place (record { serve_place = serve_place; reply = given })
-        → NextCaused (next_entry ahead (Some (record { serve_place = serve_place; reply = given })))
-    next_by ahead place serve_place (reply.Found k access) is =
-        next_if (links_to (dir_of ahead.access) k) (steps (told_entry k access serve_place)) stops tt tt
-    next_by ahead place serve_place (reply.Busy by at born) is =
-        next_if (born == ahead.access.born) (is_busy (answer.Again by) serve_place) stops
-        (busy_for place (record { serve_place = serve_place; reply = reply.Busy by at born }) by at born is refl) tt
-    next_by ahead place serve_place any_reply is = tt
+    known_busy : (known : List Known) (asked : LookKey) (by : CallRef) (born place : ℕ) → AreKnown h call known → IsToldBusy known asked by born place
+        → IsBusyFor h call by (Some place)
+    known_busy known asked by born place are is =
+        let it = (known_under known asked is.told are is.is_known).0 in
+        subst (λ p. IsBusyFor h call by (Some p)) is.is_place
+        (busy_for it.ask_place (told_reply is.told.place is.told.reply) by is.at born it.served is.is_busy)
 
-    next_caused : (ahead : Entry) (place : ℕ) (told : Option Told) → IsServedIf h call place told → NextCaused (next_entry ahead told)
-    next_caused ahead place None is = tt
-    next_caused ahead place (Some told) is = next_by ahead place told.serve_place told.reply is
+    way_caused : (known : List Known) (by : CallRef) (place : ℕ) → AreKnown h call known → IsInTheWay known by place → IsBusyFor h call by (Some place)
+    way_caused known by place are (inl top) = known_busy known look.Top by top.born place are top.busy
+    way_caused known by place are (inr inside) = known_busy known (look.At inside.dir.id inside.name) by inside.dir.born place are inside.busy
 
-    by_next_caused : (course : Course) (chain : List Entry) (name : List ℕ) (names : List (List ℕ)) (go : Entry → Turn Flow) (next : Next) → NextCaused next
-        → ((e : Entry) → TurnCaused (go e)) → TurnCaused (by_next course chain name names go next)
-    by_next_caused course chain name names go (steps e) is rest = rest e
-    by_next_caused course chain name names go stops is rest = tt
-    by_next_caused course chain name names go (is_busy given place) is rest = is
+    round_caused : (digest : List ℕ → Id) (s : ClientState) → AreKnown h call s.known → TurnCaused (round_turn digest s)
+    round_caused digest s are = by_round TurnCaused digest s tt tt tt (λ by place way. way_caused s.known by place are way)
 
-    follow_caused : (course : Course) (chain : List Entry) (ahead : Entry) (names : List (List ℕ)) (sent : List Sent) → AreServed h call sent
-        → TurnCaused (follow course chain ahead names sent)
-    follow_caused course chain ahead [] sent are = tt
-    follow_caused course chain ahead (name ∷ names) [] are = tt
-    follow_caused course chain ahead (name ∷ names) (x ∷ xs) are =
-        by_next_caused course chain name names (λ e. follow course (chain ++ e ∷ []) e names xs) (next_entry ahead x.told)
-        (next_caused ahead x.place x.told are.0)
-        (λ e. follow_caused course (chain ++ e ∷ []) e names xs are.1)
+    -- what a round is told is known for its keys from then on
+    one_learned : (place : ℕ) (told : Told) (k : LookKey) → IsServedFor h call place told → WasAskedIn h place (request.Lookup k)
+        → IsKnownFor h call (record { key = k; reply = told.reply; place = told.serve_place })
+    one_learned place told k is was = record { ask_place = place; served = is; looks = was }
 
-    root_caused : (course : Course) (place : ℕ) (told : Told) (given : Reply) (xs : List Sent) → IsServedFor h call place told → told.reply ≡ given
-        → AreServed h call xs → TurnCaused (from_root course xs told given)
-    root_caused course place told (reply.Found k access) xs is reads are =
-        follow_caused course (told_entry k access told.serve_place ∷ []) (told_entry k access told.serve_place) course.looked xs are
-    root_caused course place told (reply.Busy by at born) xs is reads are = busy_for place told by at born is reads
-    root_caused course place told any_reply xs is reads are = tt
+    both_known : (first second : List Known) → AreKnown h call first → AreKnown h call second → AreKnown h call (first ++ second)
+    both_known [] second one two = two
+    both_known (k ∷ ks) second one two = (one.0, both_known ks second one.1 two)
 
-    turn_if : (b : Bool) (x y : Turn Flow) → TurnCaused x → TurnCaused y → TurnCaused (if b then x else y)
-    turn_if true x y one two = one
-    turn_if false x y one two = two
+    told_learned : (place : ℕ) (told : Option Told) (k : LookKey) → IsServedIf h call place told → WasAskedIn h place (request.Lookup k)
+        → AreKnown h call (told_of k told)
+    told_learned place None k is was = tt
+    told_learned place (Some told) k is was = (one_learned place told k is was, tt)
 
-    first_caused : (course : Course) (place : ℕ) (told : Option Told) (xs : List Sent) → IsServedIf h call place told → AreServed h call xs
-        → TurnCaused (after_round (Some course) (record { place = place; told = told } ∷ xs))
-    first_caused course place None xs is are = turn_if _ (turn.WindsUp (ending.Answers answer.NoMemory None) []) (turn.WindsUp ending.Retries []) tt tt
-    first_caused course place (Some told) xs is are =
-        turn_if _ (turn.WindsUp (ending.Answers answer.NoMemory None) []) (from_root course xs told told.reply) tt (root_caused course place told told.reply xs is refl are)
+    all_learned : (who : Who) (keys : List LookKey) (sent : List Sent) → AreServed h call sent → AreAskedFor (WasAskedIn h) (group who (round keys)) sent
+        → AreKnown h call (told_by keys sent)
+    all_learned who [] sent are asks = tt
+    all_learned who (k ∷ keys) [] are asks = tt
+    all_learned who (k ∷ keys) (x ∷ xs) are asks =
+        both_known (told_of k x.told) (told_by keys xs) (told_learned x.place x.told k are.0 asks.0) (all_learned who keys xs are.1 asks.1)
 
-    round_caused : (found : Option Course) (sent : List Sent) → AreServed h call sent → TurnCaused (after_round found sent)
-    round_caused None sent are = tt
-    round_caused (Some course) [] are = tt
-    round_caused (Some course) (x ∷ xs) are = first_caused course x.place x.told xs are.0 are.1
+    pub round_learned : (who : Who) (known : List Known) (keys : List LookKey) (sent : List Sent) → AreKnown h call known → AreServed h call sent
+        → AreAskedFor (WasAskedIn h) (group who (round keys)) sent → AreKnown h call (known ++ told_by keys sent)
+    round_learned who known keys sent before are asks = both_known known (told_by keys sent) before (all_learned who keys sent are asks)
 
-  turned_caused : (t : Turn Flow) (s : ClientState) → AllCaused h s.results → TurnCaused (call_ref s) t → IsCaused h (turned t s)
-  turned_caused (turn.GoesOn next) s all is = record { results = all; stage = is; sent = tt }
-  turned_caused (turn.WindsUp end more) s all is = wound_caused end more s all is
+  turned_caused : (t : Turn Stage) (s : ClientState) → AllCaused h s.results → AreKnown h (call_ref s) s.known → TurnCaused (call_ref s) t → IsCaused h (turned t s)
+  turned_caused (turn.GoesOn next) s all known is = record { results = all; stage = is; known = known; sent = tt }
+  turned_caused (turn.WindsUp end more) s all known is = wound_caused end more s all known is
 
 module _ (digest : List ℕ → Id) (h : List Event) where
-  keys_caused : (call : CallRef) (who : Who) (course : Option Course) → StageCaused h call (keys_of digest who course)
-  keys_caused call who None = tt
-  keys_caused call who (Some course) = tt
-
   composed_caused : (stage : Stage) (s : ClientState) → StageCaused h (call_ref s) stage → StageCaused h (call_ref s) (composed_stage digest s stage)
-  composed_caused compose s is = keys_caused (call_ref s) s.who (next_course s.left)
+  composed_caused compose s is =
+      by_next (StageCaused h (call_ref s)) digest s.who s.known (next_course s.left) tt (λ keys. tt) (λ course old new leads. tt)
   composed_caused (round keys) s is = tt
   composed_caused (act step) s is = tt
   composed_caused (winds end m ms) s is = is
 
   keeps_causes : IsKept digest (IsCaused h)
   keeps_causes = record {
-    composing = λ s is. record { results = is.results; stage = composed_caused s.stage s is.stage; sent = is.sent };
+    composing = λ s is. record { results = is.results; stage = composed_caused s.stage s is.stage; known = is.known; sent = is.sent };
     giving_up = λ s is. given_up_caused h s.stage s is;
   }
 
@@ -222,11 +230,11 @@ module _ (digest : List ℕ → Id) (h : List Event) where
   asked_caused place ask s is =
       let now = kept_begun digest (IsCaused h) keeps_causes ask s.sent s is in
       let t : ClientState = begun digest ask s.sent s in
-      record { results = now.results; stage = now.stage; sent = newly_sent h (call_ref t) place t.sent now.sent }
+      record { results = now.results; stage = now.stage; known = now.known; sent = newly_sent h (call_ref t) place t.sent now.sent }
 
   module _ (call : CallRef) where
     after_act_caused : (who : Who) (step : Flow) (place : ℕ) (told : Told) (given : Reply) → IsServedFor h call place told
-        → WasAskedIn h place (message_of who step).request → told.reply ≡ given → TurnCaused h call (after_act digest who step place told.serve_place given)
+        → WasAskedIn h place (message_of who step).request → told.reply ≡ given → FlowCaused h call (after_act digest who step place told.serve_place given)
     after_act_caused who (flow.File (file_flow.Finishes chain (op.Create name mode))) place told reply.Fine is was reads = tt
     after_act_caused who (flow.File (file_flow.Finishes chain (op.Stat name))) place told (reply.Stat kind meta) is was reads = tt
     after_act_caused who (flow.Dir (dir_flow.Reserves chain name mode)) place told (reply.Reserved version) is was reads = tt
@@ -240,25 +248,32 @@ module _ (digest : List ℕ → Id) (h : List Event) where
     after_act_caused who (flow.Dir step) place told given is was reads = fails_caused h call flow.Dir who (flow.Dir step) place told given is reads
 
     told_act_caused : (who : Who) (step : Flow) (place : ℕ) (told : Option Told) (xs : List Sent) → IsServedIf h call place told
-        → WasAskedIn h place (message_of who step).request → TurnCaused h call (act_turn digest who step (record { place = place; told = told } ∷ xs))
+        → WasAskedIn h place (message_of who step).request → FlowCaused h call (act_turn digest who step (record { place = place; told = told } ∷ xs))
     told_act_caused who step place None xs is was = tt
     told_act_caused who step place (Some told) xs is was = after_act_caused who step place told told.reply is was refl
 
     act_caused : (who : Who) (step : Flow) (sent : List Sent) → AreServed h call sent → AreAskedFor (WasAskedIn h) (message_of who step ∷ []) sent
-        → TurnCaused h call (act_turn digest who step sent)
+        → FlowCaused h call (act_turn digest who step sent)
     act_caused who step [] are asks = tt
     act_caused who step (x ∷ xs) are asks = told_act_caused who step x.place x.told xs are.0 asks.0
 
-  stage_caused : (stage : Stage) (s : ClientState) → StageCaused h (call_ref s) stage → AreServed h (call_ref s) s.sent
-      → AreAskedFor (WasAskedIn h) (group s.who stage) s.sent → TurnCaused h (call_ref s) (turn_at digest s stage)
-  stage_caused compose s is are asks = tt
-  stage_caused (round keys) s is are asks = round_caused h (call_ref s) (next_course s.left) s.sent are
-  stage_caused (act step) s is are asks = act_caused (call_ref s) s.who step s.sent are asks
-  stage_caused (winds end m ms) s is are asks = is
+  -- the turn, once what was told is learned
+  over_caused : (stage : Stage) (s : ClientState) → AllCaused h s.results → StageCaused h (call_ref s) stage → AreKnown h (call_ref s) s.known
+      → AreServed h (call_ref s) s.sent → AreAskedFor (WasAskedIn h) (group s.who stage) s.sent
+      → IsCaused h (turned (turn_at digest (learned stage s) stage) (learned stage s))
+  over_caused compose s all is known are asks = turned_caused h (turn_at digest s compose) s all known tt
+  over_caused (round keys) s all is known are asks =
+      let t : ClientState = learned (round keys) s in
+      let now = round_learned h (call_ref s) s.who s.known keys s.sent known are asks in
+      turned_caused h (turn_at digest t (round keys)) t all now (round_caused h (call_ref s) digest t now)
+  over_caused (act step) s all is known are asks =
+      turned_caused h (turn_at digest s (act step)) s all known
+      (as_act h (call_ref s) (act_turn digest s.who step s.sent) (act_caused (call_ref s) s.who step s.sent are asks))
+  over_caused (winds end m ms) s all is known are asks = turned_caused h (turn_at digest s (winds end m ms)) s all known is
 
 -- ---- an answer more
 
-asked_told : (A : ℕ → Request → Type 0) (place : ℕ) (told : Told) (ms : List Message) (sent : List Sent) → AreAskedFor A ms sent
+pub asked_told : (A : ℕ → Request → Type 0) (place : ℕ) (told : Told) (ms : List Message) (sent : List Sent) → AreAskedFor A ms sent
     → AreAskedFor A ms (map (told_at place told) sent)
 asked_told A place told ms [] asks = tt
 asked_told A place told [] (x ∷ xs) asks = absurd asks
@@ -279,20 +294,44 @@ module _ (h : List Event) (call : CallRef) (ask_place : ℕ) (told : Told) (now 
   all_recorded [] are = tt
   all_recorded (x ∷ xs) are = (one_recorded x.place x.told (eqb x.place ask_place) refl are.0, all_recorded xs are.1)
 
+heard_twice : (given : Reply) → heard (heard given) ≡ heard given
+heard_twice (reply.Listing items) = refl
+heard_twice (reply.Found key access) = refl
+heard_twice (reply.Absent born) = refl
+heard_twice (reply.IsFile born) = refl
+heard_twice other_reply = refl
+
+-- a Serve told what is kept of its answer
+pub kept_served : (h : List Event) (call : CallRef) (place : ℕ) (told : Told) (s : ClientState) → IsServedFor h call place told
+    → IsServedFor h call place (told_in s told)
+kept_served h call place told s is =
+    if_both (IsServedFor h call place) (is_lone s) told (record told { reply = heard told.reply }) is
+    (record {
+      number = is.number;
+      given = is.given;
+      stands = is.stands;
+      hears = is.hears ∙ sym (heard_twice told.reply);
+      posted = is.posted;
+      asked = is.asked;
+      own = is.own;
+    })
+
 served_caused : (digest : List ℕ → Id) (h : List Event) (ask_place : ℕ) (told : Told) (s : ClientState) → IsCaused h s → AreAskedFor (WasAskedIn h) (group s.who s.stage) s.sent
     → (has_place ask_place s.sent ≡ true → IsServedFor h (call_ref s) ask_place told) → IsCaused h (served digest ask_place told s)
 served_caused digest h ask_place told s is asks now =
     by_answer digest (IsCaused h) ask_place told s
     (λ apart. is)
-    (λ here going. record { results = is.results; stage = is.stage; sent = all_recorded h (call_ref s) ask_place told (now here) s.sent is.sent })
+    (λ here going. record { results = is.results; stage = is.stage; known = is.known; sent = sent_now here })
     (λ here over.
-    turned_caused h (turn_at digest (recorded ask_place told s) s.stage) (recorded ask_place told s) is.results
-    (stage_caused digest h s.stage (recorded ask_place told s) is.stage (all_recorded h (call_ref s) ask_place told (now here) s.sent is.sent)
-    (asked_told (WasAskedIn h) ask_place told (group s.who s.stage) s.sent asks)))
+    over_caused digest h s.stage (recorded_in ask_place told s) is.results is.stage is.known (sent_now here)
+    (asked_told (WasAskedIn h) ask_place (told_in s told) (group s.who s.stage) s.sent asks))
+  where
+    sent_now : has_place ask_place s.sent ≡ true → AreServed h (call_ref s) (recorded_in ask_place told s).sent
+    sent_now here = all_recorded h (call_ref s) ask_place (told_in s told) (kept_served h (call_ref s) ask_place told s (now here)) s.sent is.sent
 
 starting_caused : (world : World) (client : ℕ) (line : Option ClientLine) → IsCaused [] (starting world client line)
-starting_caused world client None = record { results = tt; stage = tt; sent = tt }
-starting_caused world client (Some line) = record { results = tt; stage = tt; sent = tt }
+starting_caused world client None = record { results = tt; stage = tt; known = tt; sent = tt }
+starting_caused world client (Some line) = record { results = tt; stage = tt; known = tt; sent = tt }
 
 module _ (world : World) (h : List Event) (legal : Legal world h) (number ask_place : ℕ) (given : Reply) (may : MayServe world h number ask_place given)
     (client : ℕ) where
@@ -300,7 +339,7 @@ module _ (world : World) (h : List Event) (legal : Legal world h) (number ask_pl
   now = event.Serve number ask_place given ∷ h
 
   pub newly_served : has_place ask_place (client_after world client h).sent ≡ true
-      → IsServedFor now (call_ref (client_after world client h)) ask_place (told_reply (suc (length h)) (heard given))
+      → IsServedFor now (call_ref (client_after world client h)) ask_place (told_reply (suc (length h)) given)
   newly_served here =
       let own = waits_for_own world client ask_place h here in
       let waits = pending_after world h legal ask_place may.posted may.made may.waits in
@@ -325,7 +364,7 @@ caused_after world (event.Ask number ask ∷ h) legal client =
 caused_after world (event.Serve number ask_place given ∷ h) legal client =
     let e : Event = event.Serve number ask_place given in
     let s : ClientState = client_after world client h in
-    served_caused world.digest (e ∷ h) ask_place (told_reply (suc (length h)) (heard given)) s
+    served_caused world.digest (e ∷ h) ask_place (told_reply (suc (length h)) given) s
     (caused_stays e h s (caused_after world h legal.0 client))
     (group_stays h e s (asks_group world h legal.0 client)).asked
     (newly_served world h legal.0 number ask_place given legal.1 client)

@@ -1,33 +1,45 @@
--- The place of the answer that a group comes to, if it comes to one.
-use Rattle.std.proofs.Common.{◌≡◌, ℕ, ◌==◌, Bool, true, false, if◌then◌else◌, eqb, List, [], ◌∷◌, ◌++◌, Option, None, Some, refl, sym, subst}
+-- What comes of a group, by cases; and the place of the answer that it comes to, if it comes to one.
+use Rattle.std.proofs.Common.{◌≡◌, inl, inr, ℕ, zero, suc, ◌==◌, Bool, true, false, eqb, List, [], ◌∷◌, Option, None, Some, refl, sym, arith, subst}
 use Rattle.inf_base.specs.declared.id.Id.{Id}
-use Rattle.std.specs.List.{list_any}
+use Rattle.std.specs.List.{Contains, list_any}
 use Rattle.std.proofs.lemmas.Bool.{or_left, or_right}
 use Rattle.inf_base.specs.declared.answer.Answer.{Answer}
 use Rattle.inf_base.specs.declared.answer.Answer.TheVariants as answer
-use Rattle.inf_base.specs.declared.entry.Entry.{Entry}
-use Rattle.inf_base.specs.Same.{dir_of}
+use Rattle.inf_base.specs.declared.caller.CallRef.{CallRef}
+use Rattle.inf_base.specs.declared.key.LookKey.{LookKey}
+use Rattle.inf_base.specs.declared.key.LookKey.TheVariants as look
 use Rattle.inf_flow_dir.specs.declared.dir_flow.DirFlow.TheVariants as dir_flow
 use Rattle.inf_message.specs.declared.ending.Ending.TheVariants as ending
 use Rattle.inf_flow_file.specs.declared.file_flow.FileFlow.TheVariants as file_flow
 use Rattle.inf_duty.specs.declared.flow.Flow.TheVariants as flow
 use Rattle.inf_message.specs.declared.turn.Turn.TheVariants as turn
+use Rattle.inf_duty.specs.ClientState.{ClientState, Stage, act, compose, round, winds}
 use Rattle.inf_duty.specs.Flow.{after_act, clean_up}
-use Rattle.inf_duty.specs.Group.{Course}
-use Rattle.inf_duty.specs.Turn.{Next, act_turn, after_round, by_next, follow, from_root, is_busy, links_to, next_entry, steps, stops, told_entry}
+use Rattle.inf_duty.specs.declared.course.Course.{Course}
+use Rattle.inf_duty.specs.Course.{flow_at, next_course}
+use Rattle.inf_duty.specs.Group.{next_stage, stage_by}
+use Rattle.inf_duty.specs.Turn.{act_turn, is_lone, known_turn, round_turn, told_in, turn_by}
 use Rattle.inf_duty.specs.declared.flow.Flow.{Flow}
-use Rattle.inf_message.specs.Sent.{Sent}
-use Rattle.inf_message.specs.Turn.{fails, turn_as}
+use Rattle.inf_duty.proofs.BegunKept.{if_both}
+use Rattle.inf_message.specs.Sent.{Sent, is_wanting}
+use Rattle.inf_message.specs.Turn.{again, ends, fails, turn_as}
 use Rattle.inf_message.specs.Who.{Who}
 use Rattle.inf_message.specs.declared.turn.Turn.{Turn}
-use Rattle.inf_laws_history.specs.Decisions.{is_of_tree}
 use Rattle.inf_message.specs.declared.op.Op.TheVariants as op
 use Rattle.inf_message.specs.declared.reply.Reply.{Reply}
 use Rattle.inf_message.specs.declared.reply.Reply.TheVariants as reply
 use Rattle.inf_message.specs.History.{Told}
 use Rattle.inf_message.proofs.HistoryLaws.{itself}
+use Rattle.inf_resolve.specs.declared.known.Known.{Known}
+use Rattle.inf_resolve.specs.declared.resolved.Resolved.{Resolved}
+use Rattle.inf_resolve.specs.declared.resolved.Resolved.TheVariants as comes
+use Rattle.inf_resolve.specs.declared.walked.Walked.{Walked}
+use Rattle.inf_resolve.specs.InTheWay.{IsInTheWay, IsToldBusy}
+use Rattle.inf_resolve.specs.Resolved.{resolved}
+use Rattle.inf_resolve.proofs.InTheWayFacts.{change_was_told}
+use Rattle.inf_resolve.proofs.KnownFacts.{told_is_known}
 
--- it goes on with a flow's message; and where it ends with an answer and a place, this holds of them
+-- where a flow's message ends with an answer and a place, this holds of them
 abbrev pub TurnOf : (Answer → ℕ → Type 0) → Turn Flow → Type 0
 TurnOf A (turn.GoesOn step) = Unit {0}
 TurnOf A (turn.WindsUp (ending.Answers given (Some place)) more) = A given place
@@ -37,6 +49,63 @@ pub weaker_turn : (A B : Answer → ℕ → Type 0) → ((given : Answer) (place
 weaker_turn A B weaker (turn.GoesOn step) is = tt
 weaker_turn A B weaker (turn.WindsUp (ending.Answers given (Some place)) more) is = weaker given place is
 weaker_turn A B weaker (turn.WindsUp other_ending more) is = tt
+
+-- nothing is wound up in it
+abbrev pub IsOnward : Stage → Type 0
+IsOnward (winds end m ms) = ⊥
+IsOnward other_stage = Unit {0}
+
+-- the same of any group; one that goes on winds nothing up
+abbrev pub StageTurnOf : (Answer → ℕ → Type 0) → Turn Stage → Type 0
+StageTurnOf A (turn.GoesOn next) = IsOnward next
+StageTurnOf A (turn.WindsUp (ending.Answers given (Some place)) more) = A given place
+StageTurnOf A (turn.WindsUp other_ending more) = Unit {0}
+
+pub turn_as_act : (A : Answer → ℕ → Type 0) (t : Turn Flow) → TurnOf A t → StageTurnOf A (turn_as act t)
+turn_as_act A (turn.GoesOn step) is = tt
+turn_as_act A (turn.WindsUp (ending.Answers given (Some place)) more) is = is
+turn_as_act A (turn.WindsUp other_ending more) is = tt
+
+-- the place of what is kept of an answer is the answer's
+pub kept_place : (s : ClientState) (told : Told) → (told_in s told).serve_place ≡ told.serve_place
+kept_place s told = if_both (λ (t : Told). t.serve_place ≡ told.serve_place) (is_lone s) told _ refl refl
+
+-- ---- what is asked for next
+
+-- nothing yet, a round, or the flow where the names that are known lead
+pub by_next : (P : Stage → Type 0) (digest : List ℕ → Id) (who : Who) (known : List Known) (found : Option Course) → P compose
+    → ((keys : List LookKey) → P (round keys))
+    → ((course : Course) (old new : Walked) → resolved digest who.root course.looked known ≡ comes.Leads old new
+    → P (act (flow_at course.deed old.chain old.left)))
+    → P (next_stage digest who known found)
+by_next P digest who known None nothing looks acts = nothing
+by_next P digest who known (Some course) nothing looks acts = by (resolved digest who.root course.looked known) refl
+  where
+    by : (r : Resolved) → resolved digest who.root course.looked known ≡ r → P (stage_by course.deed r)
+    by (comes.Asks keys) is = looks keys
+    by (comes.Leads old new) is = acts course old new is
+    by (comes.IsBusy who_is place) is = nothing
+    by comes.Lacks is = nothing
+
+-- ---- after a round
+
+-- what comes of a round: want of memory, a new attempt, a change in the way that was told; or it goes on
+pub by_round : (P : Turn Stage → Type 0) (digest : List ℕ → Id) (s : ClientState) → P (turn.GoesOn compose) → P again
+    → P (turn.WindsUp (ending.Answers answer.NoMemory None) [])
+    → ((by : CallRef) (place : ℕ) → IsInTheWay s.known by place → P (ends (answer.Again by) place)) → P (round_turn digest s)
+by_round P digest s on anew wanting busy =
+    if_both P (is_wanting s.sent) (turn.WindsUp (ending.Answers answer.NoMemory None) []) (known_turn digest s.who s.known (next_course s.left)) wanting
+    (by_course (next_course s.left))
+  where
+    by_course : (found : Option Course) → P (known_turn digest s.who s.known found)
+    by_course None = anew
+    by_course (Some course) = by_known (resolved digest s.who.root course.looked s.known) refl
+      where
+        by_known : (r : Resolved) → resolved digest s.who.root course.looked s.known ≡ r → P (turn_by r)
+        by_known (comes.Asks keys) is = on
+        by_known (comes.Leads old new) is = on
+        by_known (comes.IsBusy by place) is = busy by place (change_was_told digest s.who.root course.looked s.known by place is)
+        by_known comes.Lacks is = anew
 
 -- ---- after a message of a flow
 
@@ -80,10 +149,11 @@ act_turn_is digest who step [] = refl
 act_turn_is digest who step (x ∷ xs) = told_turn digest who step x.place x.told xs
 
 -- what comes of a flow's message has the place of its Serve
-pub act_turn_at : (digest : List ℕ → Id) (who : Who) (step : Flow) (sent : List Sent) (told : Told) → first_told sent ≡ Some told → TurnOf (IsAt told.serve_place) (act_turn digest who step sent)
+pub act_turn_at : (digest : List ℕ → Id) (who : Who) (step : Flow) (sent : List Sent) (told : Told) → first_told sent ≡ Some told
+    → TurnOf (IsAt told.serve_place) (act_turn digest who step sent)
 act_turn_at digest who step sent told is = subst (λ known. IsAtTold known (act_turn digest who step sent)) is (act_turn_is digest who step sent)
 
--- ---- the places that a group was told
+-- ---- the places that a client was told
 
 abbrev pub serve_is : ℕ → Option Told → Bool
 serve_is place None = false
@@ -92,6 +162,10 @@ serve_is place (Some told) = place == told.serve_place
 -- an Ask of the group was served at this place
 abbrev pub told_there : ℕ → List Sent → Bool
 told_there place sent = list_any (λ (x : Sent). serve_is place x.told) sent
+
+-- an Ask of an earlier round was
+abbrev pub known_there : ℕ → List Known → Bool
+known_there place known = list_any (λ (k : Known). place == k.place) known
 
 abbrev pub IsThere : List Sent → Answer → ℕ → Type 0
 IsThere sent given place = told_there place sent ≡ true
@@ -112,77 +186,17 @@ pub act_turn_there : (digest : List ℕ → Id) (who : Who) (step : Flow) (sent 
 act_turn_there digest who step [] = tt
 act_turn_there digest who step (x ∷ xs) = told_turn_there digest who step x.place x.told xs
 
--- ---- after a round
+-- a change in the way was told at its place
+known_at : (known : List Known) (told : Known) → Contains known told → known_there told.place known ≡ true
+known_at [] told at = absurd (omega (arith, at.1))
+known_at (k ∷ ks) told (zero, within, same) =
+    or_left (told.place == k.place) (known_there told.place ks) (subst (λ (x : Known). (told.place == x.place) ≡ true) (sym same) (itself told.place))
+known_at (k ∷ ks) told (suc n, within, same) = or_right (told.place == k.place) (known_there told.place ks) (known_at ks told (n, omega (arith, within), same))
 
--- a round comes to no answer of the tree, and its answer has the place of one of its Serves
-pub record IsOfRound (sent : List Sent) (given : Answer) (place : ℕ) : Type 0 where
-  pub other : is_of_tree given ≡ false
-  pub there : told_there place sent ≡ true
+busy_at : (known : List Known) (asked : LookKey) (by : CallRef) (born place : ℕ) → IsToldBusy known asked by born place → known_there place known ≡ true
+busy_at known asked by born place is =
+    subst (λ p. known_there p known ≡ true) is.is_place (known_at known is.told (told_is_known asked known is.told is.is_known).0)
 
-behind_first : (x : Sent) (xs : List Sent) (given : Answer) (place : ℕ) → IsOfRound xs given place → IsOfRound (x ∷ xs) given place
-behind_first x xs given place is = record { other = is.other; there = or_right (serve_is place x.told) (told_there place xs) is.there }
-
-abbrev NextIs : List Sent → Next → Type 0
-NextIs sent (is_busy given place) = IsOfRound sent given place
-NextIs sent other_next = Unit {0}
-
-next_if : (sent : List Sent) (b : Bool) (first second : Next) → NextIs sent first → NextIs sent second → NextIs sent (if b then first else second)
-next_if sent true first second one other = one
-next_if sent false first second one other = other
-
-reply_is : (before : Entry) (place serve_place : ℕ) (given : Reply) (xs : List Sent)
-    → NextIs (record { place = place; told = Some (record { serve_place = serve_place; reply = given }) } ∷ xs) (next_entry before (Some (record { serve_place = serve_place; reply = given })))
-reply_is before place serve_place (reply.Found k access) xs =
-    next_if _ (links_to (dir_of before.access) k) (steps (told_entry k access serve_place)) stops tt tt
-reply_is before place serve_place (reply.Busy by at born) xs =
-    next_if _ (born == before.access.born) (is_busy (answer.Again by) serve_place) stops
-    (record { other = refl; there = at_first place serve_place (record { serve_place = serve_place; reply = reply.Busy by at born }) xs refl })
-    tt
-reply_is before place serve_place any_reply xs = tt
-
-next_is : (before : Entry) (place : ℕ) (told : Option Told) (xs : List Sent) → NextIs (record { place = place; told = told } ∷ xs) (next_entry before told)
-next_is before place None xs = tt
-next_is before place (Some told) xs = reply_is before place told.serve_place told.reply xs
-
-by_next_is : (course : Course) (chain : List Entry) (name : List ℕ) (names : List (List ℕ)) (go : Entry → Turn Flow) (sent : List Sent) (next : Next)
-    → NextIs sent next → ((e : Entry) → TurnOf (IsOfRound sent) (go e)) → TurnOf (IsOfRound sent) (by_next course chain name names go next)
-by_next_is course chain name names go sent (steps e) is goes = goes e
-by_next_is course chain name names go sent stops is goes = tt
-by_next_is course chain name names go sent (is_busy given place) is goes = is
-
-follow_is : (course : Course) (chain : List Entry) (before : Entry) (names : List (List ℕ)) (sent : List Sent)
-    → TurnOf (IsOfRound sent) (follow course chain before names sent)
-follow_is course chain before [] sent = tt
-follow_is course chain before (name ∷ names) [] = tt
-follow_is course chain before (name ∷ names) (x ∷ xs) =
-    by_next_is course chain name names (λ e. follow course (chain ++ e ∷ []) e names xs) (x ∷ xs) (next_entry before x.told)
-    (next_is before x.place x.told xs)
-    (λ e. weaker_turn (IsOfRound xs) (IsOfRound (x ∷ xs)) (behind_first x xs) (follow course (chain ++ e ∷ []) e names xs)
-    (follow_is course (chain ++ e ∷ []) e names xs))
-
-root_is : (course : Course) (place serve_place : ℕ) (given : Reply) (xs : List Sent)
-    → TurnOf (IsOfRound (record { place = place; told = Some (record { serve_place = serve_place; reply = given }) } ∷ xs))
-    (from_root course xs (record { serve_place = serve_place; reply = given }) given)
-root_is course place serve_place (reply.Found k access) xs =
-    let first : Entry = told_entry k access serve_place in
-    let x : Sent = record { place = place; told = Some (record { serve_place = serve_place; reply = reply.Found k access }) } in
-    weaker_turn (IsOfRound xs) (IsOfRound (x ∷ xs)) (behind_first x xs) (follow course (first ∷ []) first course.looked xs)
-    (follow_is course (first ∷ []) first course.looked xs)
-root_is course place serve_place (reply.Busy by at born) xs =
-    record { other = refl; there = at_first place serve_place (record { serve_place = serve_place; reply = reply.Busy by at born }) xs refl }
-root_is course place serve_place any_reply xs = tt
-
-turn_if : (A : Answer → ℕ → Type 0) (b : Bool) (first second : Turn Flow) → TurnOf A first → TurnOf A second → TurnOf A (if b then first else second)
-turn_if A true first second one other = one
-turn_if A false first second one other = other
-
-first_is : (course : Course) (place : ℕ) (told : Option Told) (xs : List Sent)
-    → TurnOf (IsOfRound (record { place = place; told = told } ∷ xs)) (after_round (Some course) (record { place = place; told = told } ∷ xs))
-first_is course place None xs = turn_if _ _ (turn.WindsUp (ending.Answers answer.NoMemory None) []) (turn.WindsUp ending.Retries []) tt tt
-first_is course place (Some told) xs =
-    turn_if _ _ (turn.WindsUp (ending.Answers answer.NoMemory None) []) (from_root course xs told told.reply) tt (root_is course place told.serve_place told.reply xs)
-
-pub round_turn_is : (found : Option Course) (sent : List Sent) → TurnOf (IsOfRound sent) (after_round found sent)
-round_turn_is None sent = tt
-round_turn_is (Some course) [] = tt
-round_turn_is (Some course) (x ∷ xs) = first_is course x.place x.told xs
+pub way_there : (known : List Known) (by : CallRef) (place : ℕ) → IsInTheWay known by place → known_there place known ≡ true
+way_there known by place (inl top) = busy_at known look.Top by top.born place top.busy
+way_there known by place (inr inside) = busy_at known (look.At inside.dir.id inside.name) by inside.dir.born place inside.busy

@@ -9,6 +9,7 @@ use Rattle.inf_base.specs.declared.answer.Answer.{Answer}
 use Rattle.inf_base.specs.declared.answer.Answer.TheVariants as answer
 use Rattle.inf_base.specs.declared.call.Call.{Call}
 use Rattle.inf_base.specs.declared.caller.CallRef.{CallRef}
+use Rattle.inf_base.specs.declared.entry.Entry.{Entry}
 use Rattle.inf_base.specs.declared.setup.ClientLine.{ClientLine}
 use Rattle.inf_duty.specs.After.{client_after}
 use Rattle.inf_duty.specs.Duty.{asked, begun, given_up_in}
@@ -20,18 +21,21 @@ use Rattle.inf_message.specs.declared.ending.Ending.TheVariants as ending
 use Rattle.inf_message.specs.declared.turn.Turn.TheVariants as turn
 use Rattle.inf_duty.specs.ClientState.{ClientState, Counts, Stage, act, call_ref, compose, ended, first_place, placed, result_of, round, winds, wound}
 use Rattle.inf_duty.specs.Flow.{clean_up}
-use Rattle.inf_duty.specs.Group.{Course, composed_stage, keys_of, next_course}
-use Rattle.inf_duty.specs.Turn.{later_place, recorded, served, turn_at, turned}
-use Rattle.inf_message.specs.Heard.{heard}
+use Rattle.inf_duty.specs.Group.{composed_stage}
+use Rattle.inf_duty.specs.declared.course.Deed.{Deed}
+use Rattle.inf_duty.specs.declared.course.Deed.TheVariants as deed
+use Rattle.inf_duty.specs.Course.{flow_at, next_course}
+use Rattle.inf_duty.specs.Turn.{later_place, learned, served, told_in, turn_at, turned}
 use Rattle.inf_message.specs.Who.{Who}
 use Rattle.inf_message.specs.declared.ending.Ending.{Ending}
 use Rattle.inf_message.specs.declared.turn.Turn.{Turn}
 use Rattle.inf_laws_history.specs.Causes.{before}
 use Rattle.inf_laws_history.specs.UnderWay.{IsAround}
-use Rattle.inf_laws_history.proofs.ClientSteps.{Lasts, by_answer, lasts_kept, turned_lasts}
+use Rattle.inf_laws_history.proofs.ClientSteps.{Lasts, by_answer, lasts_kept, recorded_in, served_lasts}
 use Rattle.inf_laws_history.proofs.DrivenFacts.{others_stay}
 use Rattle.inf_laws_history.proofs.Numbered.{so_far_call}
 use Rattle.inf_laws_history.proofs.ResultCauses.{before_all, before_stays}
+use Rattle.inf_laws_history.proofs.Turns.{by_next, kept_place}
 use Rattle.inf_message.specs.declared.ask.Ask.{Ask}
 use Rattle.inf_message.specs.declared.call_result.CallResult.{CallResult}
 use Rattle.inf_message.specs.declared.event.Event.{Event}
@@ -40,7 +44,6 @@ use Rattle.inf_message.specs.declared.reply.Reply.{Reply}
 use Rattle.inf_message.specs.declared.step.Message.{Message}
 use Rattle.inf_message.specs.History.{Posted, Told, asked_at, event_at, told_reply}
 use Rattle.inf_message.proofs.HistoryLaws.{event_within}
-use Rattle.inf_duty.specs.declared.flow.Flow.{Flow}
 
 -- ---- a client from the place on
 
@@ -100,16 +103,27 @@ module _ (digest : List ℕ → Id) (call : CallRef) (place : ℕ) where
     };
     again = λ s is. record { result = is.result; inside = is.inside; own = is.own; around = is.around };
     going_on = λ next s is. record { result = is.result; inside = is.inside; own = is.own; around = is.around };
+    learning = λ known s is. record { result = is.result; inside = is.inside; own = is.own; around = is.around };
   }
 
   -- ---- before a group
 
-  free_keys : (who : Who) (course : Option Course) → is_free who (keys_of digest who course) ≡ true
-  free_keys who None = refl
-  free_keys who (Some course) = refl
+  -- a flow begins with nothing to clean up
+  flow_free : (who : Who) (what : Deed) (chain : List Entry) (left : List (List ℕ)) → is_free who (act (flow_at what chain left)) ≡ true
+  flow_free who (deed.Create name mode) chain [] = refl
+  flow_free who (deed.Stat name) chain [] = refl
+  flow_free who (deed.Mkdir name mode) chain [] = refl
+  flow_free who deed.Rmdir chain [] = refl
+  flow_free who deed.Rmdir chain (name ∷ []) = refl
+  flow_free who deed.Rmdir chain (name ∷ next ∷ rest) = refl
+  flow_free who (deed.Create last mode) chain (name ∷ rest) = refl
+  flow_free who (deed.Stat last) chain (name ∷ rest) = refl
+  flow_free who (deed.Mkdir last mode) chain (name ∷ rest) = refl
 
   composed_free : (s : ClientState) (stage : Stage) → is_free s.who (composed_stage digest s stage) ≡ is_free s.who stage
-  composed_free s compose = free_keys s.who (next_course s.left)
+  composed_free s compose =
+      by_next (λ (next : Stage). is_free s.who next ≡ true) digest s.who s.known (next_course s.left) refl (λ keys. refl)
+      (λ course old new leads. flow_free s.who course.deed old.chain old.left)
   composed_free s (round keys) = refl
   composed_free s (act flow) = refl
   composed_free s (winds end m ms) = refl
@@ -175,9 +189,17 @@ module _ (digest : List ℕ → Id) (call : CallRef) (place : ℕ) where
   })
   wound_met end (m ∷ ms) s is left began behind = inr (record { is = is; left = left; began = began; holds = inl refl })
 
-  turned_met : (t : Turn Flow) (s : ClientState) → call_ref s ≡ call → 0 < length s.left → BeganBefore place s.counts → ServedBehind place s.counts → Met (turned t s)
+  turned_met : (t : Turn Stage) (s : ClientState) → call_ref s ≡ call → 0 < length s.left → BeganBefore place s.counts → ServedBehind place s.counts → Met (turned t s)
   turned_met (turn.GoesOn next) s is left began behind = inr (record { is = is; left = left; began = began; holds = inr behind })
   turned_met (turn.WindsUp end more) s is left began behind = wound_met end more s is left began behind
+
+  over_met : (stage : Stage) (s : ClientState) → call_ref s ≡ call → 0 < length s.left → BeganBefore place s.counts → ServedBehind place s.counts
+      → Met (turned (turn_at digest (learned stage s) stage) (learned stage s))
+  over_met compose s is left began behind = turned_met (turn_at digest s compose) s is left began behind
+  over_met (round keys) s is left began behind =
+      let t : ClientState = learned (round keys) s in turned_met (turn_at digest t (round keys)) t is left began behind
+  over_met (act flow) s is left began behind = turned_met (turn_at digest s (act flow)) s is left began behind
+  over_met (winds end m ms) s is left began behind = turned_met (turn_at digest s (winds end m ms)) s is left began behind
 
   later_one : (last : Option ℕ) (at : ℕ) → place < at → (l : ℕ) × (later_place last at ≡ Some l) × (place < l)
   later_one None at less = (at, refl, less)
@@ -187,23 +209,21 @@ module _ (digest : List ℕ → Id) (call : CallRef) (place : ℕ) where
       by true is = (at, refl, less)
       by false is = (earlier, refl, grind (arith, nat_tests))
 
-  behind_now : (ask_place : ℕ) (told : Told) (s : ClientState) → place < told.serve_place → ServedBehind place (recorded ask_place told s).counts
-  behind_now ask_place told s less = let one = later_one s.counts.last told.serve_place less in record { last = one.0; is = one.1; less = one.2 }
+  behind_now : (ask_place : ℕ) (told : Told) (s : ClientState) → place < told.serve_place → ServedBehind place (recorded_in ask_place told s).counts
+  behind_now ask_place told s less =
+      let one = later_one s.counts.last (told_in s told).serve_place (omega (arith, less, kept_place s told)) in
+      record { last = one.0; is = one.1; less = one.2 }
 
   served_met : (ask_place : ℕ) (told : Told) (s : ClientState) → place < told.serve_place → Met s → Met (served digest ask_place told s)
   served_met ask_place told s less (inl past) =
-      by_answer digest Met ask_place told s
-      (λ apart. inl past)
-      (λ here going. inl (record { result = past.result; inside = past.inside; own = past.own; around = past.around }))
-      (λ here over.
-      inl (turned_lasts digest (λ (t : ClientState). IsPast call place t) past_lasts (turn_at digest (recorded ask_place told s) s.stage) (recorded ask_place told s)
-      (record { result = past.result; inside = past.inside; own = past.own; around = past.around })))
+      inl (served_lasts digest (λ (t : ClientState). IsPast call place t) past_lasts
+      (λ at answer t is. record { result = is.result; inside = is.inside; own = is.own; around = is.around }) ask_place told s past)
   served_met ask_place told s less (inr going) =
-      let began : BeganBefore place (recorded ask_place told s).counts = record { first = going.began.first; is = going.began.is; less = going.began.less } in
+      let began : BeganBefore place (recorded_in ask_place told s).counts = record { first = going.began.first; is = going.began.is; less = going.began.less } in
       by_answer digest Met ask_place told s
       (λ apart. inr going)
       (λ here on. inr (record { is = going.is; left = going.left; began = began; holds = inr (behind_now ask_place told s less) }))
-      (λ here over. turned_met (turn_at digest (recorded ask_place told s) s.stage) (recorded ask_place told s) going.is going.left began (behind_now ask_place told s less))
+      (λ here over. over_met s.stage (recorded_in ask_place told s) going.is going.left began (behind_now ask_place told s less))
 
   -- ---- its result
 
@@ -280,7 +300,7 @@ module _ (world : World) (call : CallRef) (place number ask_place : ℕ) (given 
   one_more (event.Ask n ask) h within met =
       if_both (IsMet call place) (eqb ask.from.client call.client) _ _ (asked_met world.digest call place (suc (length h)) ask (client_after world call.client h) met) met
   one_more (event.Serve n p r) h within met =
-      served_met world.digest call place p (told_reply (suc (length h)) (heard r)) (client_after world call.client h) (omega (arith, within)) met
+      served_met world.digest call place p (told_reply (suc (length h)) r) (client_after world call.client h) (omega (arith, within)) met
 
   newest : (e : Event) (h : List Event) → IsAt (e ∷ h) → place ≡ suc (length h) → e ≡ event.Serve number ask_place given
   newest e h at same = by (eqb place (suc (length h))) (grind (arith, nat_tests, same)) at

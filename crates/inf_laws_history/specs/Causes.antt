@@ -1,5 +1,5 @@
 -- Why a call is answered Again: the change in flight that touched it; and why IdClash: two births with one identifier.
-use Rattle.std.specs.Prelude.{◌≡◌, ◌≢◌, ℕ, suc, ◌<◌, nat_lt, true, if◌then◌else◌, List, [], ◌∷◌, length, Some}
+use Rattle.std.specs.Prelude.{◌≡◌, ◌≢◌, ℕ, suc, nat_lt, true, if◌then◌else◌, List, [], ◌∷◌, length, Some}
 use Rattle.inf_base.specs.declared.access.Access.{Access}
 use Rattle.inf_base.specs.declared.caller.CallRef.{CallRef}
 use Rattle.inf_base.specs.declared.id.Id.{Id}
@@ -34,19 +34,17 @@ pub record HasServe (h : List Event) (at : At) (posted : Posted) (given : Reply)
   pub told : event_at at.serve_place h ≡ Some (event.Serve at.number at.ask_place given)
   pub asked : asked_at at.ask_place (before at.serve_place h) ≡ Some posted
 
--- the client's Ask before this one was the same call's, and a server told it of a directory of this birth: the entry
--- that stands before in the call's chain
-pub record IsBehindEntry (h : List Event) (call : CallRef) (ask_place born : ℕ) : Type 0 where
+-- a server told an Ask of the call of the directory of this identifier and birth: the entry that stands before in the
+-- call's chain
+pub record IsBehindEntry (h : List Event) (call : CallRef) (id : Id) (born : ℕ) : Type 0 where
   pub at : At
   pub posted : Posted
   pub key : Key
   pub access : Access
   pub served : HasServe h at posted (reply.Found key access)
   pub own : posted.ask.from ≡ call
-  pub earlier : at.ask_place < ask_place
-  pub next : (between : ℕ) (other : Posted) → at.ask_place < between → between < ask_place
-      → asked_at between h ≡ Some other → other.ask.from.client ≢ call.client
-  pub same : access.born ≡ born
+  pub same_id : access.id ≡ id
+  pub same_born : access.born ≡ born
 
 -- the call of this result was answered Again, for it met a change of this other call
 pub record IsAgainBecause (world : World) (h : List Event) (results : List CallResult) (result : CallResult)
@@ -62,7 +60,7 @@ pub record IsAgainBecause (world : World) (h : List Event) (results : List CallR
   pub own : posted.ask.from ≡ result.call
   -- a lookup under a name counts only where the birth told is that of the entry before it
   pub behind : (id : Id) (name : List ℕ) → posted.ask.request ≡ request.Lookup (look.At id name)
-      → IsBehindEntry h result.call at.ask_place born
+      → IsBehindEntry h result.call id born
   -- the other call is another client's
   pub other : by.client ≢ result.call.client
   -- by its result it was under way

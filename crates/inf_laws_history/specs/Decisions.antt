@@ -9,8 +9,7 @@ use Rattle.inf_duty.specs.World.{World}
 use Rattle.inf_message.specs.declared.ending.Ending.TheVariants as ending
 use Rattle.inf_message.specs.declared.turn.Turn.TheVariants as turn
 use Rattle.inf_duty.specs.ClientState.{ClientState, Stage, winds}
-use Rattle.inf_duty.specs.Turn.{is_complete, recorded, turn_at}
-use Rattle.inf_message.specs.Heard.{heard}
+use Rattle.inf_duty.specs.Turn.{is_complete, learned, recorded, told_in, turn_at}
 use Rattle.inf_message.specs.Sent.{has_place}
 use Rattle.inf_message.specs.declared.ending.Ending.{Ending}
 use Rattle.inf_message.specs.declared.turn.Turn.{Turn}
@@ -18,7 +17,6 @@ use Rattle.inf_message.specs.declared.event.Event.{Event}
 use Rattle.inf_message.specs.declared.event.Event.TheVariants as event
 use Rattle.inf_message.specs.History.{Posted, Told, asked_at, told_reply}
 use Rattle.inf_tree.specs.Replay.{Decided}
-use Rattle.inf_duty.specs.declared.flow.Flow.{Flow}
 
 -- an answer that is the tree's; any other says that the call was given up
 abbrev pub is_of_tree : Answer → Bool
@@ -42,13 +40,13 @@ decided_by_end s (ending.Answers given None) = []
 decided_by_end s ending.Retries = []
 
 -- what winds up a call that was decided before decides nothing more
-abbrev pub decided_by_turn : ClientState → Turn Flow → List Decided
+abbrev pub decided_by_turn : ClientState → Turn Stage → List Decided
 decided_by_turn s (turn.GoesOn next) = []
 decided_by_turn s (turn.WindsUp end more) = decided_by_end s end
 
 abbrev pub decided_at_stage : (List ℕ → Id) → ClientState → Stage → List Decided
 decided_at_stage digest s (winds end m ms) = []
-decided_at_stage digest s other_stage = decided_by_turn s (turn_at digest s other_stage)
+decided_at_stage digest s other_stage = decided_by_turn s (turn_at digest (learned other_stage s) other_stage)
 
 abbrev pub decided_if : (List ℕ → Id) → Bool → ClientState → List Decided
 decided_if digest true s = decided_at_stage digest s s.stage
@@ -56,7 +54,7 @@ decided_if digest false s = []
 
 abbrev pub decided_when : (List ℕ → Id) → Bool → ℕ → Told → ClientState → List Decided
 decided_when digest true ask_place told s =
-    decided_if digest (is_complete (recorded ask_place told s)) (recorded ask_place told s)
+    decided_if digest (is_complete (recorded ask_place (told_in s told) s)) (recorded ask_place (told_in s told) s)
 decided_when digest false ask_place told s = []
 
 -- what a client's call comes to by this answer, if it decides it
@@ -73,5 +71,4 @@ abbrev pub decided_in : World → List Event → List Decided
 decided_in world [] = []
 decided_in world (event.Ask number ask ∷ h) = decided_in world h
 decided_in world (event.Serve number ask_place given ∷ h) =
-    decided_in world h
-    ++ decided_at world h ask_place (told_reply (suc (length h)) (heard given)) (asked_at ask_place h)
+    decided_in world h ++ decided_at world h ask_place (told_reply (suc (length h)) given) (asked_at ask_place h)

@@ -1,8 +1,8 @@
 -- What every legal history keeps.
-use Rattle.std.specs.Prelude.{◌≡◌, ◌≢◌, ℕ, List}
+use Rattle.std.specs.Prelude.{◌≡◌, ◌≢◌, ℕ, ◌≤◌, List, length}
 use Rattle.inf_base.specs.declared.access.Access.{Access}
 use Rattle.inf_base.specs.declared.caller.CallRef.{CallRef}
-use Rattle.inf_base.specs.declared.key.Key.{Key}
+use Rattle.inf_base.specs.declared.entry.Entry.{Entry}
 use Rattle.inf_duty.specs.After.{client_after}
 use Rattle.inf_duty.specs.Start.{who_in}
 use Rattle.inf_duty.specs.World.{World}
@@ -24,11 +24,12 @@ use Rattle.inf_message.specs.declared.event.Event.{Event}
 use Rattle.inf_tree.specs.Replay.{Replays, replayed}
 use Rattle.inf_tree.specs.Tree.{Node, opening_tree}
 
--- what is told is true now, or its directory is gone; and it is of a birth that was
-pub record IsTrue (world : World) (h : List Event) (objects : Objects) (root : Access) (phases : Phases) (key : Key)
-    (access : Access) : Type 0 where
-  pub told : IsToldAs (service_of world) objects root phases key access
-  pub born : IsBorn h access.born
+-- an entry that was told is true now, or its directory is gone; it is of a birth that was, and no younger than now
+pub record IsTrue (world : World) (h : List Event) (objects : Objects) (root : Access) (phases : Phases)
+    (entry : Entry) : Type 0 where
+  pub told : IsToldAs (service_of world) objects root phases entry.key entry.access
+  pub born : IsBorn h entry.access.born
+  pub stamped : entry.stamp ≤ length h
 
 -- a client knows only what is true, keeps to its call's path, asks its group,
 -- and its call has in hand what its stage says
@@ -36,7 +37,7 @@ pub record IsKept (world : World) (h : List Event) (objects : Objects) (root : A
     (s : ClientState) : Type 0 where
   pub who : s.who ≡ who_in world client s.who.caller
   pub knows : KnowsOnly (IsTrue world h objects root phases) s
-  pub path : KeepsToPath world.digest s
+  pub path : KeepsToPath s
   pub asks : AsksItsGroup (WasAskedIn h) s
   pub phase : HasPhase world.digest s.who s.stage (phases (call_ref s))
   pub may : StageMay s.who.caller s.stage

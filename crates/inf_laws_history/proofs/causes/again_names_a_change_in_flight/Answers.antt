@@ -13,4 +13,4 @@ returns c world h results legal out k d inside by is =
     again_is_because world (c.every_legal_history_keeps.ensures world) h legal results out result by
     (subst (λ (given : Answer). IsCausedFor h result.call given result.place) is
     (results_rest world h results legal out (λ (r : CallResult). IsCausedFor h r.call r.answer r.place) (λ r rests. rests) k d inside))
-    (behind_entries world (c.every_legal_history_keeps.ensures world) h legal results out k d inside)
+    (behind_entries world h legal results out k d inside)
