@@ -4,6 +4,7 @@ use Rattle.std.proofs.lemmas.List.{append-nil, append_assoc}
 use Rattle.inf_base.specs.declared.id.Id.{Id}
 use Rattle.inf_base.specs.declared.answer.Answer.TheVariants as answer
 use Rattle.inf_base.specs.declared.call.Call.{Call}
+use Rattle.inf_base.specs.declared.entry.Entry.{Entry}
 use Rattle.inf_base.specs.declared.key.LookKey.{LookKey}
 use Rattle.inf_client.specs.AskLog.{AskLog, with_ready, with_room}
 use Rattle.inf_client.specs.Client.{group_asks}
@@ -19,13 +20,21 @@ use Rattle.inf_flow_file.specs.declared.file_flow.FileFlow.TheVariants as file_f
 use Rattle.inf_duty.specs.declared.flow.Flow.TheVariants as flow
 use Rattle.inf_duty.specs.ClientState.{ClientState, Stage, act, call_ref, compose, round, winds, wound}
 use Rattle.inf_duty.specs.Flow.{clean_up, message_of}
-use Rattle.inf_duty.specs.Group.{Course, composed, composed_stage, group, keys_of, next_course}
+use Rattle.inf_duty.specs.Group.{composed, composed_stage, group, next_stage, stage_by}
+use Rattle.inf_duty.specs.declared.course.Course.{Course}
+use Rattle.inf_duty.specs.declared.course.Deed.{Deed}
+use Rattle.inf_duty.specs.declared.course.Deed.TheVariants as deed
+use Rattle.inf_duty.specs.Course.{flow_at, next_course}
 use Rattle.inf_duty.specs.declared.flow.Flow.{Flow}
 use Rattle.inf_message.specs.Who.{Who, lookup_of}
 use Rattle.inf_message.specs.declared.ask.Ask.{Ask}
 use Rattle.inf_message.specs.declared.request.Request.{Request}
 use Rattle.inf_message.specs.declared.step.Message.{Message}
 use Rattle.inf_message.specs.History.{posted_ask}
+use Rattle.inf_resolve.specs.declared.known.Known.{Known}
+use Rattle.inf_resolve.specs.declared.resolved.Resolved.{Resolved}
+use Rattle.inf_resolve.specs.declared.resolved.Resolved.TheVariants as comes
+use Rattle.inf_resolve.specs.Resolved.{resolved}
 
 -- ---- what is kept
 
@@ -219,12 +228,19 @@ going_lifts who (act step) message going at =
     ap (λ (m : Message). lifts m.request) (sym one) ∙ flow_lifts who step
 going_lifts who (winds end m ms) message going at = absurd (cc)
 
-keys_go : (digest : List ℕ → Id) (who : Who) (course : Option Course) → is_winding (keys_of digest who course) ≡ false
-keys_go digest who None = refl
-keys_go digest who (Some course) = refl
+by_goes : (what : Deed) (found : Resolved) → is_winding (stage_by what found) ≡ false
+by_goes what (comes.Asks keys) = refl
+by_goes what (comes.Leads old new) = refl
+by_goes what (comes.IsBusy by place) = refl
+by_goes what comes.Lacks = refl
+
+next_goes : (digest : List ℕ → Id) (who : Who) (known : List Known) (course : Option Course)
+    → is_winding (next_stage digest who known course) ≡ false
+next_goes digest who known None = refl
+next_goes digest who known (Some course) = by_goes course.deed (resolved digest who.root course.looked known)
 
 composed_goes_in : (digest : List ℕ → Id) (s : ClientState) (stage : Stage) → is_winding stage ≡ false → is_winding (composed_stage digest s stage) ≡ false
-composed_goes_in digest s compose going = keys_go digest s.who (next_course s.left)
+composed_goes_in digest s compose going = next_goes digest s.who s.known (next_course s.left)
 composed_goes_in digest s (round keys) going = refl
 composed_goes_in digest s (act step) going = refl
 composed_goes_in digest s (winds end m ms) going = going
@@ -247,12 +263,34 @@ composed_found digest s number ask going between next =
 
 -- ---- giving a call up
 
+-- nothing is to be cleaned up before the first message of a flow
+clean_start : (who : Who) (what : Deed) (chain : List Entry) (left : List (List ℕ)) → clean_up who (flow_at what chain left) ≡ []
+clean_start who (deed.Create name mode) chain [] = refl
+clean_start who (deed.Stat name) chain [] = refl
+clean_start who (deed.Mkdir name mode) chain [] = refl
+clean_start who deed.Rmdir chain [] = refl
+clean_start who (deed.Create name mode) chain (next ∷ rest) = refl
+clean_start who (deed.Stat name) chain (next ∷ rest) = refl
+clean_start who (deed.Mkdir name mode) chain (next ∷ rest) = refl
+clean_start who deed.Rmdir chain (next ∷ []) = refl
+clean_start who deed.Rmdir chain (next ∷ other ∷ rest) = refl
+
+given_by : (digest : List ℕ → Id) (s : ClientState) (what : Deed) (found : Resolved)
+    → given_up_in (composed digest s) (stage_by what found) ≡ given_up_in s compose
+given_by digest s what (comes.Asks keys) = refl
+given_by digest s what (comes.Leads old new) =
+    ap (λ messages. wound (ending.Answers answer.NoMemory None) messages (composed digest s))
+    (clean_start s.who what old.chain old.left)
+given_by digest s what (comes.IsBusy by place) = refl
+given_by digest s what comes.Lacks = refl
+
 given_composed_in : (digest : List ℕ → Id) (s : ClientState) (stage : Stage) → s.stage ≡ stage → given_up_in (composed digest s) (composed_stage digest s stage) ≡ given_up_in s stage
 given_composed_in digest s compose at = by (next_course s.left)
   where
-    by : (course : Option Course) → given_up_in (composed digest s) (keys_of digest s.who course) ≡ given_up_in s compose
+    by : (course : Option Course)
+        → given_up_in (composed digest s) (next_stage digest s.who s.known course) ≡ given_up_in s compose
     by None = refl
-    by (Some course) = refl
+    by (Some course) = given_by digest s course.deed (resolved digest s.who.root course.looked s.known)
 given_composed_in digest s (round keys) at = refl
 given_composed_in digest s (act step) at = by (clean_up s.who step)
   where

@@ -9,10 +9,10 @@ use Rattle.inf_client.specs.Client.{IsAtRest, asks_left, group_asks, ready_in}
 use Rattle.inf_client.specs.Group.{IsKept, not_handed}
 use Rattle.inf_client.specs.Room.{room_in, room_needed, room_within}
 use Rattle.inf_client.proofs.ClientFacts.{asks_length, between_in, inside_room, ready_inside}
-use Rattle.inf_client.proofs.TurnRoom.{next_fits, turned_between}
+use Rattle.inf_client.proofs.TurnRoom.{after_between, next_fits}
 use Rattle.inf_duty.specs.ClientState.{ClientState}
 use Rattle.inf_duty.specs.Group.{group}
-use Rattle.inf_duty.specs.Turn.{after_record, is_complete, recorded, served, settled, turn_at, turned}
+use Rattle.inf_duty.specs.Turn.{after_group, after_record, is_complete, recorded, served, settled, told_in}
 use Rattle.inf_message.specs.Sent.{Sent, has_place, is_told, told_at}
 use Rattle.inf_message.specs.declared.ask.Ask.{Ask}
 use Rattle.inf_message.specs.History.{Made, Own, Posted, Told, own_ask, served_at, unless_told}
@@ -125,16 +125,16 @@ module _ (digest : List ℕ → Id) (s : ClientState) (gone : Bool) (log : AskLo
 
   -- the group is over
   kept_turned : is_complete (recorded place told s) ≡ true
-      → IsKept (turned (turn_at digest (recorded place told s) s.stage) (recorded place told s)) gone log handed outbox
+      → IsKept (after_group digest (recorded place told s)) gone log handed outbox
   kept_turned complete =
       let r = recorded place told s in
-      let next = turned (turn_at digest r s.stage) r in
+      let next = after_group digest r in
       let all : length r.sent ≡ length (group s.who s.stage) =
       eqb-true (length r.sent) (length (group s.who s.stage)) (both_first (eqb (length r.sent) (length (group s.who s.stage))) (list_all is_told r.sent) complete) in
       let quiet : handed ≡ false = not_to_ask handed refl all in
       let many = asks_length s in
       let none : log.ready ≡ [] = left_same ∙ drop_all (length r.sent) (group_asks s) (omega arith) in
-      let between : next.sent ≡ [] = turned_between (turn_at digest r s.stage) r in
+      let between : next.sent ≡ [] = after_between digest r in
       record {
         at_rest = subst (IsAtRest next) (sym (still_here s gone kept.at_rest inside)) tt;
         in_step = record {
@@ -158,13 +158,16 @@ module _ (digest : List ℕ → Id) (s : ClientState) (gone : Bool) (log : AskLo
   kept_after : IsKept (after_record digest (recorded place told s)) gone log handed outbox
   kept_after = kept_settled (is_complete (recorded place told s)) refl
 
-kept_served : (digest : List ℕ → Id) (s : ClientState) (gone : Bool) (log : AskLog) (handed : Bool) (outbox : List (ℕ × Ask)) (place : ℕ) (told : Told) → IsKept s gone log handed outbox
-    → (b : Bool) → has_place place s.sent ≡ b → IsKept (cond b (after_record digest (recorded place told s)) s) gone log handed outbox
-kept_served digest s gone log handed outbox place told kept true has = kept_after digest s gone log handed outbox place told kept (has_inside place s.sent has)
+kept_served : (digest : List ℕ → Id) (s : ClientState) (gone : Bool) (log : AskLog) (handed : Bool) (outbox : List (ℕ × Ask))
+    (place : ℕ) (told : Told) → IsKept s gone log handed outbox → (b : Bool) → has_place place s.sent ≡ b
+    → IsKept (cond b (after_record digest (recorded place (told_in s told) s)) s) gone log handed outbox
+kept_served digest s gone log handed outbox place told kept true has =
+    kept_after digest s gone log handed outbox place (told_in s told) kept (has_inside place s.sent has)
 kept_served digest s gone log handed outbox place told kept false has = kept
 
-pub kept_told : (digest : List ℕ → Id) (s : ClientState) (gone : Bool) (log : AskLog) (handed : Bool) (outbox : List (ℕ × Ask)) (place : ℕ) (told told_log_with : Told)
-    → IsKept s gone log handed outbox → IsKept (served digest place told s) gone (told_log place told_log_with log) handed outbox
-kept_told digest s gone log handed outbox place told answer kept =
-    kept_log (served digest place told s) gone log (told_log place answer log) handed outbox
+pub kept_told : (digest : List ℕ → Id) (s : ClientState) (gone : Bool) (log : AskLog) (handed : Bool) (outbox : List (ℕ × Ask))
+    (place : ℕ) (told : Told) → IsKept s gone log handed outbox
+    → IsKept (served digest place told s) gone (told_log place told log) handed outbox
+kept_told digest s gone log handed outbox place told kept =
+    kept_log (served digest place told s) gone log (told_log place told log) handed outbox
     (kept_served digest s gone log handed outbox place told kept (has_place place s.sent) refl) refl refl

@@ -1,5 +1,5 @@
 -- What follows a group has room: it has two messages at most.
-use Rattle.std.proofs.Common.{◌≡◌, ℕ, ◌+◌, ◌≤◌, Bool, true, false, cond, List, [], ◌∷◌, ◌++◌, length, Option, Some, None, refl, arith}
+use Rattle.std.proofs.Common.{◌≡◌, ℕ, ◌≤◌, Bool, true, false, cond, List, [], ◌∷◌, length, Option, Some, None, refl, arith}
 use Rattle.inf_base.specs.declared.id.Id.{Id}
 use Rattle.inf_base.specs.declared.answer.Answer.TheVariants as answer
 use Rattle.inf_base.specs.declared.entry.Entry.{Entry}
@@ -15,12 +15,13 @@ use Rattle.inf_duty.specs.declared.flow.Flow.TheVariants as flow
 use Rattle.inf_message.specs.declared.turn.Turn.TheVariants as turn
 use Rattle.inf_duty.specs.ClientState.{ClientState, Stage, act, compose, round, winds, wound}
 use Rattle.inf_duty.specs.Flow.{after_act, clean_up}
-use Rattle.inf_duty.specs.Group.{Course, next_course}
-use Rattle.inf_duty.specs.Turn.{Next, act_turn, after_round, by_next, follow, from_root, is_busy, next_entry, steps, stops, told_entry, turn_at, turned}
+use Rattle.inf_duty.specs.declared.course.Course.{Course}
+use Rattle.inf_duty.specs.Course.{next_course}
+use Rattle.inf_duty.specs.Turn.{act_turn, after_group, known_turn, learned, turn_at, turn_by, turned}
 use Rattle.inf_duty.specs.declared.flow.Flow.{Flow}
 use Rattle.inf_flow_dir.specs.DirFlow.{after_unlink, forget_in, lives_at, row_of}
 use Rattle.inf_message.specs.Chain.{last_entry, way_to}
-use Rattle.inf_message.specs.Sent.{Sent}
+use Rattle.inf_message.specs.Sent.{Sent, is_wanting}
 use Rattle.inf_message.specs.Turn.{fails, turn_as}
 use Rattle.inf_message.specs.Who.{Who, birth_of, last_id}
 use Rattle.inf_message.specs.declared.ending.Ending.{Ending}
@@ -30,11 +31,19 @@ use Rattle.inf_message.specs.declared.op.Op.TheVariants as op
 use Rattle.inf_message.specs.declared.reply.Reply.{Reply}
 use Rattle.inf_message.specs.declared.reply.Reply.TheVariants as reply
 use Rattle.inf_message.specs.History.{Told}
+use Rattle.inf_resolve.specs.declared.known.Known.{Known}
+use Rattle.inf_resolve.specs.declared.resolved.Resolved.{Resolved}
+use Rattle.inf_resolve.specs.declared.resolved.Resolved.TheVariants as comes
+use Rattle.inf_resolve.specs.Resolved.{resolved}
 
 -- there is room for so many messages where memory is wanting for what follows
-abbrev pub TurnFits : Who → ℕ → Turn Flow → Type 0
-TurnFits who room (turn.GoesOn stage) = room_between who (act stage) ≤ room
+abbrev pub TurnFits : Who → ℕ → Turn Stage → Type 0
+TurnFits who room (turn.GoesOn stage) = room_between who stage ≤ room
 TurnFits who room (turn.WindsUp end messages) = length messages ≤ room
+
+-- the same of what a message of a flow comes to
+abbrev FlowFits : Who → ℕ → Turn Flow → Type 0
+FlowFits who room t = TurnFits who room (turn_as act t)
 
 pub clean_up_two : (who : Who) (step : Flow) → length (clean_up who step) ≤ 2
 clean_up_two who (flow.File (file_flow.Finishes chain asked)) = omega arith
@@ -44,40 +53,27 @@ clean_up_two who (flow.Dir (dir_flow.Links chain name mode version dir)) = omega
 clean_up_two who (flow.Dir (dir_flow.Seals chain)) = omega arith
 clean_up_two who (flow.Dir (dir_flow.Unlinks chain)) = omega arith
 
-fits_if : (who : Who) (b : Bool) (first second : Turn Flow) → TurnFits who 2 first → TurnFits who 2 second → TurnFits who 2 (cond b first second)
+-- ---- after a round
+
+fits_if : (who : Who) (b : Bool) (first second : Turn Stage) → TurnFits who 2 first → TurnFits who 2 second
+    → TurnFits who 2 (cond b first second)
 fits_if who true first second one other = one
 fits_if who false first second one other = other
 
-module _ (who : Who) (course : Course) where
-  by_next_fits : (chain : List Entry) (name : List ℕ) (names : List (List ℕ)) (go : Entry → Turn Flow) (next : Next) → ((e : Entry) → TurnFits who 2 (go e))
-      → TurnFits who 2 (by_next course chain name names go next)
-  by_next_fits chain name names go (steps e) goes = goes e
-  by_next_fits chain name names go stops goes = clean_up_two who (flow.File (file_flow.Finishes chain (course.stop name names)))
-  by_next_fits chain name names go (is_busy given place) goes = omega arith
+by_fits : (who : Who) (found : Resolved) → TurnFits who 2 (turn_by found)
+by_fits who (comes.Asks keys) = omega arith
+by_fits who (comes.Leads old new) = omega arith
+by_fits who (comes.IsBusy by place) = omega arith
+by_fits who comes.Lacks = omega arith
 
-  follow_fits : (chain : List Entry) (before : Entry) (names : List (List ℕ)) (sent : List Sent) → TurnFits who 2 (follow course chain before names sent)
-  follow_fits chain before [] sent = clean_up_two who (course.arrive chain)
-  follow_fits chain before (name ∷ names) [] = clean_up_two who (flow.File (file_flow.Finishes chain (course.stop name names)))
-  follow_fits chain before (name ∷ names) (x ∷ xs) =
-      by_next_fits chain name names (λ e. follow course (chain ++ e ∷ []) e names xs) (next_entry before x.told)
-      (λ e. follow_fits (chain ++ e ∷ []) e names xs)
+known_fits : (digest : List ℕ → Id) (who : Who) (known : List Known) (course : Option Course)
+    → TurnFits who 2 (known_turn digest who known course)
+known_fits digest who known None = omega arith
+known_fits digest who known (Some course) = by_fits who (resolved digest who.root course.looked known)
 
-  root_fits : (xs : List Sent) (told : Told) (given : Reply) → TurnFits who 2 (from_root course xs told given)
-  root_fits xs told (reply.Found k access) = follow_fits (told_entry k access told.serve_place ∷ []) (told_entry k access told.serve_place) course.looked xs
-  root_fits xs told (reply.Busy by at born) = omega arith
-  root_fits xs told any_reply = omega arith
+-- ---- after a message of a flow
 
-  first_fits : (place : ℕ) (told : Option Told) (xs : List Sent) → TurnFits who 2 (after_round (Some course) (record { place = place; told = told } ∷ xs))
-  first_fits place None xs = fits_if who _ (turn.WindsUp (ending.Answers answer.NoMemory None) []) (turn.WindsUp ending.Retries []) (omega arith) (omega arith)
-  first_fits place (Some told) xs =
-      fits_if who _ (turn.WindsUp (ending.Answers answer.NoMemory None) []) (from_root course xs told told.reply) (omega arith) (root_fits xs told told.reply)
-
-round_fits : (who : Who) (course : Option Course) (sent : List Sent) → TurnFits who 2 (after_round course sent)
-round_fits who None sent = omega arith
-round_fits who (Some course) [] = omega arith
-round_fits who (Some course) (x ∷ xs) = first_fits who course x.place x.told xs
-
-fails_fits : {F : Type 0} (wrap : F → Flow) (who : Who) (step : Flow) (place : ℕ) (given : Reply) → TurnFits who 2 (turn_as wrap (fails (clean_up who step) place given))
+fails_fits : {F : Type 0} (wrap : F → Flow) (who : Who) (step : Flow) (place : ℕ) (given : Reply) → FlowFits who 2 (turn_as wrap (fails (clean_up who step) place given))
 fails_fits wrap who step place (reply.Busy by at born) = clean_up_two who step
 fails_fits wrap who step place (reply.Refused error) = clean_up_two who step
 fails_fits wrap who step place reply.NoMem = clean_up_two who step
@@ -97,7 +93,7 @@ unlink_two who chain =
     let one = row_one who (last_id who (way_to chain)) (last_entry chain) in
     omega arith
 
-act_fits : (digest : List ℕ → Id) (who : Who) (step : Flow) (ask_place place : ℕ) (given : Reply) → TurnFits who 2 (after_act digest who step ask_place place given)
+act_fits : (digest : List ℕ → Id) (who : Who) (step : Flow) (ask_place place : ℕ) (given : Reply) → FlowFits who 2 (after_act digest who step ask_place place given)
 act_fits digest who (flow.File (file_flow.Finishes chain (op.Create name mode))) ask_place place reply.Fine = omega arith
 act_fits digest who (flow.File (file_flow.Finishes chain (op.Stat name))) ask_place place (reply.Stat kind meta) = omega arith
 act_fits digest who (flow.Dir (dir_flow.Reserves chain name mode)) ask_place place (reply.Reserved version) =
@@ -111,17 +107,19 @@ act_fits digest who (flow.Dir (dir_flow.Unlinks chain)) ask_place place reply.Fi
 act_fits digest who (flow.File step) ask_place place given = fails_fits flow.File who (flow.File step) place given
 act_fits digest who (flow.Dir step) ask_place place given = fails_fits flow.Dir who (flow.Dir step) place given
 
-told_fits : (digest : List ℕ → Id) (who : Who) (step : Flow) (place : ℕ) (told : Option Told) (xs : List Sent) → TurnFits who 2 (act_turn digest who step (record { place = place; told = told } ∷ xs))
+told_fits : (digest : List ℕ → Id) (who : Who) (step : Flow) (place : ℕ) (told : Option Told) (xs : List Sent) → FlowFits who 2 (act_turn digest who step (record { place = place; told = told } ∷ xs))
 told_fits digest who step place None xs = omega arith
 told_fits digest who step place (Some told) xs = act_fits digest who step place told.serve_place told.reply
 
-sent_fits : (digest : List ℕ → Id) (who : Who) (step : Flow) (sent : List Sent) → TurnFits who 2 (act_turn digest who step sent)
+sent_fits : (digest : List ℕ → Id) (who : Who) (step : Flow) (sent : List Sent) → FlowFits who 2 (act_turn digest who step sent)
 sent_fits digest who step [] = omega arith
 sent_fits digest who step (x ∷ xs) = told_fits digest who step x.place x.told xs
 
 turn_fits : (digest : List ℕ → Id) (s : ClientState) (stage : Stage) → TurnFits s.who (room_within stage) (turn_at digest s stage)
 turn_fits digest s compose = omega arith
-turn_fits digest s (round keys) = round_fits s.who (next_course s.left) s.sent
+turn_fits digest s (round keys) =
+    fits_if s.who (is_wanting s.sent) (turn.WindsUp (ending.Answers answer.NoMemory None) []) _ (omega arith)
+    (known_fits digest s.who s.known (next_course s.left))
 turn_fits digest s (act step) = sent_fits digest s.who step s.sent
 turn_fits digest s (winds end m ms) = omega arith
 
@@ -131,14 +129,16 @@ wound_fits (ending.Answers given place) [] s room fits = omega arith
 wound_fits ending.Retries [] s room fits = omega arith
 wound_fits end (m ∷ ms) s room fits = omega arith
 
-turned_fits : (t : Turn Flow) (s : ClientState) (room : ℕ) → TurnFits s.who room t → room_between (turned t s).who (turned t s).stage ≤ room
+turned_fits : (t : Turn Stage) (s : ClientState) (room : ℕ) → TurnFits s.who room t → room_between (turned t s).who (turned t s).stage ≤ room
 turned_fits (turn.GoesOn stage) s room fits = fits
 turned_fits (turn.WindsUp end messages) s room fits = wound_fits end messages s room fits
 
 -- there is room between two groups, where there was within the one before
-pub next_fits : (digest : List ℕ → Id) (s : ClientState) (room : ℕ) → room_within s.stage ≤ room → room_between (turned (turn_at digest s s.stage) s).who (turned (turn_at digest s s.stage) s).stage ≤ room
+pub next_fits : (digest : List ℕ → Id) (s : ClientState) (room : ℕ) → room_within s.stage ≤ room
+    → room_between (after_group digest s).who (after_group digest s).stage ≤ room
 next_fits digest s room fits =
-    let there = turned_fits (turn_at digest s s.stage) s (room_within s.stage) (turn_fits digest s s.stage) in
+    let knows = learned s.stage s in
+    let there = turned_fits (turn_at digest knows s.stage) knows (room_within s.stage) (turn_fits digest knows s.stage) in
     omega arith
 
 wound_between : (end : Ending) (messages : List Message) (s : ClientState) → (wound end messages s).sent ≡ []
@@ -146,6 +146,9 @@ wound_between (ending.Answers given place) [] s = refl
 wound_between ending.Retries [] s = refl
 wound_between end (m ∷ ms) s = refl
 
-pub turned_between : (t : Turn Flow) (s : ClientState) → (turned t s).sent ≡ []
+turned_between : (t : Turn Stage) (s : ClientState) → (turned t s).sent ≡ []
 turned_between (turn.GoesOn stage) s = refl
 turned_between (turn.WindsUp end messages) s = wound_between end messages s
+
+pub after_between : (digest : List ℕ → Id) (s : ClientState) → (after_group digest s).sent ≡ []
+after_between digest s = turned_between (turn_at digest (learned s.stage s) s.stage) (learned s.stage s)

@@ -23,9 +23,6 @@ with_room count log = record log { room = count }
 abbrev pub with_ready : ℕ → Ask → AskLog → AskLog
 with_ready number ask log = record log { ready = log.ready ++ posted_ask number ask ∷ []; room = log.room - 1 }
 
-abbrev pub without_ready : AskLog → AskLog
-without_ready log = record log { ready = [] }
-
 abbrev pub made_at : ℕ → Posted → Made
 made_at place posted = made_ask posted.number posted.ask place
 

@@ -3,7 +3,7 @@
 ghost use Rattle.std.specs.Prelude.{◌≡◌, ◌<◌, ◌≤◌, true, length, IfOk, OnOk, OnErr};
 ghost use Rattle.std.specs.List.{AllWithin};
 ghost use Rattle.inf_message.specs.History.{told_reply};
-ghost use Rattle.inf_client.specs.AskLog.{IsLater, Rise, asked_log, no_asks, places_of, told_log, trip_places, trips_in, waits_at, with_ready, with_room, without_ready};
+ghost use Rattle.inf_client.specs.AskLog.{IsLater, Rise, asked_log, no_asks, told_log, trip_places, trips_in, waits_at, with_ready, with_room};
 
 use crate::ready::Ready;
 use crate::waiting::{Waiting, has_place, index_of};
@@ -56,14 +56,6 @@ impl AskLog {
         self.trips.as_slice()
     }
 
-    /// What a client knows of the places, without a look: they rise in the order of asking.
-    pub(crate) fn places_rise(&self)
-        ensures asks { Rise (places_of self.now.asks) }
-        ensures trips { Rise (trip_places (trips_in self.now)) }
-    {
-        let _ = &self.trips;
-    }
-
     /// Takes room for this many asks behind those that are ready, and for their answers. Room for more is let go.
     pub(crate) fn reserve(&mut self, count: usize) -> Result<(), NoMemory>
         ensures ok { OnOk result (self.new ≡ with_room count self.old) }
@@ -84,13 +76,6 @@ impl AskLog {
     {
         self.ready.push_back_reserved(Ready { number, ask });
         self.room -= 1;
-    }
-
-    /// Nothing is to be asked next.
-    pub(crate) fn forget(&mut self)
-        ensures { self.new ≡ without_ready self.old }
-    {
-        self.ready.clear();
     }
 
     /// The first ask that was to be made was made, and stands at this place.

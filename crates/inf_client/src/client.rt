@@ -10,7 +10,6 @@ ghost use Rattle.inf_duty.specs.Start.{start};
 ghost use Rattle.inf_duty.specs.World.{world_by};
 ghost use Rattle.inf_duty.specs.ClientState.{placed};
 ghost use Rattle.inf_duty.specs.Turn.{served};
-ghost use Rattle.inf_message.specs.Heard.{heard};
 ghost use Rattle.inf_message.specs.History.{told_reply};
 
 use crate::ask_log::AskLog;
@@ -130,7 +129,7 @@ impl Client {
     pub fn told<R: IdRule>(&mut self, rule: &R, ask_place: Place, serve_place: Place, reply: Reply)
         ensures { self.new
             ≡ client_with
-            (served (R.digest_of rule.now) ask_place (told_reply serve_place (heard reply)) self.old.state)
+            (served (R.digest_of rule.now) ask_place (told_reply serve_place reply) self.old.state)
             self.old.gone (told_log ask_place (told_reply serve_place reply) self.old.log) self.old.handed }
     {
         self.state.told(rule, ask_place, serve_place, &reply);

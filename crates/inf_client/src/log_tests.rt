@@ -105,17 +105,3 @@ fn answers_come_in_any_order(rt: HostRuntime) -> Result<(), Fail> {
     }
     Ok(())
 }
-
-#[test]
-fn what_is_forgotten_is_not_asked(rt: HostRuntime) -> Result<(), Fail> {
-    let mut log = AskLog::with_capacity(rt.alloc(), 0)?;
-    log.reserve(2)?;
-    keep(&mut log, 5);
-    log.forget();
-    keep(&mut log, 6);
-    make(&mut log, 4);
-    log.places_rise();
-    assert!(rt; tell(&mut log, 4, 9));
-    assert!(rt; are_trips(log.trips(), &[(6, 4, 9)]));
-    Ok(())
-}

@@ -20,7 +20,11 @@ use Rattle.inf_duty.specs.declared.flow.Flow.TheVariants as flow
 use Rattle.inf_message.specs.declared.turn.Turn.TheVariants as turn
 use Rattle.inf_duty.specs.ClientState.{Stage, act, compose, round, winds}
 use Rattle.inf_duty.specs.Flow.{clean_up, message_of}
-use Rattle.inf_duty.specs.Group.{Course, course_at, course_in, next_course, rmdir_stop, split, text_of}
+use Rattle.inf_duty.specs.Group.{next_stage, stage_by}
+use Rattle.inf_duty.specs.declared.course.Course.{Course}
+use Rattle.inf_duty.specs.declared.course.Deed.{Deed}
+use Rattle.inf_duty.specs.declared.course.Deed.TheVariants as deed
+use Rattle.inf_duty.specs.Course.{course_at, course_in, flow_at, next_course, split, text_of}
 use Rattle.inf_duty.specs.declared.flow.Flow.{Flow}
 use Rattle.inf_flow_dir.specs.DirFlow.{after_unlink, forget_in, lives_at, row_of}
 use Rattle.inf_message.specs.Chain.{last_dir, last_entry, way_to}
@@ -30,6 +34,12 @@ use Rattle.inf_duty.proofs.BegunKept.{if_both}
 use Rattle.inf_message.specs.declared.request.Request.{Request}
 use Rattle.inf_message.specs.declared.request.Request.TheVariants as request
 use Rattle.inf_message.specs.declared.step.Message.{Message}
+use Rattle.inf_resolve.specs.declared.known.Known.{Known}
+use Rattle.inf_resolve.specs.declared.resolved.Resolved.{Resolved}
+use Rattle.inf_resolve.specs.declared.resolved.Resolved.TheVariants as comes
+use Rattle.inf_resolve.specs.Chain.{IsChain, LeadsAlong}
+use Rattle.inf_resolve.specs.Resolved.{resolved}
+use Rattle.inf_resolve.proofs.LedFacts.{old_is_chain}
 use Rattle.inf_server.specs.Chains.{HasShortChains}
 use Rattle.inf_server.specs.Machine.{is_built, is_built_op}
 
@@ -122,35 +132,26 @@ IsKnownStage servers (round keys) = Unit {0}
 IsKnownStage servers (act step) = IsKnownFlow step
 IsKnownStage servers (winds ending m ms) = IsKnownMessage servers m × AreKnown servers ms
 
-abbrev pub IsKnownTurn : ℕ → Turn Flow → Type 0
-IsKnownTurn servers (turn.GoesOn next) = IsKnownStage servers (act next)
+abbrev pub IsKnownTurn : ℕ → Turn Stage → Type 0
+IsKnownTurn servers (turn.GoesOn next) = IsKnownStage servers next
 IsKnownTurn servers (turn.WindsUp ending more) = AreKnown servers more
 
 -- ---- courses
 
--- the names that are looked up are those of a path, and what is done then is of a kind that servers know
-pub record IsKnownCourse (course : Course) : Type 0 where
-  pub looked : length course.looked ≤ MOST_PATH_NAMES
-  pub arrives : (chain : List Entry) → IsShort chain → IsKnownFlow (course.arrive chain)
-  pub stops_at : (name : List ℕ) (rest : List (List ℕ)) → is_built_op (course.stop name rest) ≡ true
-
+-- the names that are looked up are those of a path
 abbrev pub IfKnown : Option Course → Type 0
 IfKnown None = Unit {0}
-IfKnown (Some course) = IsKnownCourse course
+IfKnown (Some course) = length course.looked.old ≤ MOST_PATH_NAMES
 
 split_short : (name : List ℕ) (rest : List (List ℕ)) → length (split name rest).0 ≤ length rest
 split_short name [] = omega arith
 split_short name (next ∷ rest) = omega (arith, split_short next rest)
 
 course_in_known : (asked : Call) (names : List (List ℕ) × List ℕ) → length names.0 ≤ MOST_PATH_NAMES → IfKnown (course_in asked names)
-course_in_known (call.Create path mode) (way, name) few = record { looked = few; arrives = λ chain short. (short, refl); stops_at = λ at rest. refl }
-course_in_known (call.Stat path) (way, name) few = record { looked = few; arrives = λ chain short. (short, refl); stops_at = λ at rest. refl }
-course_in_known (call.Mkdir path mode) (way, name) few = record { looked = few; arrives = λ chain short. short; stops_at = λ at rest. refl }
+course_in_known (call.Create path mode) (way, name) few = few
+course_in_known (call.Stat path) (way, name) few = few
+course_in_known (call.Mkdir path mode) (way, name) few = few
 course_in_known other names few = tt
-
-rmdir_known : (name : List ℕ) (rest : List (List ℕ)) → is_built_op (rmdir_stop name rest) ≡ true
-rmdir_known name [] = refl
-rmdir_known name (next ∷ rest) = refl
 
 -- the first name that is at fault decides, and one too many is at fault
 later_none : (fault later : Option Errno) → or_later fault later ≡ None → later ≡ None
@@ -187,10 +188,52 @@ path_few text names is = by (is_absolute text) is
 
 course_at_known : (asked : Call) (path : Result (List (List ℕ)) Errno) → ((names : List (List ℕ)) → path ≡ Ok names → length names ≤ MOST_PATH_NAMES)
     → IfKnown (course_at asked path)
-course_at_known (call.Rmdir path) (Ok (name ∷ names)) few = record { looked = few (name ∷ names) refl; arrives = λ chain short. short; stops_at = rmdir_known }
+course_at_known (call.Rmdir path) (Ok (name ∷ names)) few = few (name ∷ names) refl
 course_at_known asked (Ok (name ∷ names)) few = course_in_known asked (split name names) (omega (arith, split_short name names, few (name ∷ names) refl))
 course_at_known asked other few = tt
 
 pub next_known : (left : List Call) → IfKnown (next_course left)
 next_known [] = tt
 next_known (next ∷ left) = course_at_known next (path_of (text_of next)) (path_few (text_of next))
+
+-- ---- what an attempt asks for next
+
+-- a chain has an entry for the root, and one for each name that it has come along
+along_short : (told : List Known) (dir : DirRef) (names : List (List ℕ)) (entries : List Entry) → LeadsAlong told dir names entries
+    → length entries ≤ length names
+along_short told dir [] [] leads = omega arith
+along_short told dir [] (entry ∷ entries) leads = absurd leads
+along_short told dir (name ∷ names) [] leads = omega arith
+along_short told dir (name ∷ names) (entry ∷ entries) leads =
+    omega (arith, along_short told (dir_of entry.access) names entries leads.2)
+
+chain_short : (told : List Known) (names : List (List ℕ)) (chain : List Entry) → length names ≤ MOST_PATH_NAMES
+    → IsChain told names chain → IsShort chain
+chain_short told names [] few is = absurd is
+chain_short told names (root ∷ entries) few is = omega (arith, along_short told (dir_of root.access) names entries is.1)
+
+-- whatever is done where a path has led so far
+flow_at_known : (what : Deed) (chain : List Entry) (left : List (List ℕ)) → IsShort chain → IsKnownFlow (flow_at what chain left)
+flow_at_known (deed.Create name mode) chain [] short = (short, refl)
+flow_at_known (deed.Stat name) chain [] short = (short, refl)
+flow_at_known (deed.Mkdir name mode) chain [] short = short
+flow_at_known deed.Rmdir chain [] short = short
+flow_at_known (deed.Create name mode) chain (next ∷ rest) short = (short, refl)
+flow_at_known (deed.Stat name) chain (next ∷ rest) short = (short, refl)
+flow_at_known (deed.Mkdir name mode) chain (next ∷ rest) short = (short, refl)
+flow_at_known deed.Rmdir chain (next ∷ []) short = (short, refl)
+flow_at_known deed.Rmdir chain (next ∷ other ∷ rest) short = (short, refl)
+
+module _ (digest : List ℕ → Id) (servers : ℕ) (who : Who) (told : List Known) where
+  found_known : (course : Course) (found : Resolved) → length course.looked.old ≤ MOST_PATH_NAMES
+      → resolved digest who.root course.looked told ≡ found → IsKnownStage servers (stage_by course.deed found)
+  found_known course (comes.Asks keys) few is = tt
+  found_known course (comes.Leads old new) few is =
+      flow_at_known course.deed old.chain old.left
+      (chain_short told course.looked.old old.chain few (old_is_chain digest who.root course.looked told old new is))
+  found_known course (comes.IsBusy by place) few is = tt
+  found_known course comes.Lacks few is = tt
+
+  pub next_stage_known : (course : Option Course) → IfKnown course → IsKnownStage servers (next_stage digest who told course)
+  next_stage_known None few = tt
+  next_stage_known (Some course) few = found_known course (resolved digest who.root course.looked told) few refl

@@ -1,11 +1,9 @@
 -- The Asks of a legal history: servers know their kinds, their chains are short, and the server that is asked is there.
-use Rattle.std.proofs.Common.{◌≡◌, ℕ, zero, suc, ◌+◌, ◌≤◌, eqb, List, [], ◌∷◌, ◌++◌, length, map, slice_get, Option, None, Some, refl, subst, arith, length-append}
+use Rattle.std.proofs.Common.{◌≡◌, ℕ, zero, suc, eqb, List, [], ◌∷◌, length, map, slice_get, Option, None, Some, refl, subst}
 use Rattle.inf_base.specs.declared.answer.Answer.TheVariants as answer
 use Rattle.inf_base.specs.declared.call.Call.{Call}
-use Rattle.inf_base.specs.declared.entry.Entry.{Entry}
 use Rattle.inf_base.specs.declared.id.Id.{Id}
 use Rattle.inf_base.specs.declared.key.LookKey.{LookKey}
-use Rattle.inf_base.specs.declared.limits.TheConstants.{MOST_PATH_NAMES}
 use Rattle.inf_base.specs.declared.setup.ClientLine.{ClientLine}
 use Rattle.inf_duty.specs.After.{client_after}
 use Rattle.inf_duty.specs.Duty.{asked, asks, begun, given_up_in, next_in, next_of}
@@ -18,11 +16,12 @@ use Rattle.inf_duty.specs.declared.flow.Flow.TheVariants as flow
 use Rattle.inf_message.specs.declared.turn.Turn.TheVariants as turn
 use Rattle.inf_duty.specs.ClientState.{ClientState, Stage, act, compose, finished, round, winds, wound}
 use Rattle.inf_duty.specs.Flow.{after_act, clean_up}
-use Rattle.inf_duty.specs.Group.{Course, composed_stage, group, keys_of, next_course}
-use Rattle.inf_duty.specs.Turn.{Next, act_turn, after_round, by_next, follow, from_root, is_busy, next_entry, recorded, served, steps, stops, told_entry, turn_at, turned}
+use Rattle.inf_duty.specs.Group.{composed_stage, group}
+use Rattle.inf_duty.specs.declared.course.Course.{Course}
+use Rattle.inf_duty.specs.Course.{next_course}
+use Rattle.inf_duty.specs.Turn.{act_turn, known_turn, learned, recorded, round_turn, served, told_in, turn_at, turn_by, turned}
 use Rattle.inf_duty.specs.declared.flow.Flow.{Flow}
-use Rattle.inf_message.specs.Heard.{heard}
-use Rattle.inf_message.specs.Sent.{Sent}
+use Rattle.inf_message.specs.Sent.{Sent, is_wanting}
 use Rattle.inf_message.specs.Turn.{fails, turn_as}
 use Rattle.inf_message.specs.Who.{Who, asked_id, lookup_of}
 use Rattle.inf_message.specs.declared.ending.Ending.{Ending}
@@ -41,53 +40,44 @@ use Rattle.inf_message.specs.declared.request.Request.TheVariants as request
 use Rattle.inf_message.specs.declared.step.Message.{Message}
 use Rattle.inf_message.specs.History.{Posted, Told, asked_at, posted_ask, told_reply}
 use Rattle.inf_message.proofs.HistoryLaws.{by_test}
-use Rattle.inf_core.proofs.KnownFlows.{AreKnown, IfKnown, IsKnown, IsKnownCourse, IsKnownFlow, IsKnownMessage, IsKnownStage, IsKnownTurn, IsShort, after_unlink_known, clean_up_known, flow_known, known, next_known, no_chain}
+use Rattle.inf_resolve.specs.declared.known.Known.{Known}
+use Rattle.inf_resolve.specs.declared.resolved.Resolved.{Resolved}
+use Rattle.inf_resolve.specs.declared.resolved.Resolved.TheVariants as comes
+use Rattle.inf_resolve.specs.Resolved.{resolved}
+use Rattle.inf_core.proofs.KnownFlows.{AreKnown, IsKnown, IsKnownFlow, IsKnownMessage, IsKnownStage, IsKnownTurn, after_unlink_known, clean_up_known, flow_known, known, next_known, next_stage_known, no_chain}
 
 -- ---- after a round
 
-module _ (servers : ℕ) (course : Course) (is : IsKnownCourse course) where
-  by_next_known : (chain : List Entry) (name : List ℕ) (names : List (List ℕ)) (go : Entry → Turn Flow) (next : Next) → IsShort chain
-      → ((e : Entry) → IsKnownTurn servers (go e)) → IsKnownTurn servers (by_next course chain name names go next)
-  by_next_known chain name names go (steps e) short goes = goes e
-  by_next_known chain name names go stops short goes = (short, is.stops_at name names)
-  by_next_known chain name names go (is_busy given place) short goes = tt
+by_known : (servers : ℕ) (found : Resolved) → IsKnownTurn servers (turn_by found)
+by_known servers (comes.Asks keys) = tt
+by_known servers (comes.Leads old new) = tt
+by_known servers (comes.IsBusy by place) = tt
+by_known servers comes.Lacks = tt
 
-  -- the chain has an entry for the root, and one for each name that it has come along
-  follow_known : (chain : List Entry) (before : Entry) (names : List (List ℕ)) (sent : List Sent) → length chain + length names ≤ MOST_PATH_NAMES + 1
-      → IsKnownTurn servers (follow course chain before names sent)
-  follow_known chain before [] sent short = is.arrives chain (omega arith)
-  follow_known chain before (name ∷ names) [] short = (omega arith, is.stops_at name names)
-  follow_known chain before (name ∷ names) (x ∷ xs) short =
-      by_next_known chain name names (λ e. follow course (chain ++ e ∷ []) e names xs) (next_entry before x.told) (omega arith)
-      (λ e. follow_known (chain ++ e ∷ []) e names xs (omega (arith, length-append chain (e ∷ []))))
+known_turn_known : (digest : List ℕ → Id) (servers : ℕ) (who : Who) (told : List Known) (course : Option Course)
+    → IsKnownTurn servers (known_turn digest who told course)
+known_turn_known digest servers who told None = tt
+known_turn_known digest servers who told (Some course) = by_known servers (resolved digest who.root course.looked told)
 
-  root_known : (xs : List Sent) (told : Told) (given : Reply) → IsKnownTurn servers (from_root course xs told given)
-  root_known xs told (reply.Found k access) =
-      follow_known (told_entry k access told.serve_place ∷ []) (told_entry k access told.serve_place) course.looked xs (omega (arith, is.looked))
-  root_known xs told (reply.Busy by at born) = tt
-  root_known xs told any_reply = tt
-
-  first_known : (place : ℕ) (told : Option Told) (xs : List Sent) → IsKnownTurn servers (after_round (Some course) (record { place = place; told = told } ∷ xs))
-  first_known place None xs = if_both (IsKnownTurn servers) _ (turn.WindsUp (ending.Answers answer.NoMemory None) []) (turn.WindsUp ending.Retries []) tt tt
-  first_known place (Some told) xs =
-      if_both (IsKnownTurn servers) _ (turn.WindsUp (ending.Answers answer.NoMemory None) []) (from_root course xs told told.reply) tt (root_known xs told told.reply)
-
-round_known : (servers : ℕ) (found : Option Course) (sent : List Sent) → IfKnown found → IsKnownTurn servers (after_round found sent)
-round_known servers None sent is = tt
-round_known servers (Some course) [] is = tt
-round_known servers (Some course) (x ∷ xs) is = first_known servers course is x.place x.told xs
+round_known : (digest : List ℕ → Id) (servers : ℕ) (s : ClientState) → IsKnownTurn servers (round_turn digest s)
+round_known digest servers s =
+    if_both (IsKnownTurn servers) (is_wanting s.sent) (turn.WindsUp (ending.Answers answer.NoMemory None) []) _ tt
+    (known_turn_known digest servers s.who s.known (next_course s.left))
 
 -- ---- after a message of a flow
 
+abbrev IsKnownFlowTurn : ℕ → Turn Flow → Type 0
+IsKnownFlowTurn servers t = IsKnownTurn servers (turn_as act t)
+
 module _ (who : Who) where
-  fails_known : {F : Type 0} (wrap : F → Flow) (step : Flow) (place : ℕ) (given : Reply) → IsKnownTurn who.servers (turn_as wrap (fails (clean_up who step) place given))
+  fails_known : {F : Type 0} (wrap : F → Flow) (step : Flow) (place : ℕ) (given : Reply) → IsKnownFlowTurn who.servers (turn_as wrap (fails (clean_up who step) place given))
   fails_known wrap step place (reply.Busy by at born) = clean_up_known who step
   fails_known wrap step place (reply.Refused error) = clean_up_known who step
   fails_known wrap step place reply.NoMem = clean_up_known who step
   fails_known wrap step place any_reply = clean_up_known who step
 
 module _ (digest : List ℕ → Id) (who : Who) where
-  act_known : (step : Flow) (asked place : ℕ) (given : Reply) → IsKnownFlow step → IsKnownTurn who.servers (after_act digest who step asked place given)
+  act_known : (step : Flow) (asked place : ℕ) (given : Reply) → IsKnownFlow step → IsKnownFlowTurn who.servers (after_act digest who step asked place given)
   act_known (flow.File (file_flow.Finishes chain (op.Create name mode))) asked place reply.Fine is = tt
   act_known (flow.File (file_flow.Finishes chain (op.Stat name))) asked place (reply.Stat kind meta) is = tt
   act_known (flow.Dir (dir_flow.Reserves chain name mode)) asked place (reply.Reserved version) is = is
@@ -101,17 +91,17 @@ module _ (digest : List ℕ → Id) (who : Who) where
   act_known (flow.Dir step) asked place given is = fails_known who flow.Dir (flow.Dir step) place given
 
   told_known : (step : Flow) (place : ℕ) (told : Option Told) (xs : List Sent) → IsKnownFlow step
-      → IsKnownTurn who.servers (act_turn digest who step (record { place = place; told = told } ∷ xs))
+      → IsKnownFlowTurn who.servers (act_turn digest who step (record { place = place; told = told } ∷ xs))
   told_known step place None xs is = tt
   told_known step place (Some told) xs is = act_known step place told.serve_place told.reply is
 
-  act_turn_known : (step : Flow) (sent : List Sent) → IsKnownFlow step → IsKnownTurn who.servers (act_turn digest who step sent)
+  act_turn_known : (step : Flow) (sent : List Sent) → IsKnownFlow step → IsKnownFlowTurn who.servers (act_turn digest who step sent)
   act_turn_known step [] is = tt
   act_turn_known step (x ∷ xs) is = told_known step x.place x.told xs is
 
 turn_known : (digest : List ℕ → Id) (s : ClientState) (stage : Stage) → IsKnownStage s.who.servers stage → IsKnownTurn s.who.servers (turn_at digest s stage)
 turn_known digest s compose is = tt
-turn_known digest s (round keys) is = round_known s.who.servers (next_course s.left) s.sent (next_known s.left)
+turn_known digest s (round keys) is = round_known digest s.who.servers s
 turn_known digest s (act step) is = act_turn_known digest s.who step s.sent is
 turn_known digest s (winds end m ms) is = is.1
 
@@ -122,12 +112,9 @@ record Knows (world : World) (s : ClientState) : Type 0 where
   servers : s.who.servers ≡ world.setup.servers
   stage : IsKnownStage s.who.servers s.stage
 
-keys_known : (digest : List ℕ → Id) (servers : ℕ) (who : Who) (found : Option Course) → IsKnownStage servers (keys_of digest who found)
-keys_known digest servers who None = tt
-keys_known digest servers who (Some course) = tt
-
 composed_known : (digest : List ℕ → Id) (servers : ℕ) (s : ClientState) (stage : Stage) → IsKnownStage servers stage → IsKnownStage servers (composed_stage digest s stage)
-composed_known digest servers s compose is = keys_known digest servers s.who (next_course s.left)
+composed_known digest servers s compose is =
+    next_stage_known digest servers s.who s.known (next_course s.left) (next_known s.left)
 composed_known digest servers s (round keys) is = is
 composed_known digest servers s (act step) is = is
 composed_known digest servers s (winds end m ms) is = is
@@ -141,9 +128,22 @@ module _ (world : World) where
   wound_knows end [] s are knows = finished_knows end s knows
   wound_knows end (m ∷ ms) s are knows = record { servers = knows.servers; stage = are }
 
-  turned_knows : (t : Turn Flow) (s : ClientState) → IsKnownTurn s.who.servers t → Knows world s → Knows world (turned t s)
+  turned_knows : (t : Turn Stage) (s : ClientState) → IsKnownTurn s.who.servers t → Knows world s → Knows world (turned t s)
   turned_knows (turn.GoesOn next) s is knows = record { servers = knows.servers; stage = is }
   turned_knows (turn.WindsUp end more) s is knows = wound_knows end more s is knows
+
+  -- what is learned tells nothing of servers
+  after_group_knows : (stage : Stage) (s : ClientState) → IsKnownStage s.who.servers stage → Knows world s
+      → Knows world (turned (turn_at world.digest (learned stage s) stage) (learned stage s))
+  after_group_knows compose s is knows = turned_knows (turn_at world.digest s compose) s tt knows
+  after_group_knows (round keys) s is knows =
+      let told = learned (round keys) s in
+      turned_knows (turn_at world.digest told (round keys)) told (turn_known world.digest told (round keys) tt)
+      (record { servers = knows.servers; stage = knows.stage })
+  after_group_knows (act step) s is knows =
+      turned_knows (turn_at world.digest s (act step)) s (turn_known world.digest s (act step) is) knows
+  after_group_knows (winds end m ms) s is knows =
+      turned_knows (turn_at world.digest s (winds end m ms)) s (turn_known world.digest s (winds end m ms) is) knows
 
   given_up_at : (s : ClientState) (stage : Stage) → Knows world s → Knows world (given_up_in s stage)
   given_up_at s (act step) knows = wound_knows (ending.Answers answer.NoMemory None) (clean_up s.who step) s (clean_up_known s.who step) knows
@@ -167,12 +167,12 @@ module _ (world : World) where
 
   served_knows : (ask_place : ℕ) (told : Told) (s : ClientState) → Knows world s → Knows world (served world.digest ask_place told s)
   served_knows ask_place told s knows =
-      let now : Knows world (recorded ask_place told s) = record { servers = knows.servers; stage = knows.stage } in
+      let after : ClientState = recorded ask_place (told_in s told) s in
+      let now : Knows world after = record { servers = knows.servers; stage = knows.stage } in
       by_answer world.digest (Knows world) ask_place told s
       (λ apart. knows)
       (λ here going. now)
-      (λ here over. turned_knows (turn_at world.digest (recorded ask_place told s) s.stage) (recorded ask_place told s)
-      (turn_known world.digest (recorded ask_place told s) s.stage knows.stage) now)
+      (λ here over. after_group_knows s.stage after knows.stage now)
 
   starting_knows : (client : ℕ) (line : Option ClientLine) → Knows world (starting world client line)
   starting_knows client None = record { servers = refl; stage = tt }
@@ -185,7 +185,7 @@ module _ (world : World) where
       (asked_knows (suc (length h)) ask (client_after world client h) (knows_after client h))
       (knows_after client h)
   knows_after client (event.Serve number ask_place given ∷ h) =
-      served_knows ask_place (told_reply (suc (length h)) (heard given)) (client_after world client h) (knows_after client h)
+      served_knows ask_place (told_reply (suc (length h)) given) (client_after world client h) (knows_after client h)
 
 -- ---- the messages of a group
 

@@ -10,7 +10,7 @@ ghost use Rattle.inf_server.specs.State.{root_access};
 use super::*;
 use inf_base::{
     Access, Call, CallRef, Caller, Calls, Chain, ClientLine, Clients, Entry, Errno, Id, Key,
-    LookKey, Name, NoMemory, Place, Setup, Text, Triple,
+    LookKey, Name, NoMemory, Place, Sequence, Setup, Text, Triple,
 };
 use inf_birth::IdRule;
 use inf_message::{Ask, Event, Op, Reply, Request};
@@ -100,7 +100,7 @@ fn chain(alloc: Global, stamp: Place) -> Result<Chain, NoMemory>
         access: root(),
         stamp,
     })?;
-    Ok(Chain::new(entries))
+    Chain::new(alloc, Sequence::new(entries))
 }
 
 fn create_f(alloc: Global) -> Result<Request, NoMemory>

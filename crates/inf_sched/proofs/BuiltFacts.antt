@@ -16,9 +16,10 @@ use Rattle.inf_message.specs.declared.ending.Ending.TheVariants as ending
 use Rattle.inf_message.specs.declared.turn.Turn.TheVariants as turn
 use Rattle.inf_duty.specs.ClientState.{ClientState, Stage, act, compose, ended, round, winds, wound}
 use Rattle.inf_duty.specs.Flow.{clean_up}
-use Rattle.inf_duty.specs.Group.{Course, composed_stage, keys_of, next_course}
-use Rattle.inf_duty.specs.Turn.{recorded, turn_at, turned}
-use Rattle.inf_message.specs.Heard.{heard}
+use Rattle.inf_duty.specs.Group.{composed_stage, next_stage, stage_by}
+use Rattle.inf_duty.specs.declared.course.Course.{Course}
+use Rattle.inf_duty.specs.Course.{next_course}
+use Rattle.inf_duty.specs.Turn.{learned, recorded, told_in, turn_at, turned}
 use Rattle.inf_message.specs.Who.{Who}
 use Rattle.inf_message.specs.declared.ending.Ending.{Ending}
 use Rattle.inf_message.specs.declared.turn.Turn.{Turn}
@@ -32,7 +33,8 @@ use Rattle.inf_duty.proofs.BegunKept.{IsKept, if_both, kept_all_given_up, kept_b
 use Rattle.inf_laws_history.proofs.ClientSteps.{Lasts, by_answer, lasts_kept}
 use Rattle.inf_sched.specs.Laws.{gave_up}
 use Rattle.inf_sched.proofs.OrderLaws.{IsLeft}
-use Rattle.inf_duty.specs.declared.flow.Flow.{Flow}
+use Rattle.inf_resolve.specs.declared.known.Known.{Known}
+use Rattle.inf_resolve.specs.Resolved.{resolved}
 
 -- ---- what is asked for is built
 
@@ -49,12 +51,14 @@ any_built left (round keys) some = some
 any_built left (act flow) some = some
 any_built left (winds end m ms) some = some
 
-keys_built : (digest : List ℕ → Id) (left : List Call) (who : Who) (course : Option Course) → next_course left ≡ course → IsBuilt left (keys_of digest who course)
-keys_built digest left who None is = tt
-keys_built digest left who (Some course) is = ap is_some is
+next_built : (digest : List ℕ → Id) (left : List Call) (who : Who) (known : List Known) (course : Option Course)
+    → next_course left ≡ course → IsBuilt left (next_stage digest who known course)
+next_built digest left who known None is = tt
+next_built digest left who known (Some course) is =
+    any_built left (stage_by course.deed (resolved digest who.root course.looked known)) (ap is_some is)
 
 composed_built : (digest : List ℕ → Id) (s : ClientState) (stage : Stage) → IsBuilt s.left stage → IsBuilt s.left (composed_stage digest s stage)
-composed_built digest s compose built = keys_built digest s.left s.who (next_course s.left) refl
+composed_built digest s compose built = next_built digest s.left s.who s.known (next_course s.left) refl
 composed_built digest s (round keys) built = built
 composed_built digest s (act flow) built = built
 composed_built digest s (winds end m ms) built = built
@@ -64,15 +68,18 @@ wound_built (ending.Answers given place) [] s some = tt
 wound_built ending.Retries [] s some = tt
 wound_built end (m ∷ ms) s some = some
 
-turned_built : (t : Turn Flow) (s : ClientState) → is_some (next_course s.left) ≡ true → IsBuiltFor (turned t s)
-turned_built (turn.GoesOn next) s some = any_built s.left (act next) some
+turned_built : (t : Turn Stage) (s : ClientState) → is_some (next_course s.left) ≡ true → IsBuiltFor (turned t s)
+turned_built (turn.GoesOn next) s some = any_built s.left next some
 turned_built (turn.WindsUp end more) s some = wound_built end more s some
 
-over_built : (digest : List ℕ → Id) (s t : ClientState) (stage : Stage) → IsBuilt t.left stage → IsBuiltFor (turned (turn_at digest s stage) t)
-over_built digest s t compose built = tt
-over_built digest s t (round keys) built = turned_built (turn_at digest s (round keys)) t built
-over_built digest s t (act flow) built = turned_built (turn_at digest s (act flow)) t built
-over_built digest s t (winds end m ms) built = turned_built (turn_at digest s (winds end m ms)) t built
+over_built : (digest : List ℕ → Id) (s : ClientState) (stage : Stage) → IsBuilt s.left stage
+    → IsBuiltFor (turned (turn_at digest (learned stage s) stage) (learned stage s))
+over_built digest s compose built = tt
+over_built digest s (round keys) built =
+    let knows = learned (round keys) s in
+    turned_built (turn_at digest knows (round keys)) knows built
+over_built digest s (act flow) built = turned_built (turn_at digest s (act flow)) s built
+over_built digest s (winds end m ms) built = turned_built (turn_at digest s (winds end m ms)) s built
 
 given_up_built : (s : ClientState) (stage : Stage) → IsBuilt s.left stage → IsBuiltFor s → IsBuiltFor (given_up_in s stage)
 given_up_built s (act flow) built now = wound_built (ending.Answers answer.NoMemory None) (clean_up s.who flow) s built
@@ -99,11 +106,11 @@ built world client (event.Ask number ask ∷ h) =
     (built world client h)
 built world client (event.Serve number ask_place given ∷ h) =
     let s : ClientState = client_after world client h in
-    let told : Told = told_reply (suc (length h)) (heard given) in
+    let told : Told = told_reply (suc (length h)) given in
     by_answer world.digest IsBuiltFor ask_place told s
     (λ apart. built world client h)
     (λ here going. built world client h)
-    (λ here over. over_built world.digest (recorded ask_place told s) (recorded ask_place told s) s.stage (built world client h))
+    (λ here over. over_built world.digest (recorded ask_place (told_in s told) s) s.stage (built world client h))
 
 -- ---- lists of results
 
@@ -170,6 +177,7 @@ gave_up_lasts digest = record {
   ending = λ given place s gave. gave_up_before s.results _ gave;
   again = λ s gave. gave;
   going_on = λ next s gave. gave;
+  learning = λ known s gave. gave;
 }
 
 all_gave_up : (digest : List ℕ → Id) (calls : List Call) (s : ClientState) → HasGivenUp s.results → HasGivenUp (all_given_up calls s).results

@@ -9,7 +9,6 @@ use Rattle.inf_base.specs.declared.answer.Answer.TheVariants as answer
 use Rattle.inf_base.specs.declared.call.Call.{Call}
 use Rattle.inf_base.specs.declared.caller.CallRef.{CallRef}
 use Rattle.inf_base.specs.declared.key.LookKey.{LookKey}
-use Rattle.inf_base.specs.declared.key.LookKey.TheVariants as look
 use Rattle.inf_base.specs.declared.setup.ClientLine.{ClientLine}
 use Rattle.inf_duty.specs.After.{client_after}
 use Rattle.inf_duty.specs.Duty.{asked, asks, at_call, begun, found_at, given_up, given_up_in, lifts, may_give_up, next_step}
@@ -24,10 +23,12 @@ use Rattle.inf_duty.specs.declared.flow.Flow.TheVariants as flow
 use Rattle.inf_message.specs.declared.turn.Turn.TheVariants as turn
 use Rattle.inf_duty.specs.ClientState.{ClientState, Stage, act, compose, ended, result_of, round, winds, wound}
 use Rattle.inf_duty.specs.Flow.{clean_up, message_of}
-use Rattle.inf_duty.specs.Group.{Course, composed, composed_stage, group, keys_of, next_course}
-use Rattle.inf_duty.specs.Turn.{recorded, served, turn_at, turned}
+use Rattle.inf_duty.specs.Group.{composed, composed_stage, group, next_stage, stage_by}
+use Rattle.inf_duty.specs.declared.course.Course.{Course}
+use Rattle.inf_duty.specs.declared.course.Deed.{Deed}
+use Rattle.inf_duty.specs.Course.{flow_at, next_course}
+use Rattle.inf_duty.specs.Turn.{is_lone, learned, recorded, served, told_in, turn_at, turned}
 use Rattle.inf_duty.specs.declared.flow.Flow.{Flow}
-use Rattle.inf_message.specs.Heard.{heard}
 use Rattle.inf_message.specs.Sent.{Sent, is_wanting, told_at, wants_memory}
 use Rattle.inf_message.specs.Who.{Who, lookup_of}
 use Rattle.inf_message.specs.declared.ending.Ending.{Ending}
@@ -39,10 +40,15 @@ use Rattle.inf_message.specs.declared.reply.Reply.{Reply}
 use Rattle.inf_message.specs.declared.reply.Reply.TheVariants as reply
 use Rattle.inf_message.specs.declared.request.Request.{Request}
 use Rattle.inf_message.specs.declared.step.Message.{Message}
+use Rattle.inf_message.specs.Heard.{heard}
 use Rattle.inf_message.specs.History.{Told, or_told, told_reply}
+use Rattle.inf_resolve.specs.declared.known.Known.{Known}
+use Rattle.inf_resolve.specs.declared.resolved.Resolved.{Resolved}
+use Rattle.inf_resolve.specs.declared.resolved.Resolved.TheVariants as comes
+use Rattle.inf_resolve.specs.Resolved.{resolved}
 use Rattle.inf_duty.proofs.BegunFacts.{winding_goes}
 use Rattle.inf_duty.proofs.BegunKept.{if_both}
-use Rattle.inf_laws_history.proofs.ClientSteps.{Lasts, begun_lasts, by_answer, turned_lasts}
+use Rattle.inf_laws_history.proofs.ClientSteps.{Lasts, after_group_lasts, begun_lasts, by_answer}
 use Rattle.inf_laws_history.proofs.PendingFacts.{goes}
 use Rattle.inf_sched.specs.Laws.{is_no_mem, is_no_memory, wanted}
 use Rattle.inf_sched.specs.Scene.{planned_from}
@@ -118,16 +124,20 @@ before_wound (ending.Answers given place) [] s none = record { results = none_be
 before_wound ending.Retries [] s none = record { results = none.results; has = tt }
 before_wound end (m ∷ ms) s none = record { results = none.results; has = none.stage }
 
-before_turn : (t : Turn Flow) (s : ClientState) → ShowsNoWant (turned t s) → HasNotGivenUp s.results
+before_turn : (t : Turn Stage) (s : ClientState) → ShowsNoWant (turned t s) → HasNotGivenUp s.results
 before_turn (turn.GoesOn next) s none = none.results
 before_turn (turn.WindsUp end more) s none = (before_wound end more s none).results
 
-before_over : (digest : List ℕ → Id) (s t : ClientState) (stage : Stage) → ShowsNoWant (turned (turn_at digest s stage) t) → HasNotGivenUp t.results × StageHas IsNoWant stage
-before_over digest s t compose none = (before_turn (turn_at digest s compose) t none, tt)
-before_over digest s t (round keys) none = (before_turn (turn_at digest s (round keys)) t none, tt)
-before_over digest s t (act step) none = (before_turn (turn_at digest s (act step)) t none, tt)
-before_over digest s t (winds end m ms) none =
-    let before = before_wound end ms t none in
+before_over : (digest : List ℕ → Id) (s : ClientState) (stage : Stage)
+    → ShowsNoWant (turned (turn_at digest (learned stage s) stage) (learned stage s))
+    → HasNotGivenUp s.results × StageHas IsNoWant stage
+before_over digest s compose none = (before_turn (turn_at digest s compose) s none, tt)
+before_over digest s (round keys) none =
+    let knows = learned (round keys) s in
+    (before_turn (turn_at digest knows (round keys)) knows none, tt)
+before_over digest s (act step) none = (before_turn (turn_at digest s (act step)) s none, tt)
+before_over digest s (winds end m ms) none =
+    let before = before_wound end ms s none in
     (before.results, before.has)
 
 pub before_served : (digest : List ℕ → Id) (place : ℕ) (told : Told) (s : ClientState) → ShowsNoWant (served digest place told s) → ShowsNoWant s
@@ -136,7 +146,7 @@ before_served digest place told s =
     (λ apart none. none)
     (λ here going none. record { results = none.results; stage = none.stage })
     (λ here over none.
-    let before = before_over digest (recorded place told s) (recorded place told s) s.stage none in
+    let before = before_over digest (recorded place (told_in s told) s) s.stage none in
     record { results = before.0; stage = before.1 })
 
 before_giving_up : (s : ClientState) (stage : Stage) → ShowsNoWant (given_up_in s stage) → given_up_in s stage ≡ s
@@ -238,11 +248,21 @@ no_lookup_lifts who (k ∷ keys) zero m found =
     ap (λ (n : Message). lifts n.request) (sym same)
 no_lookup_lifts who (k ∷ keys) (suc index) m found = no_lookup_lifts who keys index m found
 
-no_key_lifts : (digest : List ℕ → Id) (who : Who) (course : Option Course) (m : Message) → slice_get (group who (keys_of digest who course)) 0 ≡ Some m → lifts m.request ≡ false
-no_key_lifts digest who None m found = absurd (cc)
-no_key_lifts digest who (Some course) m found =
-    let same : lookup_of who look.Top ≡ m = cc in
-    ap (λ (n : Message). lifts n.request) (sym same)
+no_first_lifts : (who : Who) (what : Deed) (comes_so : Resolved) (m : Message)
+    → slice_get (group who (stage_by what comes_so)) 0 ≡ Some m → lifts m.request ≡ false
+no_first_lifts who what (comes.Asks keys) m found = no_lookup_lifts who keys 0 m found
+no_first_lifts who what (comes.Leads old new) m found =
+    let step = flow_at what old.chain old.left in
+    let same : message_of who step ≡ m = cc in
+    subst (λ (n : Message). lifts n.request ≡ false) same (no_lift who step)
+no_first_lifts who what (comes.IsBusy by place) m found = absurd (cc)
+no_first_lifts who what comes.Lacks m found = absurd (cc)
+
+no_next_lifts : (digest : List ℕ → Id) (who : Who) (known : List Known) (course : Option Course) (m : Message)
+    → slice_get (group who (next_stage digest who known course)) 0 ≡ Some m → lifts m.request ≡ false
+no_next_lifts digest who known None m found = absurd (cc)
+no_next_lifts digest who known (Some course) m found =
+    no_first_lifts who course.deed (resolved digest who.root course.looked known) m found
 
 found_composed : (digest : List ℕ → Id) (asked : Request) (s : ClientState) → lifts asked ≡ false → found_at digest asked s ≡ composed digest s
 found_composed digest asked s no_lift = ap (λ b. if b then (if may_give_up s then given_up s else s) else composed digest s) no_lift
@@ -250,7 +270,7 @@ found_composed digest asked s no_lift = ap (λ b. if b then (if may_give_up s th
 -- an ask that lifts something is of a client that winds up
 finds_composed : (digest : List ℕ → Id) (s : ClientState) (stage : Stage) (m : Message) → s.stage ≡ stage → slice_get (group s.who (composed_stage digest s stage)) 0 ≡ Some m
     → found_at digest m.request s ≡ composed digest s
-finds_composed digest s compose m is found = found_composed digest m.request s (no_key_lifts digest s.who (next_course s.left) m found)
+finds_composed digest s compose m is found = found_composed digest m.request s (no_next_lifts digest s.who s.known (next_course s.left) m found)
 finds_composed digest s (round keys) m is found = found_composed digest m.request s (no_lookup_lifts s.who keys 0 m found)
 finds_composed digest s (act step) m is found =
     let same : message_of s.who step ≡ m = cc in
@@ -299,24 +319,49 @@ after_wound (ending.Answers given place) [] s none before = record {
 after_wound ending.Retries [] s none before = record { results = before; stage = tt }
 after_wound end (m ∷ ms) s none before = record { results = before; stage = none }
 
-after_turn : (t : Turn Flow) (s : ClientState) → TurnHas IsNoWant t → HasNotGivenUp s.results → ShowsNoWant (turned t s)
+after_turn : (t : Turn Stage) (s : ClientState) → TurnHas IsNoWant t → HasNotGivenUp s.results → ShowsNoWant (turned t s)
 after_turn (turn.GoesOn next) s none before = record { results = before; stage = none }
 after_turn (turn.WindsUp end more) s none before = after_wound end more s none before
 
-pub after_served : (digest : List ℕ → Id) (place : ℕ) (told : Told) (s : ClientState) → is_wanting (map (told_at place told) s.sent) ≡ false → ShowsNoWant s → ShowsNoWant (served digest place told s)
+after_over : (digest : List ℕ → Id) (s : ClientState) (stage : Stage) → is_wanting s.sent ≡ false → StageHas IsNoWant stage
+    → HasNotGivenUp s.results → ShowsNoWant (turned (turn_at digest (learned stage s) stage) (learned stage s))
+after_over digest s compose plain none before = after_turn (turn_at digest s compose) s tt before
+after_over digest s (round keys) plain none before =
+    let knows = learned (round keys) s in
+    after_turn (turn_at digest knows (round keys)) knows
+    (turn_has digest IsNoWant no_want knows (round keys) none (λ want. absurd (cc))) before
+after_over digest s (act step) plain none before =
+    after_turn (turn_at digest s (act step)) s
+    (turn_has digest IsNoWant no_want s (act step) none (λ want. absurd (cc))) before
+after_over digest s (winds end m ms) plain none before = after_turn (turn_at digest s (winds end m ms)) s none before
+
+pub after_served : (digest : List ℕ → Id) (place : ℕ) (told : Told) (s : ClientState)
+    → is_wanting (map (told_at place (told_in s told)) s.sent) ≡ false → ShowsNoWant s
+    → ShowsNoWant (served digest place told s)
 after_served digest place told s plain none =
     by_answer digest ShowsNoWant place told s
     (λ apart. none)
     (λ here going. record { results = none.results; stage = none.stage })
-    (λ here over.
-    after_turn (turn_at digest (recorded place told s) s.stage) (recorded place told s)
-    (turn_has digest IsNoWant no_want (recorded place told s) s.stage none.stage (λ want. absurd (cc))) none.results)
+    (λ here over. after_over digest (recorded place (told_in s told) s) s.stage plain none.stage none.results)
 
 -- ---- what clients were told
 
-pub plain_told : (place : ℕ) (given : Reply) → is_no_mem given ≡ false → wants_memory (Some (told_reply place (heard given))) ≡ false
+pub plain_told : (place : ℕ) (given : Reply) → is_no_mem given ≡ false → wants_memory (Some (told_reply place given)) ≡ false
 plain_told place reply.NoMem plain = absurd (cc)
 plain_told place any_reply plain = refl
+
+heard_plain : (place : ℕ) (given : Reply) → wants_memory (Some (told_reply place given)) ≡ false
+    → wants_memory (Some (told_reply place (heard given))) ≡ false
+heard_plain place (reply.Listing items) plain = refl
+heard_plain place reply.NoMem plain = absurd (cc)
+heard_plain place any_reply plain = refl
+
+-- nor does what is kept of it say so
+pub plain_in : (s : ClientState) (told : Told) → wants_memory (Some told) ≡ false
+    → wants_memory (Some (told_in s told)) ≡ false
+plain_in s told plain =
+    if_both (λ (x : Told). wants_memory (Some x) ≡ false) (is_lone s) told (record told { reply = heard told.reply }) plain
+    (heard_plain told.serve_place told.reply plain)
 
 first_told : (earlier : Option Told) (told : Told) → wants_memory earlier ≡ false → wants_memory (Some told) ≡ false → wants_memory (Some (or_told earlier told)) ≡ false
 first_told None told before now = now
@@ -336,6 +381,7 @@ wants_last digest = record {
   ending = λ given place s plain. refl;
   again = λ s plain. refl;
   going_on = λ next s plain. refl;
+  learning = λ known s plain. plain;
 }
 
 starting_plain : (world : World) (client : ℕ) (line : Option ClientLine) → is_wanting (starting world client line).sent ≡ false
@@ -354,11 +400,14 @@ plain_after world client (event.Ask number ask ∷ h) plain =
     before
 plain_after world client (event.Serve number ask_place given ∷ h) plain =
     let s : ClientState = client_after world client h in
-    let told : Told = told_reply (suc (length h)) (heard given) in
-    let now : is_wanting (map (told_at ask_place told) s.sent) ≡ false =
-    plain_recorded ask_place told s.sent (plain_told (suc (length h)) given (false_before _ _ plain))
+    let told : Told = told_reply (suc (length h)) given in
+    let now : is_wanting (map (told_at ask_place (told_in s told)) s.sent) ≡ false =
+    plain_recorded ask_place (told_in s told) s.sent
+    (plain_in s told (plain_told (suc (length h)) given (false_before _ _ plain)))
     (plain_after world client h (false_behind (is_no_mem given) _ plain)) in
     by_answer world.digest (λ t. is_wanting t.sent ≡ false) ask_place told s
     (λ apart. plain_after world client h (false_behind (is_no_mem given) _ plain))
     (λ here going. now)
-    (λ here over. turned_lasts world.digest (λ t. is_wanting t.sent ≡ false) (wants_last world.digest) (turn_at world.digest (recorded ask_place told s) s.stage) (recorded ask_place told s) now)
+    (λ here over.
+    after_group_lasts world.digest (λ t. is_wanting t.sent ≡ false) (wants_last world.digest)
+    (recorded ask_place (told_in s told) s) now)

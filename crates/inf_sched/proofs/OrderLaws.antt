@@ -4,7 +4,6 @@ use Rattle.inf_base.specs.declared.id.Id.{Id}
 use Rattle.std.proofs.lemmas.Bool.Decides.{Decides-eqb}
 use Rattle.inf_base.specs.declared.setup.ClientLine.{ClientLine}
 use Rattle.inf_duty.specs.ClientState.{ClientState}
-use Rattle.inf_message.specs.Heard.{heard}
 use Rattle.inf_message.specs.Sent.{has_place}
 use Rattle.inf_laws_history.specs.Legal.{Legal}
 use Rattle.inf_duty.specs.After.{client_after}
@@ -76,7 +75,7 @@ giving_up_left world client old new gives left = subst (GoneAreLeft world) (sym 
 serving_left : (world : World) (number place : ℕ) (old new : Scene) → MakesServe world number place old new → GoneAreLeft world old → GoneAreLeft world new
 serving_left world number place old new serves left = subst (GoneAreLeft world) (sym serves.joins) (λ each gone.
     subst (IsLeft world.digest)
-    (sym (served_apart world.digest place (told_reply (suc (length old.history)) (heard serves.given)) (client_in world old each)
+    (sym (served_apart world.digest place (told_reply (suc (length old.history)) serves.given) (client_in world old each)
     (ap (has_place place) (left each gone).between)))
     (left each gone))
 

@@ -5,11 +5,11 @@ use Rattle.std.specs.List.{list_any}
 use Rattle.std.proofs.lemmas.Bool.Decides.{Decides-eqb}
 use Rattle.inf_base.specs.declared.caller.CallRef.{CallRef}
 use Rattle.inf_duty.specs.ClientState.{ClientState}
-use Rattle.inf_message.specs.Heard.{heard}
 use Rattle.inf_message.specs.Sent.{Sent}
 use Rattle.inf_message.specs.Who.{Who}
 use Rattle.inf_duty.specs.Duty.{Duty, Next, asked, asks, begun, is_over, next_step, waits}
 use Rattle.inf_duty.specs.After.{client_after}
+use Rattle.inf_duty.specs.Turn.{told_in}
 use Rattle.inf_duty.specs.World.{World}
 use Rattle.inf_laws_history.specs.Legal.{server_after}
 use Rattle.inf_laws_history.specs.Sites.{site_of}
@@ -20,14 +20,14 @@ use Rattle.inf_message.specs.declared.event.Event.{Event}
 use Rattle.inf_message.specs.declared.event.Event.TheVariants as event
 use Rattle.inf_message.specs.declared.reply.Reply.{Reply}
 use Rattle.inf_message.specs.declared.reply.Reply.TheVariants as reply
-use Rattle.inf_message.specs.History.{Posted, posted_ask, told_reply}
+use Rattle.inf_message.specs.History.{Posted, Told, posted_ask, told_reply}
 use Rattle.inf_sched.specs.Laws.{is_no_mem, wanted}
 use Rattle.inf_sched.specs.Scene.{Scene, MakesAsk, MakesServe, can_ask, client_in, is_ask, planned, planned_from}
 use Rattle.inf_sched.specs.Straight.{reply_to, with_ask, with_event, with_next_ask, with_serve}
 use Rattle.inf_sched.specs.Waiting.{IsWaiting, Posting, oldest}
 use Rattle.inf_sched.proofs.RunQueues.{waiting_found}
 use Rattle.inf_sched.proofs.BuiltFacts.{neither}
-use Rattle.inf_sched.proofs.CalmFacts.{ShowsNoWant, after_planned, after_served, begun_planned, plain_after, plain_recorded, plain_told}
+use Rattle.inf_sched.proofs.CalmFacts.{ShowsNoWant, after_planned, after_served, begun_planned, plain_after, plain_in, plain_recorded, plain_told}
 use Rattle.inf_laws_server.proofs.Serves.{machine_serves, machine_wants_none}
 use Rattle.inf_sched.proofs.StraightSteps.{IsCalm, asking_of, asks_within}
 use Rattle.inf_server.specs.Machine.{machine}
@@ -104,8 +104,10 @@ ask_comes world client old can calm = by (next_step (planned world.digest (clien
 served_calm : (world : World) (client place : ℕ) (given : Reply) (h : List Event) → is_no_mem given ≡ false → list_any wanted h ≡ false → ShowsNoWant (client_after world client h) → ShowsNoWant (client_after world client (event.Serve client place given ∷ h))
 served_calm world client place given h plain earlier none =
     let s : ClientState = client_after world client h in
-    after_served world.digest place (told_reply (suc (length h)) (heard given)) s
-    (plain_recorded place (told_reply (suc (length h)) (heard given)) s.sent (plain_told (suc (length h)) given plain) (plain_after world client h earlier))
+    let told : Told = told_reply (suc (length h)) given in
+    after_served world.digest place told s
+    (plain_recorded place (told_in s told) s.sent (plain_in s told (plain_told (suc (length h)) given plain))
+    (plain_after world client h earlier))
     none
 
 pub serve_comes : (world : World) (fits : Posting → Bool) (old : Scene) (p : Posting) → oldest fits old.history ≡ Some p → IsCalm world old → Comes world (MakesServe world p.number p.place old) (with_serve world p old)

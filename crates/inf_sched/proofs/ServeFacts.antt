@@ -3,7 +3,6 @@ use Rattle.std.proofs.Common.{◌≡◌, ℕ, suc, Bool, true, false, List, [], 
 use Rattle.inf_base.specs.declared.call.Call.{Call}
 use Rattle.inf_duty.specs.ClientState.{ClientState}
 use Rattle.inf_duty.specs.Turn.{served}
-use Rattle.inf_message.specs.Heard.{heard}
 use Rattle.inf_message.specs.Sent.{has_place}
 use Rattle.inf_duty.specs.Outcome.{all_given_up}
 use Rattle.inf_base.specs.declared.id.Id.{Id}
@@ -29,6 +28,7 @@ between_lasts digest = record {
   ending = λ given place s between. refl;
   again = λ s between. refl;
   going_on = λ next s between. refl;
+  learning = λ known s between. between;
 }
 
 all_between : (digest : List ℕ → Id) (left : List Call) (s : ClientState) → s.sent ≡ [] → (all_given_up left s).sent ≡ []
@@ -50,27 +50,27 @@ to_server world h p number given waits may =
 -- a client that gave up what it had left is told of nothing that it waits for
 served_state : (world : World) (h : List Event) (client number place : ℕ) (given : Reply) (g : Bool) (state : ClientState)
     → IsStateOf g (client_after world client h) state
-    → IsStateOf g (client_after world client (event.Serve number place given ∷ h)) (served world.digest place (told_reply (suc (length h)) (heard given)) state)
-served_state world h client number place given false state is = ap (served world.digest place (told_reply (suc (length h)) (heard given))) is
+    → IsStateOf g (client_after world client (event.Serve number place given ∷ h)) (served world.digest place (told_reply (suc (length h)) given) state)
+served_state world h client number place given false state is = ap (served world.digest place (told_reply (suc (length h)) given)) is
 served_state world h client number place given true state is =
     let s : ClientState = client_after world client h in
     let stays : client_after world client (event.Serve number place given ∷ h) ≡ s = idle_stays world h client number place given is.between in
     let state_between : state.sent ≡ [] = ap (λ (t : ClientState). t.sent) is.all ∙ all_between world.digest s.left s is.between in
-    subst (λ t. IsGivenUp t (served world.digest place (told_reply (suc (length h)) (heard given)) state)) (sym stays)
+    subst (λ t. IsGivenUp t (served world.digest place (told_reply (suc (length h)) given) state)) (sym stays)
     (record { between = is.between; all = untold state state_between ∙ is.all })
   where
-    untold : (t : ClientState) → t.sent ≡ [] → served world.digest place (told_reply (suc (length h)) (heard given)) t ≡ t
-    untold t between = served_apart world.digest place (told_reply (suc (length h)) (heard given)) t (ap (has_place place) between)
+    untold : (t : ClientState) → t.sent ≡ [] → served world.digest place (told_reply (suc (length h)) given) t ≡ t
+    untold t between = served_apart world.digest place (told_reply (suc (length h)) given) t (ap (has_place place) between)
 
 pub has_served : (world : World) (p : Posting) (h after : List Event) (place : ℕ) (given : Reply) (a b : Client) → IsWaiting h p
     → IsClient (client_after world p.client h) a → place ≡ suc (length h) → IsServedNext world h after p.place given → Legal world after
-    → b ≡ client_with (served world.digest p.place (told_reply place (heard given)) a.state) a.gone (told_log p.place (told_reply place given) a.log) a.handed
+    → b ≡ client_with (served world.digest p.place (told_reply place given) a.state) a.gone (told_log p.place (told_reply place given) a.log) a.handed
     → HasServed world p h after a b
 has_served world p h after place given a b waits is newest next legal telling =
     let number : next.number ≡ p.number = to_server world h p next.number given waits next.may in
     let joins : after ≡ event.Serve p.number p.place given ∷ h = next.joins ∙ ap (λ n. event.Serve n p.place given ∷ h) number in
-    let told : b ≡ client_with (served world.digest p.place (told_reply (suc (length h)) (heard given)) a.state) a.gone (told_log p.place (told_reply (suc (length h)) given) a.log) a.handed =
-    telling ∙ ap (λ n. client_with (served world.digest p.place (told_reply n (heard given)) a.state) a.gone (told_log p.place (told_reply n given) a.log) a.handed) newest in
+    let told : b ≡ client_with (served world.digest p.place (told_reply (suc (length h)) given) a.state) a.gone (told_log p.place (told_reply (suc (length h)) given) a.log) a.handed =
+    telling ∙ ap (λ n. client_with (served world.digest p.place (told_reply n given) a.state) a.gone (told_log p.place (told_reply n given) a.log) a.handed) newest in
     record {
       given = given;
       may = subst (λ n. MayServe world h n p.place given) number next.may;
@@ -79,7 +79,7 @@ has_served world p h after place given a b waits is newest next legal telling =
       same_handed = ap (λ (x : Client). x.handed) told;
       asks = ap (λ (x : Client). x.log.asks) told;
       is_client = subst (λ x. IsClient (client_after world p.client after) x) (sym told)
-          (subst (λ g. IsStateOf a.gone (client_after world p.client g) (served world.digest p.place (told_reply (suc (length h)) (heard given)) a.state)) (sym joins)
+          (subst (λ g. IsStateOf a.gone (client_after world p.client g) (served world.digest p.place (told_reply (suc (length h)) given) a.state)) (sym joins)
           (served_state world h p.client p.number p.place given a.gone a.state is));
       legal = legal;
     }

@@ -7,7 +7,6 @@ use Rattle.std.proofs.lemmas.List.{length-set}
 use Rattle.std.proofs.lemmas.Option.{slice_get_within}
 use Rattle.inf_base.specs.declared.setup.ClientLine.{ClientLine}
 use Rattle.inf_duty.specs.ClientState.{ClientState, rest_of}
-use Rattle.inf_message.specs.Heard.{heard}
 use Rattle.inf_message.specs.Sent.{Sent}
 use Rattle.inf_duty.specs.Duty.{Duty, Next, asked, asks, next_in, next_step}
 use Rattle.inf_duty.specs.After.{client_after}
@@ -96,6 +95,7 @@ none_last digest = record {
   ending = λ given place s none. ap rest_of none;
   again = λ s none. none;
   going_on = λ next s none. none;
+  learning = λ known s none. none;
 }
 
 starting_none : (world : World) (client : ℕ) (line : Option ClientLine) → line ≡ None → (starting world client line).left ≡ []
@@ -110,7 +110,7 @@ none_left world client (event.Ask number ask ∷ h) is =
     if_both (λ (t : ClientState). t.left ≡ []) (eqb ask.from.client client) (asked world.digest (suc (length h)) ask s) s
     (begun_lasts world.digest (λ t. t.left ≡ []) (none_last world.digest) ask s.sent s (none_left world client h is)) (none_left world client h is)
 none_left world client (event.Serve number ask_place given ∷ h) is =
-    served_lasts world.digest (λ t. t.left ≡ []) (none_last world.digest) (λ place told t none. none) ask_place (told_reply (suc (length h)) (heard given)) (client_after world client h)
+    served_lasts world.digest (λ t. t.left ≡ []) (none_last world.digest) (λ place told t none. none) ask_place (told_reply (suc (length h)) given) (client_after world client h)
     (none_left world client h is)
 
 planned_left : (digest : List ℕ → Id) (sent : List Sent) (s : ClientState) → (planned_from digest sent s).left ≡ s.left
@@ -170,7 +170,7 @@ serve_leads world p old new makes calm =
         sized = now.sized;
         here = now.here;
         replies = false_behind (is_no_mem given) _ now.replies;
-        answers = λ each within. before_served world.digest p.place (told_reply (suc (length h)) (heard given)) (client_in world old each) (now.answers each within);
+        answers = λ each within. before_served world.digest p.place (told_reply (suc (length h)) given) (client_in world old each) (now.answers each within);
       };
       same = makes.joins ∙ ap (λ r. with_event (event.Serve p.number p.place r) old) is;
     }

@@ -4,7 +4,6 @@ use Rattle.inf_client.specs.Group.{IsKept}
 use Rattle.inf_client.proofs.ToldFacts.{kept_told}
 use Rattle.inf_duty.specs.ClientState.{ClientState}
 use Rattle.inf_duty.specs.Turn.{served}
-use Rattle.inf_message.specs.Heard.{heard}
 use Rattle.inf_message.specs.History.{told_reply}
 use Rattle.inf_client.proofs.client.Client.told.Goals as goal
 
@@ -12,7 +11,7 @@ pub invariant_of-self : goal.invariant_of-self
 invariant_of-self g c =
     let i = c.self.inside in
     let s = i.state in
-    let told = told_reply c.args.serve_place (heard c.args.reply) in
+    let told = told_reply c.args.serve_place c.args.reply in
     subst (λ (t : ClientState). IsKept t i.has_given_up c.answer.new.log i.is_handed i.outbox.items) (sym c.told.ensures)
     (subst (λ (l : AskLog). IsKept (served (g.R.IdRule.digest_of c.args.rule.now) c.args.ask_place told s) i.has_given_up l i.is_handed i.outbox.items) (sym c.answer.ensures)
-    (kept_told (g.R.IdRule.digest_of c.args.rule.now) s i.has_given_up i.log i.is_handed i.outbox.items c.args.ask_place told (told_reply c.args.serve_place c.args.reply) c.self.invariant))
+    (kept_told (g.R.IdRule.digest_of c.args.rule.now) s i.has_given_up i.log i.is_handed i.outbox.items c.args.ask_place told c.self.invariant))
