@@ -6,7 +6,8 @@ use crate::report::write_report;
 use crate::requests::push_request;
 use inf_base::{
     Access, Answer, Call, CallRef, Caller, Calls, Chain, ClientLine, Clients, DirRef, Entry, Errno,
-    FileMeta, Home, Id, Item, Items, Key, Kind, LookKey, Name, Place, Setup, Text, Triple,
+    FileMeta, Home, Id, Item, Items, Key, Kind, LookKey, Name, Place, Sequence, Setup, Text,
+    Triple,
 };
 use inf_io::MemSink;
 use inf_message::{Aim, Ask, CallResult, Event, Op, Reply, Request, Spot, What};
@@ -228,7 +229,7 @@ fn chain(alloc: Global, first: Place, second: Place) -> Result<Chain, Fail> {
             stamp,
         })?;
     }
-    Ok(Chain::new(entries))
+    Ok(Chain::new(alloc, Sequence::new(entries))?)
 }
 
 fn items(alloc: Global) -> Result<Items, Fail> {
@@ -267,7 +268,7 @@ fn chained(alloc: Global, kind: usize) -> Result<Request, Fail> {
         },
         4 => Request::Admit {
             dir: dir(3),
-            old: Chain::new(Vec::new(alloc)),
+            old: Chain::new(alloc, Sequence::new(Vec::new(alloc)))?,
             new: chain(alloc, 6, 18)?,
         },
         _ => Request::Seal {
@@ -355,17 +356,13 @@ const REPLIES: [&[u8]; 7] = [
     b"refused ENOENT",
 ];
 
-fn chained_text(alloc: Global, kind: usize) -> Result<Vec<u8>, Fail> {
-    let request = chained(alloc, kind)?;
-    let mut out = Vec::new(alloc);
-    push_request(&mut out, &request)?;
-    Ok(out)
+fn request_text(alloc: Global, request: Request) -> Result<Vec<u8>, Fail> {
+    text_of_request(alloc, &request)
 }
 
-fn bare_text(alloc: Global, kind: usize) -> Result<Vec<u8>, Fail> {
-    let request = bare(alloc, kind)?;
+fn text_of_request(alloc: Global, request: &Request) -> Result<Vec<u8>, Fail> {
     let mut out = Vec::new(alloc);
-    push_request(&mut out, &request)?;
+    push_request(&mut out, request)?;
     Ok(out)
 }
 
@@ -384,9 +381,9 @@ fn reply_text(alloc: Global, kind: usize) -> Result<Vec<u8>, Fail> {
 #[test]
 fn requests_have_their_texts(rt: HostRuntime) -> Result<(), Fail> {
     for kind in 0..6 {
-        let text = chained_text(rt.alloc(), kind)?;
+        let text = request_text(rt.alloc(), chained(rt.alloc(), kind)?)?;
         assert_eq!(rt; text.as_slice(), CHAINED[kind]);
-        let text = bare_text(rt.alloc(), kind)?;
+        let text = request_text(rt.alloc(), bare(rt.alloc(), kind)?)?;
         assert_eq!(rt; text.as_slice(), BARE[kind]);
     }
     Ok(())

@@ -6,70 +6,99 @@ use inf_order::{Move, Moves};
 use std::alloc::{AllocError, Global};
 use std::test::Fail;
 
-fn expected_files(alloc: Global) -> Result<Calls, NoMemory> {
-    let mut calls = Vec::new(alloc);
-    for (path, mode) in [("/f", 0o644), ("/d/f", 0o600), ("//a//b/", 0)] {
-        calls.push(Call::Create {
-            path: Text::from_slice(alloc, path.as_bytes())?,
-            mode,
-        })?;
-    }
-    for path in ["/..g", "/d/f", "/d//f//"] {
-        calls.push(Call::Stat {
-            path: Text::from_slice(alloc, path.as_bytes())?,
-        })?;
-    }
-    Ok(Calls::new(calls))
+/// A call in few words: its path, and its mode.
+#[derive(Clone, Copy)]
+enum Said<'a> {
+    Create(&'a str, u16),
+    Stat(&'a str),
+    Mkdir(&'a str, u16),
+    Rmdir(&'a str),
 }
 
-fn expected_directories(alloc: Global) -> Result<Calls, NoMemory> {
-    let mut calls = Vec::new(alloc);
-    for (path, mode) in [("/d", 0o755), ("//e//", 0o777)] {
-        calls.push(Call::Mkdir {
-            path: Text::from_slice(alloc, path.as_bytes())?,
+fn text(alloc: Global, path: &str) -> Result<Text, NoMemory> {
+    Text::from_slice(alloc, path.as_bytes())
+}
+
+fn call(alloc: Global, said: Said) -> Result<Call, NoMemory> {
+    Ok(match said {
+        Said::Create(path, mode) => Call::Create {
+            path: text(alloc, path)?,
             mode,
-        })?;
+        },
+        Said::Stat(path) => Call::Stat {
+            path: text(alloc, path)?,
+        },
+        Said::Mkdir(path, mode) => Call::Mkdir {
+            path: text(alloc, path)?,
+            mode,
+        },
+        Said::Rmdir(path) => Call::Rmdir {
+            path: text(alloc, path)?,
+        },
+    })
+}
+
+/// User 0's client.
+fn client(alloc: Global, name: Name, said: &[Said]) -> Result<ClientLine, NoMemory> {
+    let mut calls = Vec::new(alloc);
+    for one in said.iter() {
+        calls.push(call(alloc, *one)?)?;
     }
-    for path in ["/d", "/e/"] {
-        calls.push(Call::Rmdir {
-            path: Text::from_slice(alloc, path.as_bytes())?,
-        })?;
-    }
-    Ok(Calls::new(calls))
+    Ok(ClientLine {
+        name,
+        caller: Caller { uid: 0, gid: 0 },
+        calls: Calls::new(calls),
+    })
+}
+
+fn client_b(alloc: Global) -> Result<ClientLine, NoMemory> {
+    let name = Name::from_slice(alloc, b"b")?;
+    let calls: &[Said] = &[
+        Said::Mkdir("/d", 0o755),
+        Said::Mkdir("//e//", 0o777),
+        Said::Rmdir("/d"),
+        Said::Rmdir("/e/"),
+    ];
+    client(alloc, name, calls)
+}
+
+fn client_a1(alloc: Global) -> Result<ClientLine, NoMemory> {
+    let name = Name::from_slice(alloc, b"a1")?;
+    let calls: &[Said] = &[
+        Said::Create("/f", 0o644),
+        Said::Create("/d/f", 0o600),
+        Said::Create("//a//b/", 0),
+        Said::Stat("/..g"),
+        Said::Stat("/d/f"),
+        Said::Stat("/d//f//"),
+    ];
+    client(alloc, name, calls)
 }
 
 fn expected_clients(alloc: Global) -> Result<Clients, NoMemory> {
     let mut clients = Vec::new(alloc);
-    clients.push(ClientLine {
-        name: Name::from_slice(alloc, b"b")?,
-        caller: Caller { uid: 0, gid: 0 },
-        calls: expected_directories(alloc)?,
-    })?;
-    clients.push(ClientLine {
-        name: Name::from_slice(alloc, b"a1")?,
-        caller: Caller { uid: 0, gid: 0 },
-        calls: expected_files(alloc)?,
-    })?;
+    clients.push(client_b(alloc)?)?;
+    clients.push(client_a1(alloc)?)?;
     Ok(Clients::new(clients))
 }
 
-fn expected_order(alloc: Global) -> Result<Moves, NoMemory> {
-    Ok(Moves::new(Vec::from_slice(
-        alloc,
-        &[
-            Move::Step(1),
-            Move::Alone(0),
-            Move::Serve {
-                number: 2,
-                client: None,
-            },
-            Move::Serve {
-                number: 3,
-                client: Some(1),
-            },
-            Move::Rest,
-        ],
-    )?))
+/// Whether the text is a script with these values.
+fn reads(
+    alloc: Global,
+    text: &str,
+    servers: u32,
+    digest_bytes: u8,
+    clients: Clients,
+    moves: &[Move],
+) -> Result<bool, NoMemory> {
+    let order = Moves::new(Vec::from_slice(alloc, moves)?);
+    let setup = Setup {
+        servers,
+        digest_bytes,
+        cache: 256,
+        clients,
+    };
+    Ok(read_script(alloc, text.as_bytes(), false) == Ok(Script { setup, order }))
 }
 
 #[test]
@@ -79,19 +108,21 @@ fn a_script_is_read(rt: HostRuntime) -> Result<(), Fail> {
          call a1 create /f 644\ncall b mkdir /d 755\ncall a1 create /d/f 600\ncall a1 create //a//b/ 000\n\
          call b mkdir //e// 777\ncall a1 stat /..g\ncall a1 stat /d/f\ncall b rmdir /d\n\
          call a1 stat /d//f//\ncall b rmdir /e/\norder +a1 =b s2\norder c:a1 *\nend";
-    let expected = Script {
-        setup: Setup {
-            servers: 3,
-            digest_bytes: 20,
-            cache: 256,
-            clients: expected_clients(rt.alloc())?,
+    let moves: &[Move] = &[
+        Move::Step(1),
+        Move::Alone(0),
+        Move::Serve {
+            number: 2,
+            client: None,
         },
-        order: expected_order(rt.alloc())?,
-    };
-    assert_eq!(rt;
-        read_script(rt.alloc(), text.as_bytes(), false),
-        Ok(expected)
-    );
+        Move::Serve {
+            number: 3,
+            client: Some(1),
+        },
+        Move::Rest,
+    ];
+    let clients = expected_clients(rt.alloc())?;
+    assert!(rt; reads(rt.alloc(), text, 3, 20, clients, moves)?);
     Ok(())
 }
 
@@ -103,27 +134,42 @@ fn settings_are_read(rt: HostRuntime) -> Result<(), Fail> {
         ("infinifs 1\ndigest-bytes 32\nservers 64\nend\n", 64, 32),
         ("infinifs 1\nservers 2\n#\ndigest-bytes 8\nend\n", 2, 8),
     ] {
-        let expected = Script {
-            setup: Setup {
+        let nobody = Clients::new(Vec::new(rt.alloc()));
+        assert!(rt;
+            reads(
+                rt.alloc(),
+                text,
                 servers,
                 digest_bytes,
-                cache: 256,
-                clients: Clients::new(Vec::new(rt.alloc())),
-            },
-            order: Moves::new(Vec::from_slice(rt.alloc(), &[Move::Rest])?),
-        };
-        assert_eq!(rt;
-            read_script(rt.alloc(), text.as_bytes(), false),
-            Ok(expected),
+                nobody,
+                &[Move::Rest]
+            )?,
             "at {text:?}"
         );
     }
     Ok(())
 }
 
+fn refusal_of(alloc: Global, text: &str) -> Option<ScriptRefusal> {
+    match read_script(alloc, text.as_bytes(), false) {
+        Err(ScriptFault::Refused(refusal)) => Some(refusal),
+        _ => None,
+    }
+}
+
+/// The first of the texts that is not refused at this line for this reason.
+fn first_read<'a>(alloc: Global, rows: &[(&'a str, u64, Why)]) -> Option<&'a str> {
+    for &(text, line, why) in rows.iter() {
+        if refusal_of(alloc, text) != Some(ScriptRefusal { line, why }) {
+            return Some(text);
+        }
+    }
+    None
+}
+
 #[test]
 fn other_texts_are_refused(rt: HostRuntime) {
-    for (text, line, why) in [
+    let rows: &[(&str, u64, Why)] = &[
         ("", 1, Why::BadWord),
         ("# only\n\n", 3, Why::BadWord),
         ("infinifs 1\n", 2, Why::BadWord),
@@ -166,13 +212,8 @@ fn other_texts_are_refused(rt: HostRuntime) {
             3,
             Why::BadNumber,
         ),
-    ] {
-        assert_eq!(rt;
-            read_script(rt.alloc(), text.as_bytes(), false),
-            Err(ScriptFault::Refused(ScriptRefusal { line, why })),
-            "at {text:?}"
-        );
-    }
+    ];
+    assert_eq!(rt; first_read(rt.alloc(), rows), None);
 }
 
 fn repeated(alloc: Global, line: &str, count: usize) -> Result<String, AllocError> {
@@ -183,17 +224,27 @@ fn repeated(alloc: Global, line: &str, count: usize) -> Result<String, AllocErro
     Ok(text)
 }
 
-fn refusal_of(alloc: Global, line: &str, count: usize) -> Result<Option<ScriptRefusal>, NoMemory> {
-    let text = repeated(alloc, line, count)?;
-    Ok(match read_script(alloc, text.as_bytes(), false) {
-        Err(ScriptFault::Refused(refusal)) => Some(refusal),
-        _ => None,
-    })
+fn refusal_of_lines(
+    alloc: Global,
+    line: &str,
+    count: usize,
+) -> Result<Option<ScriptRefusal>, NoMemory> {
+    Ok(refusal_of(alloc, &repeated(alloc, line, count)?))
+}
+
+/// The first of the lines that is not refused for this reason.
+fn first_accepted<'a>(alloc: Global, rows: &[(&'a str, Why)]) -> Result<Option<&'a str>, NoMemory> {
+    for &(line, why) in rows.iter() {
+        if refusal_of_lines(alloc, line, 1)? != Some(ScriptRefusal { line: 3, why }) {
+            return Ok(Some(line));
+        }
+    }
+    Ok(None)
 }
 
 #[test]
 fn call_lines_are_refused(rt: HostRuntime) -> Result<(), Fail> {
-    for (line, why) in [
+    let rows: &[(&str, Why)] = &[
         ("call a mkdir", Why::BadWord),
         ("call a mkdir /d", Why::BadWord),
         ("call a mkdir /d 800", Why::BadNumber),
@@ -224,31 +275,34 @@ fn call_lines_are_refused(rt: HostRuntime) -> Result<(), Fail> {
         ("call a truncate /f 0", Why::BadWord),
         ("call a chmod /f 644", Why::BadWord),
         ("call a rename /f /g", Why::BadWord),
-    ] {
-        assert_eq!(rt;
-            refusal_of(rt.alloc(), line, 1)?,
-            Some(ScriptRefusal { line: 3, why }),
-            "at {line:?}"
-        );
-    }
+    ];
+    assert_eq!(rt; first_accepted(rt.alloc(), rows)?, None);
     Ok(())
+}
+
+/// The most of these lines are read, so that the next one is missing; and one more is too many.
+fn reads_at_most(alloc: Global, line: &str, most: u32) -> Result<bool, NoMemory> {
+    let at = u64::from(most) + 3;
+    let most = most as usize;
+    let missing = Some(ScriptRefusal {
+        line: at,
+        why: Why::BadWord,
+    });
+    let too_many = Some(ScriptRefusal {
+        line: at,
+        why: Why::TooMany,
+    });
+    Ok(
+        refusal_of_lines(alloc, line, most)? == missing
+            && refusal_of_lines(alloc, line, most + 1)? == too_many,
+    )
 }
 
 #[test]
 fn the_most_are_read(rt: HostRuntime) -> Result<(), Fail> {
-    for (line, most) in [
-        ("call a create /f 644\n", 20_000),
-        ("order +a =a s0 s0:a c c:a * +a +a +a\n", 100_000),
-    ] {
-        for (count, why) in [(most, Why::BadWord), (most + 1, Why::TooMany)] {
-            assert_eq!(rt;
-                refusal_of(rt.alloc(), line, count)?,
-                Some(ScriptRefusal {
-                    line: most as u64 + 3,
-                    why
-                })
-            );
-        }
-    }
+    let calls = "call a create /f 644\n";
+    assert!(rt; reads_at_most(rt.alloc(), calls, 20_000)?);
+    let moves = "order +a =a s0 s0:a c c:a * +a +a +a\n";
+    assert!(rt; reads_at_most(rt.alloc(), moves, 100_000)?);
     Ok(())
 }

@@ -12,7 +12,7 @@ mod removals;
 use super::*;
 use inf_base::{
     Access, CallRef, Caller, Chain, Clients, DirRef, Entry, Errno, FileMeta, Id, Key, Kind,
-    LookKey, Name, NoMemory, Setup, Triple,
+    LookKey, Name, NoMemory, Sequence, Setup, Triple,
 };
 use inf_birth::ShaRule;
 use inf_message::{Ask, Op, Reply, Request, Spot};
@@ -41,77 +41,51 @@ const A_IN_ROOT: Id = Id {
 /// No directory has it; of two servers number 1 would keep it.
 const ODD: Id = Id { bytes: [1; 32] };
 
-const TOP: DirRef = DirRef { id: ROOT, born: 0 };
-
-/// Every Ask is made at place 5.
-const A: DirRef = DirRef {
-    id: A_IN_ROOT,
-    born: 5,
-};
-
-/// Another directory of this identifier, born later.
-const LATER_A: DirRef = DirRef {
-    id: A_IN_ROOT,
-    born: 6,
-};
-
-/// The first calls of three clients, each of which is the user of its number.
-const BY_0: CallRef = CallRef {
-    client: 0,
-    number: 1,
-};
-
-const BY_7: CallRef = CallRef {
-    client: 7,
-    number: 1,
-};
-
-const BY_8: CallRef = CallRef {
-    client: 8,
-    number: 1,
-};
-
-/// The directories that a chain tells, each with its mode: the first as the root, the second as `a` in it.
-type Way = [Option<(DirRef, u16)>; 2];
-
-const NOWHERE: Way = [None, None];
-
-/// A way to a root that is no more.
-const MOVED: Way = [Some((DirRef { id: ROOT, born: 5 }, 0o755)), None];
-
-/// A way to the root, which has this mode.
-fn root(mode: u16) -> Way {
-    [Some((TOP, mode)), None]
+/// A directory of the tests. Every Ask is made at place 5.
+#[derive(Clone, Copy)]
+enum Dir {
+    Top,
+    /// A root that is no more.
+    Moved,
+    A,
+    /// Another directory of the identifier of `a`, born later.
+    LaterA,
+    Odd,
+    /// The root, where identifiers have one byte.
+    ShortTop,
 }
 
-/// A way through the root, which has this mode, to `a`, which lets nobody in.
-fn in_a(mode: u16) -> Way {
-    below(mode, A)
-}
-
-fn below(mode: u16, dir: DirRef) -> Way {
-    [Some((TOP, mode)), Some((dir, 0))]
+/// What a chain tells: the root, which has this mode, and then maybe `a` in it, which lets nobody in.
+#[derive(Clone, Copy)]
+enum Way {
+    Nowhere,
+    Root(u16),
+    ToMoved,
+    InA(u16),
+    InLaterA(u16),
+    InMoved,
 }
 
 /// A request, each name with one letter.
 #[derive(Clone, Copy)]
 enum Step {
     LookTop,
-    Look(Id, u8),
+    Look(Dir, u8),
     Create(Way, u8),
     Stat(Way, u8),
     Walk(Way, u8),
     Rmdir(Way, u8),
     Reserve(Way, u8),
-    Make(Id, u8, u64),
+    Make(Dir, u8, u64),
     /// The directory `a`, with mode 750.
     Link(Way),
-    Cancel(DirRef),
-    Drop(DirRef),
+    Cancel(Dir),
+    Drop(Dir),
     Seal(Way),
-    Unseal(DirRef),
+    Unseal(Dir),
     Unlink(Way),
-    Forget(Id, DirRef),
+    /// The root's entry of this directory.
+    Forget(Dir),
 }
 
 /// A reply that owns no memory.
@@ -124,19 +98,39 @@ enum Want {
     Absent(u64),
     IsFile(u64),
     Reserved(u64),
-    /// The call is in the way: in a slot of the root, in `a`, by its seal on `a`, or as the bearer of `a`.
-    Slot(CallRef),
-    Inside(CallRef),
-    Sealed(CallRef),
-    Bearer(CallRef),
+    /// The client's call is in the way: in a slot of the root, in `a`, by its seal on `a`, or as the bearer of `a`.
+    Slot(u32),
+    Inside(u32),
+    Sealed(u32),
+    Bearer(u32),
     Denied(Errno),
     /// The file with mode 640, or the directory with mode 750, of this user.
     File(u32),
-    Dir(u32),
+    Folder(u32),
+    /// The access object of the root, and that of `a`, which user 7 made in it.
+    FoundTop,
+    FoundA,
+    /// With `e` of version 1, where identifiers have one byte.
+    ClashOfE,
 }
 
-/// The call, the request, and the reply.
-type Row = (CallRef, Step, Want);
+/// The client, whose number is its user's too and who makes its first call, the request, and the reply.
+type Row = (u32, Step, Want);
+
+/// Which of the requests, counted from 0, is the first that the server of this number replies to otherwise.
+fn first_wrong(
+    alloc: Global,
+    number: u32,
+    servers: u32,
+    rule: ShaRule,
+    rows: &[Row],
+) -> Result<Option<usize>, NoMemory>
+    requires some_servers { 1 ≤ servers }
+    requires numbered { number ≤ servers }
+{
+    let mut server = server(alloc, number, servers, rule)?;
+    wrong_reply(alloc, &mut server, rows)
+}
 
 fn server(
     alloc: Global,
@@ -156,36 +150,66 @@ fn server(
     Server::new(alloc, rule, number, &setup)
 }
 
-/// Which of the requests, counted from 0, is the first that is replied otherwise.
-fn first_wrong(
+fn wrong_reply(
     alloc: Global,
     server: &mut Server<ShaRule>,
     rows: &[Row],
 ) -> Result<Option<usize>, NoMemory> {
-    for (at, &(from, step, want)) in rows.iter().enumerate() {
-        if serve(alloc, server, from, step)? != reply(want) {
+    for (at, &(client, step, want)) in rows.iter().enumerate() {
+        if serve(alloc, server, client, step)? != reply(alloc, want)? {
             return Ok(Some(at));
         }
     }
     Ok(None)
 }
 
-/// What is replied to the call, in group 10.
+/// What is replied to the client's call, in group 10.
 fn serve(
     alloc: Global,
     server: &mut Server<ShaRule>,
-    from: CallRef,
+    client: u32,
     step: Step,
 ) -> Result<Reply, NoMemory> {
     let ask = Ask {
-        from,
+        from: first_call(client),
         caller: Caller {
-            uid: from.client,
+            uid: client,
             gid: 10,
         },
         request: request(alloc, step)?,
     };
     Ok(server.serve(5, &ask))
+}
+
+fn first_call(client: u32) -> CallRef {
+    CallRef { client, number: 1 }
+}
+
+fn dir_of(dir: Dir) -> DirRef {
+    match dir {
+        Dir::Top => DirRef { id: ROOT, born: 0 },
+        Dir::Moved => DirRef { id: ROOT, born: 5 },
+        Dir::A => DirRef {
+            id: A_IN_ROOT,
+            born: 5,
+        },
+        Dir::LaterA => DirRef {
+            id: A_IN_ROOT,
+            born: 6,
+        },
+        Dir::Odd => DirRef { id: ODD, born: 0 },
+        Dir::ShortTop => DirRef {
+            id: short(ROOT),
+            born: 0,
+        },
+    }
+}
+
+/// The identifier with its first byte alone.
+fn short(id: Id) -> Id {
+    let mut bytes = [0; 32];
+    bytes[0] = id.bytes[0];
+    Id { bytes }
 }
 
 fn request(alloc: Global, step: Step) -> Result<Request, NoMemory>
@@ -194,7 +218,7 @@ fn request(alloc: Global, step: Step) -> Result<Request, NoMemory>
 {
     Ok(match step {
         Step::LookTop => Request::Lookup(LookKey::Top),
-        Step::Look(dir, letter) => look(dir, name(alloc, letter)?),
+        Step::Look(dir, letter) => look(dir_of(dir).id, name(alloc, letter)?),
         Step::Create(way, letter) => finish(alloc, way, Op::Create(name(alloc, letter)?, 0o640))?,
         Step::Stat(way, letter) => finish(alloc, way, Op::Stat(name(alloc, letter)?))?,
         Step::Walk(way, letter) => finish(alloc, way, Op::Walk(name(alloc, letter)?))?,
@@ -209,19 +233,22 @@ fn request(alloc: Global, step: Step) -> Result<Request, NoMemory>
         Step::Link(way) => Request::Link {
             chain: chain(alloc, way)?,
             name: name(alloc, b'a')?,
-            dir: A,
+            dir: dir_of(Dir::A),
             mode: 0o750,
         },
-        Step::Cancel(dir) => Request::Cancel { dir },
-        Step::Drop(dir) => Request::Drop { dir },
+        Step::Cancel(dir) => Request::Cancel { dir: dir_of(dir) },
+        Step::Drop(dir) => Request::Drop { dir: dir_of(dir) },
         Step::Seal(way) => Request::Seal {
             chain: chain(alloc, way)?,
         },
-        Step::Unseal(dir) => Request::Unseal { dir },
+        Step::Unseal(dir) => Request::Unseal { dir: dir_of(dir) },
         Step::Unlink(way) => Request::Unlink {
             chain: chain(alloc, way)?,
         },
-        Step::Forget(parent, dir) => Request::Forget { parent, dir },
+        Step::Forget(dir) => Request::Forget {
+            parent: ROOT,
+            dir: dir_of(dir),
+        },
     })
 }
 
@@ -229,9 +256,9 @@ fn name(alloc: Global, letter: u8) -> Result<Name, NoMemory> {
     Name::from_slice(alloc, &[letter])
 }
 
-fn birth(alloc: Global, parent: Id, letter: u8, version: u64) -> Result<Triple, NoMemory> {
+fn birth(alloc: Global, parent: Dir, letter: u8, version: u64) -> Result<Triple, NoMemory> {
     Ok(Triple::Of {
-        parent,
+        parent: dir_of(parent).id,
         name: name(alloc, letter)?,
         version,
     })
@@ -259,39 +286,56 @@ fn chain(alloc: Global, way: Way) -> Result<Chain, NoMemory>
     ensures { IfOk result (λ chain. length chain ≤ 2) }
 {
     let mut entries = Vec::new(alloc);
-    let [first, second] = way;
+    let (first, second) = directories(way);
     if let Some((dir, mode)) = first {
         entries.push(entry(Key::Top, dir, mode))?;
     }
-    if let Some((dir, mode)) = second {
+    if let Some(dir) = second {
         let key = Key::At {
-            dir: TOP,
+            dir: dir_of(Dir::Top),
             name: name(alloc, b'a')?,
         };
-        entries.push(entry(key, dir, mode))?;
+        entries.push(entry(key, dir, 0))?;
     }
-    Ok(Chain::new(entries))
+    Chain::new(alloc, Sequence::new(entries))
+}
+
+/// The root of a way with its mode, and what stands below.
+fn directories(way: Way) -> (Option<(Dir, u16)>, Option<Dir>) {
+    match way {
+        Way::Nowhere => (None, None),
+        Way::Root(mode) => (Some((Dir::Top, mode)), None),
+        Way::ToMoved => (Some((Dir::Moved, 0o755)), None),
+        Way::InA(mode) => (Some((Dir::Top, mode)), Some(Dir::A)),
+        Way::InLaterA(mode) => (Some((Dir::Top, mode)), Some(Dir::LaterA)),
+        Way::InMoved => (Some((Dir::Moved, 0o755)), Some(Dir::A)),
+    }
 }
 
 /// User 0's directory of this mode, as it was told under the key.
-fn entry(key: Key, dir: DirRef, mode: u16) -> Entry {
-    let access = Access {
-        id: dir.id,
-        born: dir.born,
-        mode,
-        owner: 0,
-        group: 0,
-        birth: Triple::Root,
-    };
+fn entry(key: Key, dir: Dir, mode: u16) -> Entry {
     Entry {
         key,
-        access,
+        access: access(dir, mode, Triple::Root),
         stamp: 2,
     }
 }
 
-fn reply(want: Want) -> Reply {
-    match want {
+/// The access object of user 0's directory.
+fn access(dir: Dir, mode: u16, birth: Triple) -> Access {
+    let DirRef { id, born } = dir_of(dir);
+    Access {
+        id,
+        born,
+        mode,
+        owner: 0,
+        group: 0,
+        birth,
+    }
+}
+
+fn reply(alloc: Global, want: Want) -> Result<Reply, NoMemory> {
+    Ok(match want {
         Want::Fine => Reply::Fine,
         Want::Other => Reply::Other,
         Want::Gone => Reply::Gone,
@@ -299,18 +343,25 @@ fn reply(want: Want) -> Reply {
         Want::Absent(born) => Reply::Absent { born },
         Want::IsFile(born) => Reply::IsFile { born },
         Want::Reserved(version) => Reply::Reserved(version),
-        Want::Slot(by) => busy(by, Spot::Slot, 0),
-        Want::Inside(by) => busy(by, Spot::Inside, 5),
-        Want::Sealed(by) => busy(by, Spot::Sealed, 5),
-        Want::Bearer(by) => busy(by, Spot::Bearer, 0),
+        Want::Slot(client) => busy(client, Spot::Slot, 0),
+        Want::Inside(client) => busy(client, Spot::Inside, 5),
+        Want::Sealed(client) => busy(client, Spot::Sealed, 5),
+        Want::Bearer(client) => busy(client, Spot::Bearer, 0),
         Want::Denied(error) => Reply::Refused(error),
-        Want::File(id) => stat(Kind::File, 0o640, id),
-        Want::Dir(id) => stat(Kind::Dir, 0o750, id),
-    }
+        Want::File(user) => stat(Kind::File, 0o640, user),
+        Want::Folder(user) => stat(Kind::Dir, 0o750, user),
+        Want::FoundTop => found_root(),
+        Want::FoundA => found_a(alloc)?,
+        Want::ClashOfE => Reply::Clash(birth(alloc, Dir::ShortTop, b'e', 1)?),
+    })
 }
 
-fn busy(by: CallRef, spot: Spot, born: u64) -> Reply {
-    Reply::Busy { by, spot, born }
+fn busy(client: u32, spot: Spot, born: u64) -> Reply {
+    Reply::Busy {
+        by: first_call(client),
+        spot,
+        born,
+    }
 }
 
 fn stat(kind: Kind, mode: u16, owner: u32) -> Reply {
@@ -323,4 +374,26 @@ fn stat(kind: Kind, mode: u16, owner: u32) -> Reply {
             length: 0,
         },
     }
+}
+
+/// The root's access object, as its server tells it.
+fn found_root() -> Reply {
+    Reply::Found {
+        key: Key::Top,
+        access: access(Dir::Top, 0o755, Triple::Root),
+    }
+}
+
+/// The access object of `a`, which user 7 made in the root.
+fn found_a(alloc: Global) -> Result<Reply, NoMemory> {
+    let key = Key::At {
+        dir: dir_of(Dir::Top),
+        name: name(alloc, b'a')?,
+    };
+    let access = Access {
+        owner: 7,
+        group: 10,
+        ..access(Dir::A, 0o750, birth(alloc, Dir::Top, b'a', 0)?)
+    };
+    Ok(Reply::Found { key, access })
 }

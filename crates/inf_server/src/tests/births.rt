@@ -1,102 +1,83 @@
 //! The requests of a call that makes a directory.
 
 use super::*;
+use Dir::*;
+use Step::*;
+use Want::*;
+use Way::*;
 use inf_base::Errno::{EACCES, EEXIST};
 use std::test::Fail;
 
-/// The access object of `a`, which user 7 made in the root.
-fn found_a(alloc: Global) -> Result<Reply, NoMemory> {
-    let key = Key::At {
-        dir: TOP,
-        name: name(alloc, b'a')?,
-    };
-    let access = Access {
-        id: A_IN_ROOT,
-        born: 5,
-        mode: 0o750,
-        owner: 7,
-        group: 10,
-        birth: birth(alloc, ROOT, b'a', 0)?,
-    };
-    Ok(Reply::Found { key, access })
-}
-
 #[test]
 fn reserves(rt: HostRuntime) -> Result<(), Fail> {
-    let mut server = server(rt.alloc(), 0, 2, WHOLE)?;
     let rows: &[Row] = &[
-        (BY_7, Step::Reserve(root(0o755), b'a'), Want::Denied(EACCES)),
-        (BY_7, Step::Reserve(root(0o772), b'a'), Want::Denied(EACCES)),
-        (BY_7, Step::Reserve(MOVED, b'a'), Want::Gone),
-        (BY_7, Step::Reserve(in_a(0o777), b'a'), Want::Other),
-        (BY_7, Step::Reserve(NOWHERE, b'a'), Want::Other),
-        (BY_7, Step::Reserve(root(0o777), b'a'), Want::Reserved(0)),
-        (BY_7, Step::Reserve(root(0o777), b'a'), Want::Other),
-        (BY_0, Step::Reserve(root(0o755), b'a'), Want::Slot(BY_7)),
-        (BY_0, Step::Create(root(0o755), b'a'), Want::Slot(BY_7)),
-        (BY_0, Step::Stat(root(0o755), b'a'), Want::Slot(BY_7)),
-        (BY_0, Step::Walk(root(0o755), b'a'), Want::Slot(BY_7)),
-        (BY_0, Step::Rmdir(root(0o755), b'a'), Want::Slot(BY_7)),
-        (BY_0, Step::Cancel(TOP), Want::Fine),
-        (BY_7, Step::Look(ROOT, b'a'), Want::Slot(BY_7)),
-        (BY_7, Step::Cancel(A), Want::Other),
-        (BY_7, Step::Cancel(TOP), Want::Fine),
-        (BY_7, Step::Look(ROOT, b'a'), Want::Absent(0)),
-        (BY_7, Step::Make(ROOT, b'a', 0), Want::Other),
-        (BY_0, Step::Create(root(0o755), b'b'), Want::Fine),
-        (BY_7, Step::Reserve(root(0o777), b'b'), Want::Denied(EEXIST)),
+        (7, Reserve(Root(0o755), b'a'), Denied(EACCES)),
+        (7, Reserve(Root(0o772), b'a'), Denied(EACCES)),
+        (7, Reserve(ToMoved, b'a'), Gone),
+        (7, Reserve(InA(0o777), b'a'), Other),
+        (7, Reserve(Nowhere, b'a'), Other),
+        (7, Reserve(Root(0o777), b'a'), Reserved(0)),
+        (7, Reserve(Root(0o777), b'a'), Other),
+        (0, Reserve(Root(0o755), b'a'), Slot(7)),
+        (0, Create(Root(0o755), b'a'), Slot(7)),
+        (0, Stat(Root(0o755), b'a'), Slot(7)),
+        (0, Walk(Root(0o755), b'a'), Slot(7)),
+        (0, Rmdir(Root(0o755), b'a'), Slot(7)),
+        (0, Cancel(Top), Fine),
+        (7, Look(Top, b'a'), Slot(7)),
+        (7, Cancel(A), Other),
+        (7, Cancel(Top), Fine),
+        (7, Look(Top, b'a'), Absent(0)),
+        (7, Make(Top, b'a', 0), Other),
+        (0, Create(Root(0o755), b'b'), Fine),
+        (7, Reserve(Root(0o777), b'b'), Denied(EEXIST)),
     ];
-    assert_eq!(rt; first_wrong(rt.alloc(), &mut server, rows)?, None);
+    assert_eq!(rt; first_wrong(rt.alloc(), 0, 2, WHOLE, rows)?, None);
     Ok(())
 }
 
 #[test]
 fn links(rt: HostRuntime) -> Result<(), Fail> {
-    let mut server = server(rt.alloc(), 0, 2, WHOLE)?;
     let rows: &[Row] = &[
-        (BY_7, Step::Reserve(root(0o777), b'a'), Want::Reserved(0)),
-        (BY_8, Step::Link(root(0o777)), Want::Other),
-        (BY_7, Step::Link(in_a(0o777)), Want::Other),
-        (BY_7, Step::Link(MOVED), Want::Gone),
-        (BY_7, Step::Link(root(0o755)), Want::Fine),
-        (BY_7, Step::Link(root(0o755)), Want::Other),
-        (BY_0, Step::Reserve(root(0o755), b'a'), Want::Denied(EEXIST)),
-        (BY_8, Step::Stat(root(0o755), b'a'), Want::Dir(7)),
-        (BY_8, Step::Walk(root(0o755), b'a'), Want::Other),
+        (7, Reserve(Root(0o777), b'a'), Reserved(0)),
+        (8, Link(Root(0o777)), Other),
+        (7, Link(InA(0o777)), Other),
+        (7, Link(ToMoved), Gone),
+        (7, Link(Root(0o755)), Fine),
+        (7, Link(Root(0o755)), Other),
+        (0, Reserve(Root(0o755), b'a'), Denied(EEXIST)),
+        (8, Stat(Root(0o755), b'a'), Folder(7)),
+        (8, Walk(Root(0o755), b'a'), Other),
+        (8, Look(Top, b'a'), FoundA),
     ];
-    assert_eq!(rt; first_wrong(rt.alloc(), &mut server, rows)?, None);
-    let given = serve(rt.alloc(), &mut server, BY_8, Step::Look(ROOT, b'a'))?;
-    assert_eq!(rt; given, found_a(rt.alloc())?);
+    assert_eq!(rt; first_wrong(rt.alloc(), 0, 2, WHOLE, rows)?, None);
     Ok(())
 }
 
 #[test]
 fn makes(rt: HostRuntime) -> Result<(), Fail> {
-    let mut server = server(rt.alloc(), 1, 2, WHOLE)?;
     let rows: &[Row] = &[
-        (BY_7, Step::Look(A_IN_ROOT, b'a'), Want::NoDir),
-        (BY_7, Step::Make(ROOT, b'a', 0), Want::Fine),
-        (BY_0, Step::Make(ROOT, b'a', 0), Want::Bearer(BY_7)),
-        (BY_0, Step::Look(A_IN_ROOT, b'a'), Want::Absent(5)),
-        (BY_0, Step::Look(ODD, b'a'), Want::NoDir),
-        (BY_0, Step::Look(ROOT, b'a'), Want::Other),
-        (BY_0, Step::Reserve(in_a(0o755), b'b'), Want::Reserved(0)),
-        (BY_0, Step::Cancel(TOP), Want::Other),
+        (7, Look(A, b'a'), NoDir),
+        (7, Make(Top, b'a', 0), Fine),
+        (0, Make(Top, b'a', 0), Bearer(7)),
+        (0, Look(A, b'a'), Absent(5)),
+        (0, Look(Odd, b'a'), NoDir),
+        (0, Look(Top, b'a'), Other),
+        (0, Reserve(InA(0o755), b'b'), Reserved(0)),
+        (0, Cancel(Top), Other),
     ];
-    assert_eq!(rt; first_wrong(rt.alloc(), &mut server, rows)?, None);
+    assert_eq!(rt; first_wrong(rt.alloc(), 1, 2, WHOLE, rows)?, None);
     Ok(())
 }
 
 /// By their first bytes alone, `e` of versions 1 and 2 in the root have one identifier, as another program computes it.
 #[test]
 fn clashes(rt: HostRuntime) -> Result<(), Fail> {
-    let mut server = server(rt.alloc(), 0, 1, ShaRule { bytes: 1 })?;
-    let mut bytes = [0; 32];
-    bytes[0] = ROOT.bytes[0];
-    let root = Id { bytes };
-    let given = serve(rt.alloc(), &mut server, BY_8, Step::Make(root, b'e', 1))?;
-    assert_eq!(rt; given, Reply::Fine);
-    let given = serve(rt.alloc(), &mut server, BY_8, Step::Make(root, b'e', 2))?;
-    assert_eq!(rt; given, Reply::Clash(birth(rt.alloc(), root, b'e', 1)?));
+    let rule = ShaRule { bytes: 1 };
+    let rows: &[Row] = &[
+        (8, Make(ShortTop, b'e', 1), Fine),
+        (8, Make(ShortTop, b'e', 2), ClashOfE),
+    ];
+    assert_eq!(rt; first_wrong(rt.alloc(), 0, 1, rule, rows)?, None);
     Ok(())
 }
