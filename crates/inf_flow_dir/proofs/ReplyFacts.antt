@@ -6,7 +6,7 @@ use Rattle.inf_base.specs.declared.id.Id.{Id}
 use Rattle.inf_base.specs.declared.triple.Triple.{Triple}
 use Rattle.inf_flow_dir.specs.declared.dir_flow.DirFlow.{DirFlow}
 use Rattle.inf_flow_dir.specs.declared.dir_flow.DirFlow.TheVariants as step
-use Rattle.inf_flow_dir.specs.DirFlow.{after, clean_up}
+use Rattle.inf_flow_dir.specs.DirFlow.{after_reply, clean_up}
 use Rattle.inf_message.specs.declared.reply.Reply.{Reply}
 use Rattle.inf_message.specs.declared.reply.Reply.TheVariants as reply
 use Rattle.inf_message.specs.declared.turn.Turn.{Turn}
@@ -14,7 +14,7 @@ use Rattle.inf_message.specs.Turn.{fails}
 use Rattle.inf_message.specs.Who.{Who}
 
 abbrev pub Fails : (List ℕ → Id) → Who → DirFlow → ℕ → ℕ → Reply → Type 0
-Fails digest who flow asked place given = fails (clean_up who flow) place given ≡ after digest who flow asked place given
+Fails digest who flow asked place given = fails (clean_up who flow) place given ≡ after_reply digest who flow asked place given
 
 pub unless_made : (digest : List ℕ → Id) (who : Who) (chain : List Entry) (name : List ℕ) (mode version : ℕ) (id : Id) (asked place : ℕ) (given : Reply)
     → (given ≡ reply.Fine → ⊥) → ((kept : Triple) → given ≡ reply.Clash kept → ⊥) → Fails digest who (step.Makes chain name mode version id) asked place given
@@ -34,5 +34,5 @@ unless_unlinked digest who chain asked place given other = refl
 
 -- a flow, as it was matched
 pub at_step : (digest : List ℕ → Id) (who : Who) (flow now : DirFlow) (asked place : ℕ) (given : Reply) (turn : Turn DirFlow)
-    → flow ≡ now → turn ≡ after digest who now asked place given → turn ≡ after digest who flow asked place given
-at_step digest who flow now asked place given turn is as_now = as_now ∙ ap (λ (f : DirFlow). after digest who f asked place given) (sym is)
+    → flow ≡ now → turn ≡ after_reply digest who now asked place given → turn ≡ after_reply digest who flow asked place given
+at_step digest who flow now asked place given turn is as_now = as_now ∙ ap (λ (f : DirFlow). after_reply digest who f asked place given) (sym is)

@@ -22,7 +22,9 @@ use Rattle.inf_message.specs.declared.step.Message.{Message}
 use Rattle.inf_message.specs.declared.turn.Turn.{Turn}
 use Rattle.inf_message.specs.declared.turn.Turn.TheVariants as turn
 use Rattle.inf_message.specs.Chain.{last_dir, last_entry, way_to}
-use Rattle.inf_message.specs.Turn.{done, fails}
+use Rattle.inf_message.specs.CleanUp.{one_by_one}
+use Rattle.inf_message.specs.Sent.{Sent, deciding}
+use Rattle.inf_message.specs.Turn.{after_deciding, done, fails}
 use Rattle.inf_message.specs.Who.{Who, birth_of, last_id, lift, to}
 
 abbrev pub message_of : Who → DirFlow → Message
@@ -33,14 +35,17 @@ message_of who (dir_flow.Links chain name mode version made) =
 message_of who (dir_flow.Seals chain) = to who (last_id who chain) (request.Seal chain)
 message_of who (dir_flow.Unlinks chain) = to who (last_id who (way_to chain)) (request.Unlink chain)
 
--- what is cleaned up where a message does not succeed, or is not sent for want of memory
-abbrev pub clean_up : Who → DirFlow → List Message
+abbrev pub group : Who → DirFlow → List Message
+group who flow = message_of who flow ∷ []
+
+-- what is cleaned up, one step after another, where a message does not succeed, or is not sent for want of memory
+abbrev pub clean_up : Who → DirFlow → List (List Message)
 clean_up who (dir_flow.Reserves chain name mode) = []
-clean_up who (dir_flow.Makes chain name mode version id) = lift who (last_dir chain) request.Cancel ∷ []
+clean_up who (dir_flow.Makes chain name mode version id) = one_by_one (lift who (last_dir chain) request.Cancel ∷ [])
 clean_up who (dir_flow.Links chain name mode version made) =
-    lift who made request.Drop ∷ lift who (last_dir chain) request.Cancel ∷ []
+    one_by_one (lift who made request.Drop ∷ lift who (last_dir chain) request.Cancel ∷ [])
 clean_up who (dir_flow.Seals chain) = []
-clean_up who (dir_flow.Unlinks chain) = lift who (last_dir chain) request.Unseal ∷ []
+clean_up who (dir_flow.Unlinks chain) = one_by_one (lift who (last_dir chain) request.Unseal ∷ [])
 
 -- whether a directory lives where it was born, by the entry that ends its chain, and the directory before
 abbrev pub lives_at : Id → Key → Triple → Bool
@@ -58,20 +63,24 @@ row_of who parent (Some entry) =
     if lives_at parent entry.key entry.access.birth then [] else forget_in who (dir_of entry.access) entry.access.birth
 
 -- what follows the unlinking: the content goes, and the row at the place of birth where the directory had left that
-abbrev pub after_unlink : Who → List Entry → List Message
+abbrev pub after_unlink : Who → List Entry → List (List Message)
 after_unlink who chain =
-    lift who (last_dir chain) request.Drop ∷ row_of who (last_id who (way_to chain)) (last_entry chain)
+    one_by_one (lift who (last_dir chain) request.Drop ∷ row_of who (last_id who (way_to chain)) (last_entry chain))
 
 -- by the place of the Ask, that of its Serve, and the reply
-abbrev pub after : (List ℕ → Id) → Who → DirFlow → ℕ → ℕ → Reply → Turn DirFlow
-after digest who (dir_flow.Reserves chain name mode) asked place (reply.Reserved version) =
+abbrev pub after_reply : (List ℕ → Id) → Who → DirFlow → ℕ → ℕ → Reply → Turn DirFlow
+after_reply digest who (dir_flow.Reserves chain name mode) asked place (reply.Reserved version) =
     turn.GoesOn (dir_flow.Makes chain name mode version (identity digest (birth_of who chain name version)))
-after digest who (dir_flow.Makes chain name mode version id) asked place reply.Fine =
+after_reply digest who (dir_flow.Makes chain name mode version id) asked place reply.Fine =
     turn.GoesOn (dir_flow.Links chain name mode version (record { id = id; born = asked }))
-after digest who (dir_flow.Makes chain name mode version id) asked place (reply.Clash kept) =
+after_reply digest who (dir_flow.Makes chain name mode version id) asked place (reply.Clash kept) =
     turn.WindsUp (ending.Answers (answer.IdClash (birth_of who chain name version) kept) (Some place))
     (clean_up who (dir_flow.Makes chain name mode version id))
-after digest who (dir_flow.Links chain name mode version made) asked place reply.Fine = done place []
-after digest who (dir_flow.Seals chain) asked place reply.Fine = turn.GoesOn (dir_flow.Unlinks chain)
-after digest who (dir_flow.Unlinks chain) asked place reply.Fine = done place (after_unlink who chain)
-after digest who flow asked place given = fails (clean_up who flow) place given
+after_reply digest who (dir_flow.Links chain name mode version made) asked place reply.Fine = done place []
+after_reply digest who (dir_flow.Seals chain) asked place reply.Fine = turn.GoesOn (dir_flow.Unlinks chain)
+after_reply digest who (dir_flow.Unlinks chain) asked place reply.Fine = done place (after_unlink who chain)
+after_reply digest who flow asked place given = fails (clean_up who flow) place given
+
+-- what comes of the group, once it was answered
+abbrev pub after : (List ℕ → Id) → Who → DirFlow → List Sent → Turn DirFlow
+after digest who flow sent = after_deciding (after_reply digest who flow) (deciding sent)

@@ -6,7 +6,7 @@ mod replies;
 
 use inf_base::{Chain, DirRef, Id, Name};
 
-/// The message that is next, or waited for.
+/// The group that is next, or waited for.
 #[derive(Drop)]
 pub enum DirFlow {
     /// A directory is made at the end of the chain: the name is kept.

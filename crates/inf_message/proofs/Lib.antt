@@ -1,3 +1,4 @@
+pub mod CleanUpFacts
 pub mod ClientLaws
 pub mod HistoryDecides
 pub mod HistoryLaws

@@ -13,6 +13,7 @@ use Rattle.inf_base.proofs.Decides.{different, access_decides, call_decides, err
 use Rattle.inf_message.specs.declared.reply.Reply.{Reply}
 use Rattle.inf_message.specs.declared.reply.Reply.TheVariants as reply
 use Rattle.inf_message.specs.declared.reply.Spot.{Spot}
+use Rattle.inf_message.specs.Heard.{light}
 use Rattle.inf_message.specs.contracts.reply.ReplyPartialEq.TheImpl as reply_eq
 use Rattle.inf_message.specs.contracts.reply.SpotPartialEq.TheImpl as spot_eq
 
@@ -109,3 +110,12 @@ reply_decides reply.Fine b = fine_decides b
 reply_decides (reply.Refused error) b = refused_decides error b
 reply_decides (reply.Stat kind meta) b = stat_decides kind meta b
 reply_decides (reply.Listing items) b = listing_decides items b
+
+-- all is kept of a reply that owns no memory
+pub light_same : (given : Reply) → ((key : Key) (access : Access) → given ≡ reply.Found key access → ⊥)
+    → ((kept : Triple) → given ≡ reply.Clash kept → ⊥) → ((items : List Item) → given ≡ reply.Listing items → ⊥)
+    → light given ≡ given
+light_same (reply.Found key access) found clash listing = absurd (found key access refl)
+light_same (reply.Clash kept) found clash listing = absurd (clash kept refl)
+light_same (reply.Listing items) found clash listing = absurd (listing items refl)
+light_same given found clash listing = refl

@@ -6,3 +6,11 @@ use Rattle.inf_message.specs.declared.reply.Reply.TheVariants as reply
 abbrev pub heard : Reply → Reply
 heard (reply.Listing items) = reply.Other
 heard given = given
+
+-- of a reply to a message that is sent with others, and is no lookup, nothing is kept that takes memory: none of these
+-- is a success
+abbrev pub light : Reply → Reply
+light (reply.Found k access) = reply.Other
+light (reply.Clash kept) = reply.Other
+light (reply.Listing items) = reply.Other
+light given = given

@@ -43,3 +43,21 @@ wants_memory (Some told) = is_no_mem told.reply
 -- one answer of a group says so
 abbrev pub is_wanting : List Sent → Bool
 is_wanting sent = list_any (λ (x : Sent). wants_memory x.told) sent
+
+-- whether a reply is the success of each message that is sent with others
+abbrev pub is_fine : Option Told → Bool
+is_fine None = false
+is_fine (Some told) = is_success told.reply
+  where
+    is_success : Reply → Bool
+    is_success reply.Fine = true
+    is_success any_reply = false
+
+abbrev pub deciding_of : Sent → List Sent → Sent
+deciding_of x [] = x
+deciding_of x (y ∷ ys) = if is_fine x.told then deciding_of y ys else x
+
+-- the Ask that decides a group: the first, in the order of asking, that did not succeed; or the last
+abbrev pub deciding : List Sent → Option Sent
+deciding [] = None
+deciding (x ∷ xs) = Some (deciding_of x xs)

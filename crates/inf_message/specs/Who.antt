@@ -1,5 +1,6 @@
 -- A client, and where its messages go.
-use Rattle.std.specs.Prelude.{ℕ, List, Option, Some, None}
+use Rattle.std.specs.Prelude.{ℕ, List, map, Option, Some, None}
+use Rattle.std.specs.List.{range_with_len}
 use Rattle.inf_base.specs.declared.caller.Caller.{Caller}
 use Rattle.inf_base.specs.declared.directory.DirRef.{DirRef}
 use Rattle.inf_base.specs.declared.entry.Entry.{Entry}
@@ -37,6 +38,10 @@ birth_of who chain name version = triple.Of (last_id who chain) name version
 -- the message to the server of a directory
 abbrev pub to : Who → Id → Request → Message
 to who id asked = record { number = server_of id who.servers; request = asked }
+
+-- the same message to each server
+abbrev pub to_each : Who → Request → List Message
+to_each who asked = map (λ (number : ℕ). record { number = number; request = asked }) (range_with_len 0 who.servers)
 
 abbrev pub lift : Who → DirRef → (DirRef → Request) → Message
 lift who dir asked = to who dir.id (asked dir)

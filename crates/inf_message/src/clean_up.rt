@@ -1,8 +1,8 @@
 //! Messages of clean-ups, which are made without taking memory.
 
-ghost use Rattle.std.specs.Prelude.{◌≡◌, ◌∷◌, ◌↔◌, [], MatchOption, IsTrue};
-ghost use Rattle.inf_message.specs.CleanUp.{request_of};
-ghost use Rattle.inf_message.specs.Who.{to};
+ghost use Rattle.std.specs.Prelude.{◌≡◌, ◌<◌, ◌∷◌, ◌↔◌, [], length, slice_get, MatchOption, IsTrue};
+ghost use Rattle.inf_message.specs.CleanUp.{numbers_of, request_of};
+ghost use Rattle.inf_message.specs.Who.{to, to_each};
 
 use crate::lift::Lift;
 use crate::request::Request;
@@ -11,40 +11,97 @@ use crate::who::Who;
 use inf_base::Id;
 use std::marker::Model;
 
-/// A message that holds no memory.
+/// The servers that a step goes to.
+#[derive(Clone, Copy, Drop)]
+enum Target {
+    One(u32),
+    /// Each of so many.
+    Each(u32),
+}
+
+impl Target {
+    #[tactic(auto, using(crate::proofs::CleanUpFacts::counted))]
+    fn size(&self) -> usize
+        ensures { result ≡ length (numbers_of self.now) }
+    {
+        match self {
+            Target::One(_) => 1,
+            Target::Each(servers) => *servers as usize,
+        }
+    }
+
+    /// The server at this index.
+    #[tactic(auto, using(crate::proofs::CleanUpFacts::count_at, crate::proofs::CleanUpFacts::count_past, crate::proofs::CleanUpFacts::one_past))]
+    fn number(&self, index: usize) -> Option<u32>
+        ensures { result ≡ slice_get (numbers_of self.now) index }
+    {
+        match self {
+            Target::One(number) if index == 0 => Some(*number),
+            Target::Each(servers) if index < *servers as usize => Some(index as u32),
+            _ => None,
+        }
+    }
+}
+
+/// One step of a clean-up: messages that are sent at once and hold no memory, the same to each of its servers.
 #[derive(Drop)]
 pub struct CleanUp {
-    number: u32,
+    target: Target,
     lift: Lift,
 }
 
 impl Model for CleanUp {
+    ghost use Rattle.std.specs.Prelude.{◌<◌, List, length};
     ghost use Rattle.inf_message.specs.declared.step.Message.{Message};
-    ghost use Rattle.inf_message.specs.CleanUp.{clean_up_message};
+    ghost use Rattle.inf_message.specs.CleanUp.{numbers_of, step_of};
 
-    ghost Value = { Message };
+    ghost Value = { List Message };
 
-    ghost view = { λ c. clean_up_message c.number c.lift };
+    ghost view = { λ c. step_of c.target c.lift };
+
+    ghost invariant = { λ c. 0 < length (numbers_of c.target) };
 }
 
 impl CleanUp {
-    /// The message to the server of this identifier.
+    /// One message, to the server of this identifier.
     pub fn to(who: &Who, id: &Id, lift: Lift) -> Self
-        ensures { result ≡ to who.now id.now (request_of lift) }
+        ensures { result ≡ to who.now id.now (request_of lift) ∷ [] }
     {
         CleanUp {
-            number: who.server(id),
+            target: Target::One(who.server(id)),
             lift,
         }
     }
 
-    pub fn message(&self) -> Message
-        ensures { result ≡ self.now }
+    /// The same message to each server.
+    pub fn to_each(who: &Who, lift: Lift) -> Self
+        ensures { result ≡ to_each who.now (request_of lift) }
     {
-        Message {
-            number: self.number,
-            request: request(self.lift),
+        CleanUp {
+            target: Target::Each(who.servers()),
+            lift,
         }
+    }
+
+    /// How many messages it has.
+    #[tactic(auto, using(crate::proofs::CleanUpFacts::size_of))]
+    pub fn size(&self) -> usize
+        ensures size { result ≡ length self.now }
+        ensures some { 0 < result }
+    {
+        self.target.size()
+    }
+
+    /// The message at this index, in the order of the servers.
+    #[tactic(auto, using(crate::proofs::CleanUpFacts::message_at, crate::proofs::CleanUpFacts::message_past))]
+    pub fn message(&self, index: usize) -> Option<Message>
+        ensures { result ≡ slice_get self.now index }
+    {
+        let number = self.target.number(index)?;
+        Some(Message {
+            number,
+            request: request(self.lift),
+        })
     }
 }
 
@@ -59,7 +116,7 @@ fn request(lift: Lift) -> Request
     }
 }
 
-/// At most two messages, one after another.
+/// At most two steps, one after another.
 #[derive(Drop)]
 pub struct CleanUps {
     first: Option<CleanUp>,
@@ -71,7 +128,7 @@ impl Model for CleanUps {
     ghost use Rattle.inf_message.specs.declared.step.Message.{Message};
     ghost use Rattle.inf_message.specs.CleanUp.{in_order};
 
-    ghost Value = { List Message };
+    ghost Value = { List (List Message) };
 
     ghost view = { λ c. in_order c.first c.second };
 }

@@ -1,6 +1,7 @@
 //! What a server answers.
 
 ghost use Rattle.std.specs.Prelude.{◌≡◌, ◌↔◌, IfOk, IsTrue};
+ghost use Rattle.inf_message.specs.Heard.{light};
 
 use inf_base::{
     Access, CallRef, Errno, FileMeta, Items, Key, Kind, NoMemory, Place, Triple, TryClone,
@@ -64,15 +65,13 @@ impl Reply {
     {
         self == other
     }
-}
 
-impl TryClone for Reply {
-    fn try_clone(&self, alloc: Global) -> Result<Self, NoMemory> {
-        Ok(match self {
-            Reply::Found { key, access } => Reply::Found {
-                key: key.try_clone(alloc)?,
-                access: access.try_clone(alloc)?,
-            },
+    /// What is kept of it without taking memory.
+    pub fn light(&self) -> Reply
+        ensures { result ≡ light self.now }
+    {
+        match self {
+            Reply::Found { .. } | Reply::Clash(_) | Reply::Listing(_) => Reply::Other,
             Reply::Absent { born } => Reply::Absent { born: *born },
             Reply::IsFile { born } => Reply::IsFile { born: *born },
             Reply::NoDir => Reply::NoDir,
@@ -87,14 +86,27 @@ impl TryClone for Reply {
             Reply::NoMem => Reply::NoMem,
             Reply::Reserved(version) => Reply::Reserved(*version),
             Reply::Held(meta) => Reply::Held(*meta),
-            Reply::Clash(triple) => Reply::Clash(triple.try_clone(alloc)?),
             Reply::Fine => Reply::Fine,
             Reply::Refused(error) => Reply::Refused(*error),
             Reply::Stat { kind, meta } => Reply::Stat {
                 kind: *kind,
                 meta: *meta,
             },
+        }
+    }
+}
+
+impl TryClone for Reply {
+    #[tactic(auto, using(crate::proofs::ReplyDecides::light_same))]
+    fn try_clone(&self, alloc: Global) -> Result<Self, NoMemory> {
+        Ok(match self {
+            Reply::Found { key, access } => Reply::Found {
+                key: key.try_clone(alloc)?,
+                access: access.try_clone(alloc)?,
+            },
+            Reply::Clash(triple) => Reply::Clash(triple.try_clone(alloc)?),
             Reply::Listing(items) => Reply::Listing(items.try_clone(alloc)?),
+            _ => self.light(),
         })
     }
 }

@@ -2,7 +2,8 @@
 
 ghost use Rattle.std.specs.Prelude.{◌≡◌, ◌==◌, ◌∷◌, [], vec_capacity, MatchOption};
 ghost use Rattle.std.specs.List.{list_all};
-ghost use Rattle.inf_message.specs.Sent.{has_place, is_told, is_wanting, new_sent, told_more, wants_memory};
+ghost use Rattle.std.specs.Option.{option_copied};
+ghost use Rattle.inf_message.specs.Sent.{deciding, has_place, is_fine, is_told, is_wanting, new_sent, told_more, wants_memory};
 
 use crate::reply::Reply;
 use crate::telling::Telling;
@@ -58,6 +59,16 @@ impl Sending {
         }
     }
 
+    /// Whether it has succeeded, as a message does that is sent with others.
+    fn is_fine(&self) -> bool
+        ensures { result ≡ is_fine self.now.told }
+    {
+        match &self.told {
+            Some(told) => matches!(told.reply(), Reply::Fine),
+            None => false,
+        }
+    }
+
     /// The first answer is the one that counts.
     pub fn tell(&mut self, told: Telling)
         ensures { self.new ≡ told_more told self.old }
@@ -65,6 +76,12 @@ impl Sending {
         if self.told.is_none() {
             self.told = Some(told);
         }
+    }
+
+    pub fn told(&self) -> Option<&Telling>
+        ensures { option_copied result ≡ self.now.told }
+    {
+        self.told.as_ref()
     }
 
     pub fn into_told(self) -> Option<Telling>
@@ -94,6 +111,21 @@ pub fn is_one_wanting(sent: &[Sending]) -> bool
     ensures { result ≡ is_wanting sent.now }
 {
     sent.iter().any(|sending| sending.wants_memory())
+}
+
+/// The one that decides its group: the first, in the order of asking, that did not succeed; or the last.
+pub fn deciding(sent: &[Sending]) -> Option<&Sending>
+    ensures { option_copied result ≡ deciding sent.now }
+{
+    let (first, rest) = sent.split_first()?;
+    let mut decides = first;
+    for next in rest {
+        if !decides.is_fine() {
+            return Some(decides);
+        }
+        decides = next;
+    }
+    Some(decides)
 }
 
 /// Takes the first of them. A group has few, so that the others may move up.

@@ -61,6 +61,14 @@ impl Who {
         self.root
     }
 
+    /// How many servers there are, at least one.
+    pub fn servers(&self) -> u32
+        ensures servers { result ≡ self.now.servers }
+        ensures some { 1 ≤ result }
+    {
+        self.servers
+    }
+
     /// The number of the server that keeps the directory of this identifier.
     pub fn server(&self, id: &Id) -> u32
         ensures { result ≡ the_server id.now self.now.servers }

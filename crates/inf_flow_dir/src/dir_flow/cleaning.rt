@@ -1,6 +1,7 @@
 //! What is cleaned up behind a flow.
 
-ghost use Rattle.std.specs.Prelude.{◌≡◌, ◌∷◌, Some};
+ghost use Rattle.std.specs.Prelude.{◌≡◌, ◌∷◌, [], Some};
+ghost use Rattle.inf_message.specs.CleanUp.{one_by_one};
 ghost use Rattle.inf_message.specs.declared.request.Request.TheVariants as request;
 ghost use Rattle.inf_message.specs.Chain.{last_dir};
 ghost use Rattle.inf_message.specs.Who.{lift};
@@ -11,7 +12,7 @@ use inf_base::{DirRef, Entry, Id, Key, Triple};
 use inf_message::{CleanUp, CleanUps, Lift, Who, dir_of, last_dir, way_to};
 
 impl DirFlow {
-    /// What is cleaned up where the next message does not succeed, or is not sent for want of memory.
+    /// What is cleaned up where the next group does not succeed, or is not sent for want of memory.
     pub fn clean_up(&self, who: &Who) -> CleanUps
         ensures { result ≡ clean_up who.now self.now }
     {
@@ -28,7 +29,7 @@ impl DirFlow {
 
 /// Gives the name back that was kept in the directory that the chain leads to.
 pub fn cancel(who: &Who, chain: &[Entry]) -> CleanUp
-    ensures { result ≡ lift who.now (last_dir chain.now) request.Cancel }
+    ensures { result ≡ lift who.now (last_dir chain.now) request.Cancel ∷ [] }
 {
     let dir = last_dir(chain);
     CleanUp::to(who, &dir.id, Lift::Cancel(dir))
@@ -36,14 +37,14 @@ pub fn cancel(who: &Who, chain: &[Entry]) -> CleanUp
 
 /// Takes the content of a directory.
 pub fn drops(who: &Who, dir: DirRef) -> CleanUp
-    ensures { result ≡ lift who.now dir request.Drop }
+    ensures { result ≡ lift who.now dir request.Drop ∷ [] }
 {
     CleanUp::to(who, &dir.id, Lift::Drop(dir))
 }
 
 /// Opens the directory again that the chain leads to.
 pub fn unseal(who: &Who, chain: &[Entry]) -> CleanUp
-    ensures { result ≡ lift who.now (last_dir chain.now) request.Unseal }
+    ensures { result ≡ lift who.now (last_dir chain.now) request.Unseal ∷ [] }
 {
     let dir = last_dir(chain);
     CleanUp::to(who, &dir.id, Lift::Unseal(dir))
@@ -80,7 +81,7 @@ pub fn after_unlink(who: &Who, chain: &[Entry]) -> CleanUps
 }
 
 fn with_row(who: &Who, content: CleanUp, parent: &Id, entry: &Entry) -> CleanUps
-    ensures { result ≡ content ∷ row_of who.now parent.now (Some entry.now) }
+    ensures { result ≡ content ∷ one_by_one (row_of who.now parent.now (Some entry.now)) }
 {
     let access = &entry.access;
     if lives_at(parent, &entry.key, &access.birth) {

@@ -1,10 +1,10 @@
 //! The messages of a flow.
 
-ghost use Rattle.std.specs.Prelude.{◌≡◌, IfOk};
+ghost use Rattle.std.specs.Prelude.{◌≡◌, length, slice_get, IfOk};
 ghost use Rattle.inf_message.specs.declared.request.Request.TheVariants as request;
 ghost use Rattle.inf_message.specs.Chain.{way_to};
-ghost use Rattle.inf_message.specs.Who.{birth_of, last_id, to};
-ghost use Rattle.inf_flow_dir.specs.DirFlow.{message_of};
+ghost use Rattle.inf_message.specs.Who.{Who as Whom, birth_of, last_id, to};
+ghost use Rattle.inf_flow_dir.specs.DirFlow.{group, message_of};
 
 use super::DirFlow;
 use inf_base::{Chain, DirRef, Id, Name, NoMemory, Triple, TryClone};
@@ -12,8 +12,30 @@ use inf_message::{Message, Request, Who, way_to};
 use std::alloc::Global;
 
 impl DirFlow {
-    /// The message that is next, or waited for.
-    pub fn message(&self, alloc: Global, who: &Who) -> Result<Message, NoMemory>
+    /// How many messages the group has, whoever sends it.
+    pub fn group_size(&self) -> usize
+        ensures { (who : Whom) → length (group who self.now) ≡ result }
+    {
+        let _ = self;
+        1
+    }
+
+    /// The message of this index in the group, if there is one.
+    pub fn message(
+        &self,
+        alloc: Global,
+        who: &Who,
+        index: usize,
+    ) -> Result<Option<Message>, NoMemory>
+        ensures { IfOk result (λ made. made ≡ slice_get (group who.now self.now) index) }
+    {
+        if index > 0 {
+            return Ok(None);
+        }
+        Ok(Some(self.only(alloc, who)?))
+    }
+
+    fn only(&self, alloc: Global, who: &Who) -> Result<Message, NoMemory>
         ensures { IfOk result (λ made. made ≡ message_of who.now self.now) }
     {
         match self {

@@ -6,7 +6,7 @@ ghost use Rattle.inf_message.specs.declared.reply.Reply.TheVariants as reply;
 ghost use Rattle.inf_message.specs.Turn.{goes_on};
 ghost use Rattle.inf_message.specs.Who.{Who as Whom};
 ghost use Rattle.inf_flow_dir.specs.declared.dir_flow.DirFlow.TheVariants as step;
-ghost use Rattle.inf_flow_dir.specs.DirFlow.{after};
+ghost use Rattle.inf_flow_dir.specs.DirFlow.{after_reply};
 
 use super::DirFlow;
 use super::cleaning::{after_unlink, cancel, drops, unseal};
@@ -15,7 +15,7 @@ use inf_birth::{IdRule, identity_of};
 use inf_message::{CleanUps, Ending, NameRoom, Reply, Turn, Who, done, failed};
 
 impl DirFlow {
-    /// What comes of the reply to the message that was sent. The room is for the triple that a clash names, and is
+    /// What comes of the reply that decides the group. The room is for the triple that a clash names, and is
     /// used up by that alone.
     pub fn next<R: IdRule>(
         self,
@@ -27,7 +27,7 @@ impl DirFlow {
         room: &mut Option<NameRoom>,
     ) -> Turn<DirFlow>
         requires room { is_some room.old ≡ true }
-        ensures turn { result ≡ after (R.digest_of rule.now) who.now self ask_place serve_place reply.now }
+        ensures turn { result ≡ after_reply (R.digest_of rule.now) who.now self ask_place serve_place reply.now }
         ensures room { goes_on result ≡ true → is_some room.new ≡ true }
     {
         match self {
@@ -75,7 +75,7 @@ fn after_reserve<R: IdRule>(
     reply: &Reply,
 ) -> Turn<DirFlow>
     ensures { (asked : ℕ) → result
-        ≡ after (R.digest_of rule.now) who.now (step.Reserves chain name mode) asked place reply.now }
+        ≡ after_reply (R.digest_of rule.now) who.now (step.Reserves chain name mode) asked place reply.now }
 {
     match reply {
         Reply::Reserved(version) => {
@@ -104,7 +104,7 @@ fn clash(
 ) -> Turn<DirFlow>
     requires room { is_some room.old ≡ true }
     ensures turn { (digest : List ℕ → Id) (mode asked : ℕ) (id : Id) → result
-        ≡ after digest who.now (step.Makes chain name mode version id) asked place (reply.Clash kept.now) }
+        ≡ after_reply digest who.now (step.Makes chain name mode version id) asked place (reply.Clash kept.now) }
     ensures over { goes_on result ≡ false }
 {
     let Some(room) = room.take() else {
@@ -122,7 +122,7 @@ fn clash(
 
 fn after_link(who: &Who, chain: Chain, dir: DirRef, place: Place, reply: &Reply) -> Turn<DirFlow>
     ensures { (digest : List ℕ → Id) (name : List ℕ) (mode version asked : ℕ) → result
-        ≡ after digest who.now (step.Links chain name mode version dir) asked place reply.now }
+        ≡ after_reply digest who.now (step.Links chain name mode version dir) asked place reply.now }
 {
     match reply {
         Reply::Fine => done(place, CleanUps::none()),
@@ -135,7 +135,7 @@ fn after_link(who: &Who, chain: Chain, dir: DirRef, place: Place, reply: &Reply)
 
 fn after_seal(chain: Chain, place: Place, reply: &Reply) -> Turn<DirFlow>
     ensures { (digest : List ℕ → Id) (who : Whom) (asked : ℕ) → result
-        ≡ after digest who (step.Seals chain) asked place reply.now }
+        ≡ after_reply digest who (step.Seals chain) asked place reply.now }
 {
     match reply {
         Reply::Fine => Turn::GoesOn(DirFlow::Unlinks(chain)),
@@ -145,7 +145,7 @@ fn after_seal(chain: Chain, place: Place, reply: &Reply) -> Turn<DirFlow>
 
 fn after_unlinking(who: &Who, chain: Chain, place: Place, reply: &Reply) -> Turn<DirFlow>
     ensures { (digest : List ℕ → Id) (asked : ℕ) → result
-        ≡ after digest who.now (step.Unlinks chain) asked place reply.now }
+        ≡ after_reply digest who.now (step.Unlinks chain) asked place reply.now }
 {
     match reply {
         Reply::Fine => done(place, after_unlink(who, chain.as_slice())),

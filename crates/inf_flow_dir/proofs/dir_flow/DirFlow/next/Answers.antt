@@ -5,7 +5,7 @@ use Rattle.inf_message.specs.Chain.{last_dir}
 use Rattle.inf_message.specs.Turn.{fails}
 use Rattle.inf_message.specs.Who.{lift}
 use Rattle.inf_flow_dir.specs.declared.dir_flow.DirFlow.TheVariants as step
-use Rattle.inf_flow_dir.specs.DirFlow.{after}
+use Rattle.inf_flow_dir.specs.DirFlow.{after_reply}
 use Rattle.inf_flow_dir.proofs.ReplyFacts.{at_step, unless_made}
 use Rattle.inf_flow_dir.proofs.dir_flow.DirFlow.next.Goals as goal
 
@@ -19,7 +19,7 @@ returns-in-Clash-clause-turn g c =
     let digest = g.R.IdRule.digest_of c.args.rule.now in
     let made = step.Makes c.in-Makes.chain c.in-Makes.name c.in-Makes.mode c.in-Makes.version c.in-Makes.id in
     at_step (g.R.IdRule.digest_of c.args.rule.now) c.args.who.now c.args.self (made) c.args.ask_place c.args.serve_place c.args.reply.now c.clash.result c.in-Makes.is
-    (subst (λ (r : Reply). c.clash.result ≡ after digest c.args.who.now made c.args.ask_place c.args.serve_place r) (sym c.in-Clash.is)
+    (subst (λ (r : Reply). c.clash.result ≡ after_reply digest c.args.who.now made c.args.ask_place c.args.serve_place r) (sym c.in-Clash.is)
     (c.clash.ensures.turn digest c.in-Makes.mode c.args.ask_place c.in-Makes.id))
 
 pub returns-in-Makes : goal.returns-in-Makes
@@ -28,7 +28,7 @@ returns-in-Makes g c =
     let who = c.args.who.now in
     let made = step.Makes c.in-Makes.chain c.in-Makes.name c.in-Makes.mode c.in-Makes.version c.in-Makes.id in
     let slice = c.as_slice.ensures ∙ c.deref.ensures in
-    let cancel = c.cancel.ensures ∙ ap (λ chain. lift who (last_dir chain) request.Cancel) slice in
+    let cancel = c.cancel.ensures ∙ ap (λ chain. lift who (last_dir chain) request.Cancel ∷ []) slice in
     let one = c.one.ensures ∙ ap (λ a. a ∷ []) cancel in
     record {
       turn = at_step (g.R.IdRule.digest_of c.args.rule.now) c.args.who.now c.args.self (made) c.args.ask_place c.args.serve_place c.args.reply.now c.failed.result c.in-Makes.is

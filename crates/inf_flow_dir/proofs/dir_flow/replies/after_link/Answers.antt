@@ -10,7 +10,7 @@ pub returns : goal.returns
 returns c digest name mode version asked =
     let who = c.args.who.now in
     let slice = c.as_slice.ensures ∙ c.deref.ensures in
-    let cancel = c.cancel.ensures ∙ ap (λ chain. lift who (last_dir chain) request.Cancel) slice in
+    let cancel = c.cancel.ensures ∙ ap (λ chain. lift who (last_dir chain) request.Cancel ∷ []) slice in
     let two = c.two-clean_ups.ensures ∙ ap₂ (λ a b. a ∷ b ∷ []) c.drops.ensures cancel in
     c.failed.ensures ∙ ap (λ clean_ups. fails clean_ups c.args.place c.args.reply.now) two
     ∙ unless_linked digest who c.args.chain name mode version c.args.dir asked c.args.place c.args.reply.now c.in_default.not-Fine

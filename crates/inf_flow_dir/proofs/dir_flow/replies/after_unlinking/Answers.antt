@@ -10,7 +10,7 @@ pub returns : goal.returns
 returns c digest asked =
     let who = c.args.who.now in
     let slice = c.as_slice-in_default.ensures ∙ c.deref-in_default.ensures in
-    let unseal = c.unseal.ensures ∙ ap (λ chain. lift who (last_dir chain) request.Unseal) slice in
+    let unseal = c.unseal.ensures ∙ ap (λ chain. lift who (last_dir chain) request.Unseal ∷ []) slice in
     let one = c.one-clean_ups.ensures ∙ ap (λ a. a ∷ []) unseal in
     c.failed.ensures ∙ ap (λ clean_ups. fails clean_ups c.args.place c.args.reply.now) one
     ∙ unless_unlinked digest who c.args.chain asked c.args.place c.args.reply.now c.in_default.not-Fine
