@@ -22,7 +22,7 @@ keeps_answer place told before now rooms_before rooms next_rooms i x y kept with
 
 -- the client between its two parts: the turn is taken, the Serve counted, and what follows is still to come
 pub ends_alone : (digest : List ℕ → Id) (s taken : ClientState) (counts : Counts) (t : Turn Stage) (place : ℕ) (told : Told)
-    → length s.sent ≡ 1 → has_place place s.sent ≡ true → has_one_message s.stage ≡ true
+    → length s.sent ≡ 1 → has_place place s.sent ≡ true → has_one_message s.who s.stage ≡ true
     → t ≡ turn_at digest (recorded place told s) s.stage → taken ≡ record s { stage = compose; sent = [] }
     → counts ≡ with_serve told.serve_place taken.counts
     → turned t (record taken { counts = counts }) ≡ served digest place told s

@@ -24,13 +24,13 @@ winding_given_in : (s : ClientState) (x : Stage) → is_winding x ≡ true → g
 winding_given_in s compose is = absurd (cc)
 winding_given_in s (round keys) is = absurd (cc)
 winding_given_in s (act flow) is = absurd (cc)
-winding_given_in s (winds end m ms) is = refl
+winding_given_in s (winds end ms later) is = refl
 
 settled_stage : (digest : List ℕ → Id) (s : ClientState) (x : Stage) → is_compose x ≡ false → x ≡ composed_stage digest s x
 settled_stage digest s compose settled = absurd (cc)
 settled_stage digest s (round keys) settled = refl
 settled_stage digest s (act flow) settled = refl
-settled_stage digest s (winds end m ms) settled = refl
+settled_stage digest s (winds end ms later) settled = refl
 
 same_stage : (s : ClientState) (next : Stage) → s.stage ≡ next → s ≡ record s { stage = next }
 same_stage s next is = ap (λ (x : Stage). record s { stage = x }) is
@@ -52,7 +52,7 @@ winding_settled : (x : Stage) → is_winding x ≡ true → is_compose x ≡ fal
 winding_settled compose is = absurd (cc)
 winding_settled (round keys) is = absurd (cc)
 winding_settled (act flow) is = absurd (cc)
-winding_settled (winds end m ms) is = refl
+winding_settled (winds end ms later) is = refl
 
 either_same : (b c : Bool) (x y s : ClientState) → c ≡ false → y ≡ s → cond b (cond c x s) y ≡ s
 either_same true c x y s idle same = rw idle refl
@@ -77,27 +77,27 @@ winding_stays digest number asked (next ∷ calls) s is =
 
 -- ---- a call is given up
 
-wound_left : (end : Ending) (ms : List Message) (s : ClientState) → end ≡ ending.Answers answer.NoMemory None → ((wound end ms s).left ≡ rest_of s.left) ⊎ (is_winding (wound end ms s).stage ≡ true)
+wound_left : (end : Ending) (more : List (List Message)) (s : ClientState) → end ≡ ending.Answers answer.NoMemory None → ((wound end more s).left ≡ rest_of s.left) ⊎ (is_winding (wound end more s).stage ≡ true)
 wound_left (ending.Answers given place) [] s is = inl refl
 wound_left ending.Retries [] s is = absurd (cc)
-wound_left end (m ∷ ms) s is = inr refl
+wound_left end (ms ∷ later) s is = inr refl
 
 given_left_in : (s : ClientState) (x : Stage) → is_winding x ≡ false → ((given_up_in s x).left ≡ rest_of s.left) ⊎ (is_winding (given_up_in s x).stage ≡ true)
 given_left_in s compose going = inl refl
 given_left_in s (round keys) going = inl refl
 given_left_in s (act flow) going = wound_left (ending.Answers answer.NoMemory None) (clean_up s.who flow) s refl
-given_left_in s (winds end m ms) going = absurd (cc)
+given_left_in s (winds end ms later) going = absurd (cc)
 
-wound_sent : (given : Ending) (ms : List Message) (s : ClientState) → (wound given ms s).sent ≡ []
+wound_sent : (given : Ending) (more : List (List Message)) (s : ClientState) → (wound given more s).sent ≡ []
 wound_sent (ending.Answers given place) [] s = refl
 wound_sent ending.Retries [] s = refl
-wound_sent end (m ∷ ms) s = refl
+wound_sent end (ms ∷ later) s = refl
 
 given_sent_in : (s : ClientState) (x : Stage) → is_winding x ≡ false → (given_up_in s x).sent ≡ []
 given_sent_in s compose going = refl
 given_sent_in s (round keys) going = refl
 given_sent_in s (act flow) going = wound_sent (ending.Answers answer.NoMemory None) (clean_up s.who flow) s
-given_sent_in s (winds end m ms) going = absurd (cc)
+given_sent_in s (winds end ms later) going = absurd (cc)
 
 -- a client that gives up has sent nothing
 pub given_sent : (s : ClientState) → is_winding s.stage ≡ false → (given_up s).sent ≡ []
@@ -145,20 +145,20 @@ gives_up digest number asked s unlike may = by s.left refl
         (λ w. winding_stays digest number asked (given_up s).left (given_up s) w ∙ sym (winding_stays digest number asked calls (given_up s) w) ∙ sym step)
         (given_left_in s s.stage (may_goes s may))
 
-weight_wound : (end : Ending) (ms : List Message) (s : ClientState) → end ≡ ending.Answers answer.NoMemory None → 0 < length s.left → weight (wound end ms s) < length s.left + 1
+weight_wound : (end : Ending) (more : List (List Message)) (s : ClientState) → end ≡ ending.Answers answer.NoMemory None → 0 < length s.left → weight (wound end more s) < length s.left + 1
 weight_wound (ending.Answers given place) [] s is some = rest s.left some
   where
     rest : (left : List Call) → 0 < length left → length (rest_of left) + 1 < length left + 1
     rest [] some = absurd (omega arith)
     rest (next ∷ calls) some = omega arith
 weight_wound ending.Retries [] s is some = absurd (cc)
-weight_wound end (m ∷ ms) s is some = omega arith
+weight_wound end (ms ∷ later) s is some = omega arith
 
 weight_in : (s : ClientState) (x : Stage) → is_winding x ≡ false → 0 < length s.left → weight (given_up_in s x) < length s.left + 1
 weight_in s compose going some = weight_wound (ending.Answers answer.NoMemory None) [] s refl some
 weight_in s (round keys) going some = weight_wound (ending.Answers answer.NoMemory None) [] s refl some
 weight_in s (act flow) going some = weight_wound (ending.Answers answer.NoMemory None) (clean_up s.who flow) s refl some
-weight_in s (winds end m ms) going some = absurd (cc)
+weight_in s (winds end ms later) going some = absurd (cc)
 
 weight_is : (s : ClientState) → is_winding s.stage ≡ false → weight s ≡ length s.left + 1
 weight_is s going = rw going refl

@@ -24,16 +24,16 @@ use Rattle.inf_message.specs.History.{Told, told_reply}
 abbrev TookAtMost : ℕ → ClientState → Type 0
 TookAtMost count s = s.counts.messages ≤ count
 
-wound_took : (count : ℕ) (end : Ending) (ms : List Message) (s : ClientState) → TookAtMost count s → TookAtMost count (wound end ms s)
+wound_took : (count : ℕ) (end : Ending) (more : List (List Message)) (s : ClientState) → TookAtMost count s → TookAtMost count (wound end more s)
 wound_took count (ending.Answers given place) [] s took = omega arith
 wound_took count ending.Retries [] s took = took
-wound_took count end (m ∷ ms) s took = took
+wound_took count end (ms ∷ later) s took = took
 
 given_took_in : (count : ℕ) (s : ClientState) (x : Stage) → TookAtMost count s → TookAtMost count (given_up_in s x)
 given_took_in count s compose took = omega arith
 given_took_in count s (round keys) took = omega arith
 given_took_in count s (act flow) took = wound_took count (ending.Answers answer.NoMemory None) (clean_up s.who flow) s took
-given_took_in count s (winds end m ms) took = took
+given_took_in count s (winds end ms later) took = took
 
 took_kept : (digest : List ℕ → Id) (count : ℕ) → IsKept digest (TookAtMost count)
 took_kept digest count = record { composing = λ s took. took; giving_up = λ s took. given_took_in count s s.stage took }
@@ -53,7 +53,7 @@ learned_took : (count : ℕ) (x : Stage) (s : ClientState) → TookAtMost count 
 learned_took count compose s took = took
 learned_took count (round keys) s took = took
 learned_took count (act flow) s took = took
-learned_took count (winds end m ms) s took = took
+learned_took count (winds end ms later) s took = took
 
 settled_took : (digest : List ℕ → Id) (count : ℕ) (complete : Bool) (s : ClientState) → TookAtMost count s → TookAtMost count (settled digest complete s)
 settled_took digest count true s took =

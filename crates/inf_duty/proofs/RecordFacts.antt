@@ -1,13 +1,14 @@
 -- One answer among the Asks of a group.
-use Rattle.std.proofs.Common.{◌≡◌, ℕ, zero, suc, ◌+◌, ◌<◌, ◌≤◌, ◌&&◌, eqb, Bool, true, false, List, [], ◌∷◌, length, get_or, map, refl, sym, ap, ◌∙◌, arith}
+use Rattle.std.proofs.Common.{◌≡◌, ℕ, zero, suc, ◌+◌, ◌<◌, ◌≤◌, ◌&&◌, eqb, Bool, true, false, List, [], ◌∷◌, ◌++◌, length, get_or, map, None, refl, sym, ap, ◌∙◌, arith}
 use Rattle.std.proofs.Math.ListN.{set}
-use Rattle.inf_duty.specs.Kept.{AloneOrFits, RoomsFit, told_count}
+use Rattle.inf_duty.specs.Kept.{IsOpenAlone, RoomsFit, told_count}
 use Rattle.inf_duty.specs.Messages.{has_one_message}
-use Rattle.inf_duty.specs.Standing.{stage_of}
+use Rattle.inf_message.specs.Who.{Who}
+use Rattle.std.proofs.lemmas.Bool.Decides.{nat_tests}
 use Rattle.inf_duty.specs.declared.standing.Standing.{Standing}
 use Rattle.inf_duty.specs.declared.standing.Standing.TheVariants as standing
-use Rattle.inf_duty.specs.ClientState.{one_if}
-use Rattle.inf_message.specs.Sent.{Sent, is_told, told_at}
+use Rattle.inf_duty.specs.ClientState.{Stage, act, compose, is_round, one_if, round, winds}
+use Rattle.inf_message.specs.Sent.{Sent, is_told, new_sent, told_at}
 use Rattle.inf_message.specs.History.{Told}
 
 -- the first so many changed
@@ -97,19 +98,62 @@ keeps_more place told before now rooms_before rooms next_rooms i x kept within i
       rooms_left = omega (arith, count, took, kept.rooms_left);
     }
 
--- where more than one answer is kept, an answer takes the room that was made for it
-alone_or_fits : (rooms less : ℕ) (sent told : List Sent) → length told ≡ length sent → less + told_count told ≡ rooms + told_count sent → eqb (length sent) 1 ≡ false
-    → AloneOrFits rooms sent → AloneOrFits less told
-alone_or_fits rooms less [] [] same taken apart fits = tt
-alone_or_fits rooms less [] (y ∷ told) same taken apart fits = absurd (omega (arith, same))
-alone_or_fits rooms less (x ∷ []) told same taken apart fits = absurd cc
-alone_or_fits rooms less (x ∷ x2 ∷ sent) [] same taken apart fits = absurd (omega (arith, same))
-alone_or_fits rooms less (x ∷ x2 ∷ sent) (y ∷ []) same taken apart fits = absurd (omega (arith, same))
-alone_or_fits rooms less (x ∷ x2 ∷ sent) (y ∷ y2 ∷ told) same taken apart fits = omega (arith, same, taken, fits)
-
 pub fits_recorded : (stands : Standing) (rooms less : ℕ) (sent told : List Sent) → length told ≡ length sent → less + told_count told ≡ rooms + told_count sent
-    → (has_one_message (stage_of stands) && eqb (length sent) 1) ≡ false → RoomsFit stands rooms sent → RoomsFit stands less told
-fits_recorded standing.Compose rooms less sent told same taken apart fits = omega (arith, same, taken, fits)
-fits_recorded (standing.Round keys) rooms less sent told same taken apart fits = (omega (arith, taken, fits.0), omega (arith, same, taken, fits.1))
-fits_recorded (standing.Act step) rooms less sent told same taken apart fits = alone_or_fits rooms less sent told same taken apart fits
-fits_recorded (standing.Winds end first rest) rooms less sent told same taken apart fits = alone_or_fits rooms less sent told same taken apart fits
+    → RoomsFit stands rooms sent → RoomsFit stands less told
+fits_recorded standing.Compose rooms less sent told same taken fits = tt
+fits_recorded (standing.Round keys) rooms less sent told same taken fits = (omega (arith, taken, fits.0), omega (arith, same, taken, fits.1))
+fits_recorded (standing.Act step) rooms less sent told same taken fits = tt
+fits_recorded (standing.Winds end first rest) rooms less sent told same taken fits = tt
+
+-- ---- an Ask that is alone in its group
+
+none_open : (x : Sent) → [] ≡ x ∷ [] → ⊥
+none_open x is = cc
+
+pub open_between : (who : Who) (stage : Stage) (sent : List Sent) → sent ≡ [] → IsOpenAlone who stage sent
+open_between who stage sent none = record { untold = λ x is one. absurd (none_open x (sym none ∙ is)) }
+
+pub open_placed : (who : Who) (stage : Stage) (sent now : List Sent) (place : ℕ) → now ≡ sent ++ new_sent place ∷ [] → IsOpenAlone who stage now
+open_placed who stage sent now place is = record { untold = λ x only one. by sent x (sym is ∙ only) }
+  where
+    by : (xs : List Sent) (x : Sent) → xs ++ new_sent place ∷ [] ≡ x ∷ [] → x.told ≡ None
+    by [] x only = let same : new_sent place ≡ x = cc in ap (λ (y : Sent). y.told) (sym same)
+    by (y ∷ []) x only = absurd cc
+    by (y ∷ z ∷ xs) x only = absurd cc
+
+-- where an answer is kept, its Ask is not alone
+pub open_recorded : (who : Who) (stage : Stage) (sent now : List Sent) → length now ≡ length sent → (has_one_message who stage && eqb (length sent) 1) ≡ false
+    → IsOpenAlone who stage now
+open_recorded who stage sent now same apart = record { untold = λ x only one. absurd (by one (sym same ∙ ap length only)) }
+  where
+    by : has_one_message who stage ≡ true → length sent ≡ 1 → ⊥
+    by one alone =
+        let here : eqb (length sent) 1 ≡ true = grind (arith, nat_tests) in
+        cc
+
+pub open_round : (who : Who) (stage : Stage) (sent : List Sent) → is_round stage ≡ true → IsOpenAlone who stage sent
+open_round who stage sent is = record { untold = λ x only one. absurd (by stage is one) }
+  where
+    by : (next : Stage) → is_round next ≡ true → has_one_message who next ≡ true → ⊥
+    by compose is one = cc
+    by (round keys) is one = cc
+    by (act step) is one = cc
+    by (winds end ms later) is one = cc
+
+-- ---- an answer that takes no room
+
+pub record HasNoted (place : ℕ) (told : Told) (before now : List Sent) (i : ℕ) : Type 0 where
+  pub same : now ≡ changed i (told_at place told) before
+
+pub notes_none : (place : ℕ) (told : Told) (before : List Sent) → HasNoted place told before before 0
+notes_none place told before = record { same = refl }
+
+pub notes_more : (place : ℕ) (told : Told) (before now : List Sent) (i : ℕ) (x y : Sent) → HasNoted place told before now i
+    → i < length before → x ≡ get_or now i x → y ≡ told_at place told x → HasNoted place told before (set now i y) (i + 1)
+notes_more place told before now i x y noted within is answered =
+    let f = told_at place told in
+    let one : i + 1 ≡ suc i = omega arith in
+    record {
+      same = rw one (ap (λ (w : Sent). set now i w) answered ∙ ap (λ xs. set xs i (f x)) noted.same
+          ∙ changed_more_at f before i x within (is ∙ ap (λ xs. get_or xs i x) noted.same));
+    }

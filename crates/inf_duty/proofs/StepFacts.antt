@@ -2,6 +2,7 @@
 use Rattle.std.proofs.Common.{◌≡◌, ◌≢◌, ℕ, zero, suc, ◌<◌, ◌≤◌, Bool, true, false, not, ◌&&◌, nat_lt, List, [], ◌∷◌, length, map, slice_get, Option, Some, None, is_some, Decides, refl, sym, ap, ◌∙◌, arith}
 use Rattle.std.proofs.lemmas.Bool.{lt-ltb}
 use Rattle.std.proofs.lemmas.Bool.Decides.{Decides-like}
+use Rattle.std.proofs.lemmas.List.{length-map}
 use Rattle.inf_base.specs.declared.id.Id.{Id}
 use Rattle.inf_base.specs.declared.call.Call.{Call}
 use Rattle.inf_base.specs.declared.key.LookKey.{LookKey}
@@ -12,12 +13,15 @@ use Rattle.inf_duty.specs.Messages.{are_none, is_compose, post_of}
 use Rattle.inf_duty.specs.Standing.{stage_of}
 use Rattle.inf_duty.specs.declared.standing.Standing.{Standing}
 use Rattle.inf_duty.specs.declared.standing.Standing.TheVariants as standing
-use Rattle.inf_duty.proofs.BegunFacts.{ask_left, both}
+use Rattle.inf_duty.proofs.BegunFacts.{ask_left, both, built_left}
+use Rattle.inf_duty.proofs.FlowFacts.{message_of, messages_are}
+use Rattle.inf_duty.specs.declared.flow.Flow.{Flow}
+use Rattle.inf_duty.specs.Flow.{messages_of}
 use Rattle.inf_duty.specs.ClientState.{ClientState, Stage, act, compose, round, winds}
 use Rattle.inf_duty.specs.Group.{composed, composed_stage, group, next_stage, stage_by}
 use Rattle.inf_duty.specs.declared.course.Course.{Course}
 use Rattle.inf_duty.specs.declared.course.Deed.{Deed}
-use Rattle.inf_duty.specs.Course.{next_course}
+use Rattle.inf_duty.specs.Course.{flow_at, next_course}
 use Rattle.inf_resolve.specs.declared.known.Known.{Known}
 use Rattle.inf_resolve.specs.declared.resolved.Resolved.{Resolved}
 use Rattle.inf_resolve.specs.declared.resolved.Resolved.TheVariants as comes
@@ -46,9 +50,14 @@ GoesOnAsking who what r =
     verdict_of r ≡ verdict.GoesOn → ((keys : List LookKey) → r ≡ comes.Asks keys → 0 < length keys)
     → (slice_get (group who (stage_by what r)) 0 ≡ None → ⊥) × (is_compose (stage_by what r) ≡ false)
 
+step_asks : (who : Who) (step : Flow) → slice_get (messages_of who step) 0 ≡ None → ⊥
+step_asks who step none =
+    let no_one : slice_get (message_of who step ∷ []) 0 ≡ None = ap (λ (ms : List Message). slice_get ms 0) (sym (messages_are who step)) ∙ none in
+    cc
+
 goes_on_asking : (who : Who) (what : Deed) (r : Resolved) → GoesOnAsking who what r
 goes_on_asking who what (comes.Asks keys) on some = (some_key who keys (some keys refl), refl)
-goes_on_asking who what (comes.Leads old new) on some = (λ none. cc, refl)
+goes_on_asking who what (comes.Leads old new) on some = (step_asks who (flow_at what old.chain old.left), refl)
 goes_on_asking who what (comes.IsBusy by place) on some = absurd cc
 goes_on_asking who what comes.Lacks on some = absurd cc
 
@@ -68,7 +77,7 @@ composed_there : (digest : List ℕ → Id) (s : ClientState) (stage : Stage) �
 composed_there digest s compose undecided built some none = (course_asks digest s.who s.known s.left (next_course s.left) refl undecided built).0 none
 composed_there digest s (round keys) undecided built some none = some_first (group s.who (round keys)) some none
 composed_there digest s (act flow) undecided built some none = some_first (group s.who (act flow)) some none
-composed_there digest s (winds ending m ms) undecided built some none = some_first (group s.who (winds ending m ms)) some none
+composed_there digest s (winds ending ms later) undecided built some none = some_first (group s.who (winds ending ms later)) some none
 
 -- where there is an ask to make between two groups, it is the next step
 pub asks_there : (digest : List ℕ → Id) (s : ClientState) → IsUndecided s.left s.known → s.sent ≡ [] → has_ask s ≡ true → is_ask (next_step (composed digest s)) ≡ true
@@ -79,9 +88,18 @@ asks_there digest s undecided between there =
     ∙ some_ask (composed digest s) (slice_get (group s.who (composed_stage digest s s.stage)) 0)
     (composed_there digest s s.stage undecided they.0 they.1)
 
+some_messages : (ms : List Message) (size : ℕ) → length ms ≡ size → not (are_none ms) ≡ nat_lt 0 size
+some_messages [] size is = ap (nat_lt 0) is
+some_messages (m ∷ ms) size is = sym (lt-ltb 0 size (omega (arith, is)))
+
 pub keys_ask : (who : Who) (keys : List LookKey) → not (are_none (map (lookup_of who) keys)) ≡ nat_lt 0 (length keys)
-keys_ask who [] = refl
-keys_ask who (key ∷ keys) = sym (lt-ltb 0 (length (key ∷ keys)) (omega arith))
+keys_ask who keys = some_messages (map (lookup_of who) keys) (length keys) (length-map keys (lookup_of who))
+
+pub step_sized : (who : Who) (step : Flow) (size : ℕ) → length (messages_of who step) ≡ size → not (are_none (messages_of who step)) ≡ nat_lt 0 size
+step_sized who step size is = some_messages (messages_of who step) size is
+
+pub winds_sized : (ms : List Message) (size : ℕ) → length ms ≡ size → not (are_none ms) ≡ nat_lt 0 size
+winds_sized ms size is = some_messages ms size is
 
 pub over_next : (s : ClientState) → s.left ≡ [] → next_step s ≡ is_over
 over_next s over = ap (next_in s) over
@@ -118,7 +136,7 @@ no_message : (digest : List ℕ → Id) (s : ClientState) (stage : Stage) (at : 
 no_message digest s compose at none = absurd (cc)
 no_message digest s (round keys) at none = none_there (group s.who (round keys)) at none
 no_message digest s (act flow) at none = none_there (group s.who (act flow)) at none
-no_message digest s (winds ending m ms) at none = none_there (group s.who (winds ending m ms)) at none
+no_message digest s (winds ending ms later) at none = none_there (group s.who (winds ending ms later)) at none
 
 -- so does one that has come to a call, or to a message, that is not built
 pub waits_askless : (digest : List ℕ → Id) (s : ClientState) (stands : Standing) → s.stage ≡ stage_of stands → IsOf s.left stands → has_ask s ≡ false → 0 < length s.left → next_step (composed digest s) ≡ waits
@@ -132,7 +150,7 @@ waits_askless digest s stands at is none left = by (is_some (next_course s.left)
 pub composed_settled : (digest : List ℕ → Id) (s : ClientState) (next : Stage) → IsUndecided s.left s.known → is_some (next_course s.left) ≡ true → is_compose (composed_stage digest s next) ≡ false
 composed_settled digest s (round keys) undecided built = refl
 composed_settled digest s (act flow) undecided built = refl
-composed_settled digest s (winds ending m ms) undecided built = refl
+composed_settled digest s (winds ending ms later) undecided built = refl
 composed_settled digest s compose undecided built = (course_asks digest s.who s.known s.left (next_course s.left) refl undecided built).1
 
 left_in : (s : ClientState) (left : List Call) (number : ℕ) (ask : Ask) → next_in s left ≡ asks number ask → 0 < length left
@@ -155,6 +173,13 @@ next_posted : (s : ClientState) (message : Message) (server : ℕ) (next : Ask) 
     → (server, next) ≡ post_of s message → next_step s ≡ asks server next
 next_posted s message server next some at posted =
     next_in_some s s.left some ∙ ap (next_of s) (sym at) ∙ ap (λ (p : ℕ × Ask). asks p.0 p.1) (sym posted)
+
+-- an ask of what winds the call up, where it is the next
+pub winding_next : (s : ClientState) (message : Message) (index : ℕ) (post : ℕ × Ask) → is_some (next_course s.left) ≡ true
+    → slice_get (group s.who s.stage) index ≡ Some message → post ≡ post_of s message → index ≡ length s.sent → next_step s ≡ asks post.0 post.1
+winding_next s message index post built at posted here =
+    next_posted s message post.0 post.1 (built_left s.left built)
+    (sym at ∙ ap (λ (i : ℕ). slice_get (group s.who s.stage) i) here) posted
 
 number_in : (n m : ℕ) (a b : Ask) → asks n a ≡ asks m b → n ≡ m
 number_in n m a b is = cc

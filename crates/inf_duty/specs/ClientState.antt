@@ -20,10 +20,10 @@ pub data Stage : Type 0 where
   compose : Stage
   -- lookups of these keys, all of which are asked before one is waited for
   round : List LookKey → Stage
-  -- a message of a flow
+  -- the messages of a flow's step
   act : Flow → Stage
-  -- messages whose replies do not matter, one after another, and then the end
-  winds : Ending → Message → List Message → Stage
+  -- messages whose replies do not matter, step after step, and then the end
+  winds : Ending → List Message → List (List Message) → Stage
 
 -- what the call under way took so far
 pub record Counts : Type 0 where
@@ -106,10 +106,10 @@ abbrev pub finished : Ending → ClientState → ClientState
 finished (ending.Answers given place) s = ended given place s
 finished ending.Retries s = begins_again s
 
--- the messages that are left, and then the end
-abbrev pub wound : Ending → List Message → ClientState → ClientState
+-- the steps that are left, and then the end
+abbrev pub wound : Ending → List (List Message) → ClientState → ClientState
 wound end [] s = finished end s
-wound end (m ∷ ms) s = record s { stage = winds end m ms; sent = [] }
+wound end (ms ∷ later) s = record s { stage = winds end ms later; sent = [] }
 
 abbrev pub one_if : Bool → ℕ
 one_if true = 1

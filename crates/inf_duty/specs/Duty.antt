@@ -56,7 +56,7 @@ may_give_up s = has_ask s && not (is_winding s.stage)
 -- a client that wants memory between two groups takes the clean-up of its next step, and gives its call up
 abbrev pub given_up_in : ClientState → Stage → ClientState
 given_up_in s (act flow) = wound (ending.Answers answer.NoMemory None) (clean_up s.who flow) s
-given_up_in s (winds end m ms) = s
+given_up_in s (winds end ms later) = s
 given_up_in s other = ended answer.NoMemory None s
 
 abbrev pub given_up : ClientState → ClientState

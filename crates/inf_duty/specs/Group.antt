@@ -1,5 +1,5 @@
 -- What an attempt asks for next, and the messages of a group.
-use Rattle.std.specs.Prelude.{ℕ, List, [], ◌∷◌, map, Option, Some, None}
+use Rattle.std.specs.Prelude.{ℕ, List, [], map, Option, Some, None}
 use Rattle.inf_base.specs.declared.id.Id.{Id}
 use Rattle.inf_message.specs.declared.step.Message.{Message}
 use Rattle.inf_message.specs.Who.{Who, lookup_of}
@@ -11,7 +11,7 @@ use Rattle.inf_duty.specs.declared.course.Course.{Course}
 use Rattle.inf_duty.specs.declared.course.Deed.{Deed}
 use Rattle.inf_duty.specs.ClientState.{ClientState, Stage, act, compose, round, winds}
 use Rattle.inf_duty.specs.Course.{flow_at, next_course}
-use Rattle.inf_duty.specs.Flow.{message_of}
+use Rattle.inf_duty.specs.Flow.{messages_of}
 
 -- lookups, or the flow; a change in the way, and want of the root, have ended the attempt before
 abbrev pub stage_by : Deed → Resolved → Stage
@@ -32,9 +32,9 @@ composed_stage digest s other = other
 abbrev pub composed : (List ℕ → Id) → ClientState → ClientState
 composed digest s = record s { stage = composed_stage digest s s.stage }
 
--- one round, or one message
+-- the messages that are sent before one of them is waited for
 abbrev pub group : Who → Stage → List Message
 group who compose = []
 group who (round keys) = map (lookup_of who) keys
-group who (act step) = message_of who step ∷ []
-group who (winds ending m ms) = m ∷ []
+group who (act step) = messages_of who step
+group who (winds ending ms later) = ms

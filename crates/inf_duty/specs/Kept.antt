@@ -8,13 +8,18 @@ use Rattle.inf_base.specs.declared.id.Id.{Id}
 use Rattle.inf_base.specs.declared.limits.TheConstants.{MOST_CALLS}
 use Rattle.inf_duty.specs.declared.standing.Standing.{Standing}
 use Rattle.inf_duty.specs.declared.standing.Standing.TheVariants as standing
-use Rattle.inf_duty.specs.ClientState.{ClientState, one_if, result_of}
+use Rattle.inf_duty.specs.ClientState.{ClientState, Stage, one_if, result_of}
 use Rattle.inf_duty.specs.declared.course.Course.{Course}
 use Rattle.inf_duty.specs.declared.course.Deed.{Deed}
 use Rattle.inf_duty.specs.declared.course.Deed.TheVariants as deed
 use Rattle.inf_duty.specs.Course.{next_course}
+use Rattle.inf_message.specs.declared.step.Message.{Message}
+use Rattle.inf_message.specs.declared.turn.Turn.{Turn}
+use Rattle.inf_message.specs.declared.turn.Turn.TheVariants as turn
 use Rattle.inf_message.specs.Sent.{Sent, is_told}
-use Rattle.inf_duty.specs.Messages.{is_winding}
+use Rattle.inf_duty.specs.Messages.{has_one_message, is_winding}
+use Rattle.inf_duty.specs.Standing.{stage_of}
+use Rattle.inf_message.specs.Who.{Who}
 use Rattle.inf_duty.specs.Tally.{without_serves}
 use Rattle.inf_message.specs.declared.call_result.CallResult.{CallResult}
 use Rattle.inf_resolve.specs.declared.known.Known.{Known}
@@ -63,21 +68,30 @@ CourseFits left other course = IfSome course (λ (c : Course). next_course left 
 abbrev pub told_count : List Sent → ℕ
 told_count sent = length (filter is_told sent)
 
--- the answer to an Ask that is alone is kept nowhere; those of more are
-abbrev pub AloneOrFits : ℕ → List Sent → Type 0
-AloneOrFits rooms [] = Unit {0}
-AloneOrFits rooms (x ∷ []) = x.told ≡ None
-AloneOrFits rooms (x ∷ y ∷ sent) = length (x ∷ y ∷ sent) ≤ rooms + told_count (x ∷ y ∷ sent)
-
--- room for each answer of a group that is kept
+-- room for each answer to a round; what is kept of another takes none
 abbrev pub RoomsFit : Standing → ℕ → List Sent → Type 0
-RoomsFit standing.Compose rooms sent = length sent ≤ rooms + told_count sent
 RoomsFit (standing.Round keys) rooms sent =
     (length keys ≤ rooms + told_count sent) × (length sent ≤ rooms + told_count sent)
-RoomsFit (standing.Act flow) rooms sent = AloneOrFits rooms sent
-RoomsFit (standing.Winds ending first rest) rooms sent = AloneOrFits rooms sent
+RoomsFit other rooms sent = Unit {0}
 
--- the Asks of a group take no memory
+-- the answer to an Ask that is alone in its group is kept nowhere: it ends the group
+pub record IsOpenAlone (who : Who) (stage : Stage) (sent : List Sent) : Type 0 where
+  pub untold : (x : Sent) → sent ≡ x ∷ [] → has_one_message who stage ≡ true → x.told ≡ None
+
+-- each step has a message at most for each server
+abbrev pub AreFew : ℕ → List (List Message) → Type 0
+AreFew servers [] = Unit {0}
+AreFew servers (ms ∷ later) = (length ms ≤ servers) × AreFew servers later
+
+abbrev pub StepsFit : ℕ → Standing → Type 0
+StepsFit servers (standing.Winds ending first rest) = AreFew servers (first ∷ rest)
+StepsFit servers other = Unit {0}
+
+abbrev pub WindsFew : {F : Type 0} → ℕ → Turn F → Type 0
+WindsFew servers (turn.GoesOn next) = Unit {0}
+WindsFew servers (turn.WindsUp ending more) = AreFew servers more
+
+-- the Asks of a round take no memory
 abbrev pub AsksFit : Standing → ℕ → Type 0
 AsksFit (standing.Round keys) capacity = length keys ≤ capacity
 AsksFit other capacity = Unit {0}
@@ -93,9 +107,9 @@ may_clash (standing.Round keys) = true
 may_clash (standing.Act flow) = true
 may_clash other = false
 
-pub record IsKept (number : ℕ) (left : List Call) (stands : Standing) (course : Option Course) (known : List Known)
-    (most_known : ℕ) (sent : List Sent) (capacity rooms : ℕ) (has_room : Bool) (results most_results : ℕ)
-    : Type 0 where
+pub record IsKept (who : Who) (number : ℕ) (left : List Call) (stands : Standing) (course : Option Course)
+    (known : List Known) (most_known : ℕ) (sent : List Sent) (capacity rooms : ℕ) (has_room : Bool)
+    (results most_results : ℕ) : Type 0 where
   -- the numbers of the calls that are left fit
   pub numbered : number + length left ≤ MOST_CALLS + 1
   pub is_of : IsOf left stands
@@ -104,8 +118,11 @@ pub record IsKept (number : ℕ) (left : List Call) (stands : Standing) (course 
   pub known_fits : KnownFits stands (length known) most_known
   pub rooms_fit : RoomsFit stands rooms sent
   pub clash_fits : may_clash stands ≡ true → has_room ≡ true
-  -- the first Ask of a group takes no memory, nor do those of a round
-  pub first_fits : 0 < capacity
+  pub alone : IsOpenAlone who (stage_of stands) sent
+  -- the Asks of a group take no memory: those of a step are at most one for each server
+  pub some_servers : 1 ≤ who.servers
+  pub steps_fit : StepsFit who.servers stands
+  pub servers_fit : who.servers ≤ capacity
   pub asks_fit : AsksFit stands capacity
   -- neither does a result
   pub results_fit : results + length left ≤ most_results

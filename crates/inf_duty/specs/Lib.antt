@@ -5,6 +5,7 @@ pub mod Course
 pub mod Duty
 pub mod Flow
 pub mod Group
+pub mod Keeps
 pub mod Kept
 pub mod Messages
 pub mod Outcome

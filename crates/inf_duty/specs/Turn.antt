@@ -7,7 +7,8 @@ use Rattle.inf_base.specs.declared.key.LookKey.{LookKey}
 use Rattle.inf_message.specs.declared.ending.Ending.TheVariants as ending
 use Rattle.inf_message.specs.declared.turn.Turn.{Turn}
 use Rattle.inf_message.specs.declared.turn.Turn.TheVariants as turn
-use Rattle.inf_message.specs.Heard.{heard}
+use Rattle.inf_message.specs.Heard.{heard, light}
+use Rattle.inf_message.specs.declared.reply.Reply.{Reply}
 use Rattle.inf_message.specs.History.{Told}
 use Rattle.inf_message.specs.Sent.{Sent, has_place, is_told, is_wanting, told_at}
 use Rattle.inf_message.specs.Turn.{again, ends, turn_as}
@@ -16,7 +17,6 @@ use Rattle.inf_resolve.specs.declared.known.Known.{Known}
 use Rattle.inf_resolve.specs.declared.resolved.Resolved.{Resolved}
 use Rattle.inf_resolve.specs.declared.resolved.Resolved.TheVariants as comes
 use Rattle.inf_resolve.specs.Resolved.{resolved}
-use Rattle.inf_duty.specs.declared.flow.Flow.{Flow}
 use Rattle.inf_duty.specs.ClientState.{ClientState, Stage, act, compose, round, winds, wound}
 use Rattle.inf_duty.specs.Flow.{after_act}
 use Rattle.inf_duty.specs.declared.course.Course.{Course}
@@ -57,22 +57,14 @@ round_turn digest s =
     if is_wanting s.sent then turn.WindsUp (ending.Answers answer.NoMemory None) []
     else known_turn digest s.who s.known (next_course s.left)
 
--- ---- after a message of a flow
-
-abbrev pub act_turn : (List ℕ → Id) → Who → Flow → List Sent → Turn Flow
-act_turn digest who step [] = again
-act_turn digest who step (x ∷ xs) = of x.told
-  where
-    of : Option Told → Turn Flow
-    of None = again
-    of (Some told) = after_act digest who step x.place told.serve_place told.reply
+-- ---- after any group
 
 -- what comes of a group that was answered: the stage that follows, or the end
 abbrev pub turn_at : (List ℕ → Id) → ClientState → Stage → Turn Stage
 turn_at digest s compose = again
 turn_at digest s (round keys) = round_turn digest s
-turn_at digest s (act step) = turn_as act (act_turn digest s.who step s.sent)
-turn_at digest s (winds end m ms) = turn.WindsUp end ms
+turn_at digest s (act step) = turn_as act (after_act digest s.who step s.sent)
+turn_at digest s (winds end ms later) = turn.WindsUp end later
 
 abbrev pub turned : Turn Stage → ClientState → ClientState
 turned (turn.GoesOn next) s = record s { stage = next; sent = [] }
@@ -105,11 +97,15 @@ after_record digest s = settled digest (is_complete s) s
 
 -- a group that is one message, and no round, has no other answer to wait for
 abbrev pub is_lone : ClientState → Bool
-is_lone s = has_one_message s.stage && length s.sent == 1
+is_lone s = has_one_message s.who s.stage && length s.sent == 1
 
--- what is kept of an answer that others are waited for with
+-- what is kept of an answer that others are waited for with: only those of a round own memory that counts
+abbrev pub heard_in : Stage → Reply → Reply
+heard_in (round keys) given = heard given
+heard_in other given = light given
+
 abbrev pub told_in : ClientState → Told → Told
-told_in s told = if is_lone s then told else record told { reply = heard told.reply }
+told_in s told = if is_lone s then told else record told { reply = heard_in s.stage told.reply }
 
 -- the Ask at a place was served; only an Ask of the present group is waited for
 abbrev pub served : (List ℕ → Id) → ℕ → Told → ClientState → ClientState

@@ -64,7 +64,7 @@ impl Model for ClientState {
       results = c.results.items;
     } };
 
-    ghost invariant = { λ c. IsKept c.number c.left.items c.stands c.course c.known.items (vec_capacity c.known)
+    ghost invariant = { λ c. IsKept c.who c.number c.left.items c.stands c.course c.known.items (vec_capacity c.known)
         c.sent.items (vec_capacity c.sent) (vec_len c.rooms) (is_some c.clash_room) (vec_len c.results)
         (vec_capacity c.results) };
 }
@@ -99,7 +99,7 @@ impl ClientState {
         ensures { IfOk result (λ made. made ≡ idle who calls.now) }
     {
         let left = copied(alloc, calls)?;
-        let sent = Vec::with_capacity(alloc, 1)?;
+        let sent = Vec::with_capacity(alloc, who.servers() as usize)?;
         let results = Vec::with_capacity(alloc, calls.len())?;
         Ok(ClientState {
             who,
@@ -171,6 +171,13 @@ impl ClientState {
         ensures { IsTrue result ↔ (self.now.sent ≡ []) }
     {
         self.sent.is_empty()
+    }
+
+    /// How many messages of its group it has asked.
+    pub fn sent_size(&self) -> usize
+        ensures { result ≡ length self.now.sent }
+    {
+        self.sent.len()
     }
 }
 

@@ -1,17 +1,18 @@
 //! A flow under way: its messages one after another, and what is cleaned up where one does not succeed.
 
-ghost use Rattle.std.specs.Prelude.{◌≡◌, true, is_some, IfOk};
-ghost use Rattle.inf_duty.specs.Flow.{after_act, clean_up, message_of};
+ghost use Rattle.std.specs.Prelude.{◌≡◌, true, is_some, length, slice_get, IfOk};
+ghost use Rattle.inf_duty.specs.Flow.{after_act, after_reply, clean_up, messages_of};
 ghost use Rattle.inf_message.specs.Turn.{goes_on};
+ghost use Rattle.inf_message.specs.Who.{Who as Whom};
 
 use inf_base::{NoMemory, Place};
 use inf_birth::IdRule;
 use inf_flow_dir::DirFlow;
 use inf_flow_file::FileFlow;
-use inf_message::{CleanUps, Message, NameRoom, Reply, Turn, Who};
+use inf_message::{CleanUps, Message, NameRoom, Reply, Sending, Turn, Who, again, deciding};
 use std::alloc::Global;
 
-/// The message of a call that is next, or waited for, by the kind of its flow.
+/// The step of a call that is next, or waited for, by the kind of its flow.
 #[derive(Drop)]
 pub enum Flow {
     File(FileFlow),
@@ -19,16 +20,32 @@ pub enum Flow {
 }
 
 impl Flow {
-    pub fn message(&self, alloc: Global, who: &Who) -> Result<Message, NoMemory>
-        ensures { IfOk result (λ made. made ≡ message_of who.now self.now) }
+    /// How many messages the step has, whoever sends it.
+    pub fn group_size(&self) -> usize
+        ensures { (who : Whom) → length (messages_of who self.now) ≡ result }
     {
         match self {
-            Flow::File(step) => step.message(alloc, who),
-            Flow::Dir(step) => step.message(alloc, who),
+            Flow::File(step) => step.group_size(),
+            Flow::Dir(step) => step.group_size(),
         }
     }
 
-    /// What is cleaned up where the next message does not succeed, or is not sent for want of memory.
+    /// The message of this index in the step, if there is one.
+    pub fn message(
+        &self,
+        alloc: Global,
+        who: &Who,
+        index: usize,
+    ) -> Result<Option<Message>, NoMemory>
+        ensures { IfOk result (λ made. made ≡ slice_get (messages_of who.now self.now) index) }
+    {
+        match self {
+            Flow::File(step) => step.message(alloc, who, index),
+            Flow::Dir(step) => step.message(alloc, who, index),
+        }
+    }
+
+    /// What is cleaned up where the next step does not succeed, or is not taken for want of memory.
     pub fn clean_up(&self, who: &Who) -> CleanUps
         ensures { result ≡ clean_up who.now self.now }
     {
@@ -38,7 +55,7 @@ impl Flow {
         }
     }
 
-    /// What comes of the reply to the message that was sent. The room is for the triple that a clash names.
+    /// What comes of the reply that decides the step. The room is for the triple that a clash names.
     pub fn next<R: IdRule>(
         self,
         rule: &R,
@@ -49,7 +66,7 @@ impl Flow {
         room: &mut Option<NameRoom>,
     ) -> Turn<Flow>
         requires room { is_some room.old ≡ true }
-        ensures turn { result ≡ after_act (R.digest_of rule.now) who.now self ask_place serve_place reply.now }
+        ensures turn { result ≡ after_reply (R.digest_of rule.now) who.now self ask_place serve_place reply.now }
         ensures room { goes_on result ≡ true → is_some room.new ≡ true }
     {
         match self {
@@ -61,6 +78,31 @@ impl Flow {
                 Turn::GoesOn(next) => Turn::GoesOn(Flow::Dir(next)),
                 Turn::WindsUp(ending, more) => Turn::WindsUp(ending, more),
             },
+        }
+    }
+
+    /// What comes of the step, once its messages were answered.
+    #[tactic(auto, using(crate::proofs::FlowFacts::after_decided, crate::proofs::FlowFacts::after_untold, crate::proofs::FlowFacts::after_none))]
+    pub fn after<R: IdRule>(
+        self,
+        rule: &R,
+        who: &Who,
+        sent: &[Sending],
+        room: &mut Option<NameRoom>,
+    ) -> Turn<Flow>
+        requires room { is_some room.old ≡ true }
+        ensures turn { result ≡ after_act (R.digest_of rule.now) who.now self sent.now }
+        ensures room { goes_on result ≡ true → is_some room.new ≡ true }
+    {
+        let Some(sending) = deciding(sent) else {
+            return again();
+        };
+        match sending.told() {
+            None => again(),
+            Some(told) => {
+                let (place, reply) = (told.serve_place(), told.reply());
+                self.next(rule, who, sending.place(), place, reply, room)
+            }
         }
     }
 }

@@ -3,7 +3,7 @@
 ghost use Rattle.std.specs.Prelude.{◌≡◌, ◌+◌, ◌<◌, ◌≤◌, true, false, is_some, length, map, vec_len, vec_capacity, IfOk, OnOk};
 ghost use Rattle.inf_duty.specs.Kept.{told_count};
 ghost use Rattle.inf_duty.specs.ClientState.{one_if};
-ghost use Rattle.inf_message.specs.Heard.{heard};
+ghost use Rattle.inf_message.specs.Heard.{heard, light};
 ghost use Rattle.inf_message.specs.Sent.{is_told, told_at};
 ghost use Rattle.inf_message.specs.History.{told_reply};
 
@@ -75,5 +75,26 @@ pub fn record_answer(
 {
     for index in 0..sent.len() {
         answer(&mut sent[index], rooms, ask_place, serve_place, reply);
+    }
+}
+
+/// Keeps the answer of one Ask, if that stands at the place, as far as that takes no memory.
+fn answer_light(sending: &mut Sending, ask_place: Place, serve_place: Place, reply: &Reply)
+    ensures { sending.new ≡ told_at ask_place (told_reply serve_place (light reply.now)) sending.old }
+{
+    if sending.is_at(ask_place) {
+        sending.tell(Telling::new(serve_place, reply.light()));
+    }
+}
+
+/// Keeps the answer of the Ask at this place, as far as that takes no memory.
+#[tactic(auto, using(crate::proofs::RecordFacts::notes_none, crate::proofs::RecordFacts::notes_more, crate::proofs::RecordFacts::changed_all, crate::proofs::RecordFacts::changed_length))]
+pub fn record_light(sent: &mut Vec<Sending>, ask_place: Place, serve_place: Place, reply: &Reply)
+    ensures told { sent.new.items
+        ≡ map (told_at ask_place (told_reply serve_place (light reply.now))) sent.old.items }
+    ensures capacity { vec_capacity sent.new ≡ vec_capacity sent.old }
+{
+    for index in 0..sent.len() {
+        answer_light(&mut sent[index], ask_place, serve_place, reply);
     }
 }

@@ -1,51 +1,15 @@
 //! Whether an ask is one that a client may send.
 
-ghost use Rattle.std.specs.Prelude.{◌≡◌, ◌↔◌, length, map, slice_get, IfOk, IsTrue};
+ghost use Rattle.std.specs.Prelude.{◌≡◌, ◌↔◌, IfOk, IsTrue};
 ghost use Rattle.inf_duty.specs.Duty.{Duty, asks, next_step};
-ghost use Rattle.inf_duty.specs.Group.{group};
-ghost use Rattle.inf_message.specs.Who.{lookup_of};
 
 use super::ClientState;
-use crate::standing::Standing;
-use inf_base::{LookKey, NoMemory};
+use inf_base::NoMemory;
 use inf_birth::IdRule;
-use inf_message::{Ask, Message};
+use inf_message::Ask;
 use std::alloc::Global;
 
 impl ClientState {
-    fn lookup_at(
-        &self,
-        alloc: Global,
-        keys: &[LookKey],
-        at: usize,
-    ) -> Result<Option<Message>, NoMemory>
-        ensures { IfOk result (λ message. message
-            ≡ slice_get (map (lookup_of self.now.who) keys.now) at) }
-    {
-        match keys.get(at) {
-            None => Ok(None),
-            Some(key) => Ok(Some(self.who.lookup(alloc, key)?)),
-        }
-    }
-
-    /// The next message of the group, if one is left.
-    fn next_message(&self, alloc: Global) -> Result<Option<Message>, NoMemory>
-        ensures { IfOk result (λ message. message
-            ≡ slice_get (group self.now.who self.now.stage) (length self.now.sent)) }
-    {
-        if let Standing::Round(keys) = &self.stands {
-            return self.lookup_at(alloc, keys.as_slice(), self.sent.len());
-        }
-        if !self.sent.is_empty() {
-            return Ok(None);
-        }
-        match &self.stands {
-            Standing::Act(flow) => Ok(Some(flow.message(alloc, &self.who)?)),
-            Standing::Winds(_, first, _) => Ok(Some(first.message())),
-            _ => Ok(None),
-        }
-    }
-
     /// Whether the ask is the next one.
     #[tactic(auto, using(crate::proofs::StepFacts::over_asks_nothing, crate::proofs::StepFacts::none_next, crate::proofs::StepFacts::other_server, crate::proofs::StepFacts::same_asks))]
     fn is_next(&self, alloc: Global, number: u32, ask: &Ask) -> Result<bool, NoMemory>
@@ -55,7 +19,7 @@ impl ClientState {
         if self.left.is_empty() {
             return Ok(false);
         }
-        match self.next_message(alloc)? {
+        match self.stands.message(alloc, &self.who, self.sent.len())? {
             None => Ok(false),
             Some(message) => {
                 let (server, next) = self.posted(message);

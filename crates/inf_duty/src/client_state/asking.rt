@@ -61,13 +61,13 @@ impl ClientState {
         make_rooms(alloc, &mut self.rooms, keys.len())?;
         make_clash_room(alloc, &mut self.clash_room)?;
         self.known.reserve(keys.len())?;
-        self.sent = Vec::with_capacity(alloc, keys.len())?;
+        self.sent.reserve(keys.len())?;
         self.course = Some(course);
         self.stands = Standing::Round(keys);
         Ok(())
     }
 
-    /// The first message of a flow is next, whose answers take no memory then.
+    /// The first step of a flow is next, whose answers take no memory then.
     fn open_flow(&mut self, alloc: Global, flow: Flow) -> Result<(), NoMemory>
         requires between { self.old.sent ≡ [] }
         requires stage { is_compose self.old.stage ≡ true }
@@ -164,6 +164,7 @@ impl ClientState {
     }
 
     /// An Ask more, which may take memory.
+    #[tactic(auto, using(crate::proofs::RecordFacts::open_placed))]
     fn place(&mut self, alloc: Global, place: Place) -> Result<(), NoMemory>
         requires { self.old.counts.messages + 1 < 2 ^ 64 }
         ensures { OnOk result (self.new ≡ placed place self.old) }

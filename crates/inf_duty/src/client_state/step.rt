@@ -1,6 +1,6 @@
 //! A client that is driven: what it is to do next, and the steps that it takes.
 
-ghost use Rattle.std.specs.Prelude.{ℕ, List, ◌≡◌, ◌↔◌, ◌+◌, ◌<◌, ◌≤◌, ◌∷◌, ◌^◌, [], length, map, true, false, None, IfOk, IsTrue};
+ghost use Rattle.std.specs.Prelude.{ℕ, List, ◌≡◌, ◌↔◌, ◌+◌, ◌<◌, ◌≤◌, ◌^◌, [], length, map, slice_get, true, false, None, Some, IfOk, IsTrue};
 ghost use Rattle.inf_base.specs.declared.id.Id.{Id};
 ghost use Rattle.inf_duty.specs.ClientStep.{IsQuiet, is_ask, next_as};
 ghost use Rattle.inf_duty.specs.Duty.{asks, given_up, has_ask, may_give_up, next_step};
@@ -10,14 +10,13 @@ ghost use Rattle.inf_duty.specs.Outcome.{come_to, results_of, so_far};
 ghost use Rattle.inf_duty.specs.ClientState.{compose, placed, result_of};
 ghost use Rattle.inf_duty.specs.Group.{composed, group};
 ghost use Rattle.inf_message.specs.Sent.{is_wanting};
-ghost use Rattle.inf_message.specs.Who.{lookup_of};
 
 use super::ClientState;
 use crate::client_step::ClientStep;
 use crate::course::has_course;
 use crate::group::{has_message, is_round, is_winding};
 use crate::standing::Standing;
-use inf_base::{Answer, CallRef, LookKey, NoMemory, Place};
+use inf_base::{Answer, CallRef, NoMemory, Place};
 use inf_message::{Ask, CallResult, Ending, Message, Sending, is_one_wanting};
 use std::alloc::Global;
 use std::mem;
@@ -94,47 +93,43 @@ impl ClientState {
         (number, ask)
     }
 
-    fn lookups(&self, alloc: Global, keys: &[LookKey]) -> Result<Vec<(u32, Ask)>, NoMemory>
-        ensures { IfOk result (λ posts. posts.items
-            ≡ map (post_of self.now) (map (lookup_of self.now.who) keys.now)) }
+    /// How many messages the group has that is settled.
+    pub fn group_size(&self) -> usize
+        ensures { result ≡ length (group self.now.who self.now.stage) }
     {
-        let mut posts = Vec::with_capacity(alloc, keys.len())?;
-        for key in keys {
-            let message = self.who.lookup(alloc, key)?;
+        self.stands.group_size(&self.who)
+    }
+
+    /// The asks of the group that is settled, in their order, each with the server that it is for.
+    #[tactic(auto, using(crate::proofs::PostFacts::there_is, crate::proofs::PostFacts::posts_more, crate::proofs::PostFacts::posts_all))]
+    pub fn asks(&self, alloc: Global) -> Result<Vec<(u32, Ask)>, NoMemory>
+        ensures { IfOk result (λ posts. posts.items
+            ≡ map (post_of self.now) (group self.now.who self.now.stage)) }
+    {
+        let count = self.group_size();
+        let mut posts = Vec::with_capacity(alloc, count)?;
+        for index in 0..count {
+            let Some(message) = self.stands.message(alloc, &self.who, index)? else {
+                unreachable!()
+            };
             posts.push(self.posted(message))?;
         }
         Ok(posts)
     }
 
-    fn alone(&self, alloc: Global, message: Message) -> Result<Vec<(u32, Ask)>, NoMemory>
-        ensures { IfOk result (λ posts. posts.items ≡ post_of self.now message ∷ []) }
-    {
-        let mut posts = Vec::with_capacity(alloc, 1)?;
-        posts.push(self.posted(message))?;
-        Ok(posts)
-    }
-
-    /// The asks of the group that is settled, in their order, each with the server that it is for.
-    pub fn asks(&self, alloc: Global) -> Result<Vec<(u32, Ask)>, NoMemory>
-        ensures { IfOk result (λ posts. posts.items
-            ≡ map (post_of self.now) (group self.now.who self.now.stage)) }
-    {
-        match &self.stands {
-            Standing::Compose => Ok(Vec::new(alloc)),
-            Standing::Round(keys) => self.lookups(alloc, keys.as_slice()),
-            Standing::Act(flow) => self.alone(alloc, flow.message(alloc, &self.who)?),
-            Standing::Winds(_, first, _) => self.alone(alloc, first.message()),
-        }
-    }
-
-    /// The ask of the message that winds the call up, and the server that it is for. Takes no memory.
-    pub fn winding_ask(&self) -> (u32, Ask)
+    /// The ask of this index in the step that winds the call up, and the server that it is for. Takes no memory.
+    #[tactic(auto, using(crate::proofs::PostFacts::there_is, crate::proofs::PostFacts::post_at, crate::proofs::StepFacts::winding_next))]
+    pub fn winding_ask(&self, index: usize) -> (u32, Ask)
         requires winding { is_winding self.now.stage ≡ true }
-        requires between { self.now.sent ≡ [] }
-        ensures { next_step self.now ≡ asks result.0 result.1 }
+        requires there { index < length (group self.now.who self.now.stage) }
+        ensures posts { slice_get (map (post_of self.now) (group self.now.who self.now.stage)) index ≡ Some result }
+        ensures next { index ≡ length self.now.sent → next_step self.now ≡ asks result.0 result.1 }
     {
         match &self.stands {
-            Standing::Winds(_, first, _) => self.posted(first.message()),
+            Standing::Winds(_, first, _) => match first.message(index) {
+                Some(message) => self.posted(message),
+                None => unreachable!(),
+            },
             _ => unreachable!(),
         }
     }
@@ -156,6 +151,7 @@ impl ClientState {
     }
 
     /// An Ask more, which takes no memory.
+    #[tactic(auto, using(crate::proofs::FewFacts::group_fits, crate::proofs::RecordFacts::open_placed))]
     pub fn place_ask(&mut self, place: Place)
         requires next { length self.old.sent < length (group self.old.who self.old.stage) }
         requires room { self.old.counts.messages + 1 < 2 ^ 64 }
@@ -167,7 +163,7 @@ impl ClientState {
     }
 
     /// The call under way ends for want of memory, once what its next step would have changed is cleaned up.
-    #[tactic(auto, using(crate::proofs::TurnFacts::turned_afresh))]
+    #[tactic(auto, using(crate::proofs::TurnFacts::turned_afresh, crate::proofs::FewFacts::clean_few))]
     pub fn give_up_call(&mut self)
         requires call { 0 < length self.old.left }
         requires going { is_winding self.old.stage ≡ false }

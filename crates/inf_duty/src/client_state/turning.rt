@@ -7,16 +7,17 @@ ghost use Rattle.inf_message.specs.declared.turn.Turn.TheVariants as turn;
 ghost use Rattle.inf_duty.specs.ClientState.{act, begins_again, compose, finished, is_round, wound};
 ghost use Rattle.inf_duty.specs.Course.{next_course};
 ghost use Rattle.inf_duty.specs.Turn.{is_complete, is_lone, recorded, served, settled, turn_at, turned};
-ghost use Rattle.inf_message.specs.Heard.{heard};
+ghost use Rattle.inf_duty.specs.Kept.{AreFew, WindsFew};
+ghost use Rattle.inf_message.specs.Heard.{heard, light};
 ghost use Rattle.inf_message.specs.Sent.{has_place};
 ghost use Rattle.inf_message.specs.Turn.{goes_on, turn_as};
 ghost use Rattle.inf_message.specs.History.{told_reply};
 
 use super::ClientState;
 use crate::flow::Flow;
-use crate::group::{group_size, has_one_message};
+use crate::group::is_round;
 use crate::learning::{learn, verdict};
-use crate::recording::record_answer;
+use crate::recording::{record_answer, record_light};
 use crate::standing::Standing;
 use inf_base::{Answer, Place};
 use inf_birth::IdRule;
@@ -46,9 +47,10 @@ impl ClientState {
         }
     }
 
-    /// The messages that are left, and then the end.
+    /// The steps that are left, and then the end.
     pub(super) fn wind(&mut self, ending: Ending, more: CleanUps)
-        requires { is_some (next_course self.old.left) ≡ true }
+        requires call { is_some (next_course self.old.left) ≡ true }
+        requires few { AreFew self.old.who.servers more }
         ensures { self.new ≡ wound ending more self.old }
     {
         match more.take_first() {
@@ -60,7 +62,7 @@ impl ClientState {
         }
     }
 
-    /// The next message of the attempt.
+    /// The next step of the attempt.
     fn go_on(&mut self, flow: Flow, room: Option<NameRoom>)
         requires call { is_some (next_course self.old.left) ≡ true }
         requires room { is_some room ≡ true }
@@ -75,6 +77,7 @@ impl ClientState {
     fn follow(&mut self, turn: Turn<Flow>, room: Option<NameRoom>)
         requires call { is_some (next_course self.old.left) ≡ true }
         requires room { goes_on turn ≡ true → is_some room ≡ true }
+        requires few { WindsFew self.old.who.servers turn }
         ensures { self.new ≡ turned (turn_as act turn) self.old }
     {
         match turn {
@@ -89,7 +92,7 @@ impl ClientState {
     }
 
     /// What comes of the answer to the one message of a group that is no round.
-    #[tactic(auto, using(crate::proofs::TurnFacts::alone_turn))]
+    #[tactic(auto, using(crate::proofs::TurnFacts::alone_turn, crate::proofs::FewFacts::reply_few))]
     fn take_answer<R: IdRule>(
         &mut self,
         rule: &R,
@@ -99,7 +102,8 @@ impl ClientState {
     ) -> (Turn<Flow>, Option<NameRoom>)
         requires alone { length self.old.sent ≡ 1 }
         requires here { has_place ask_place self.old.sent ≡ true }
-        requires stage { has_one_message self.old.stage ≡ true }
+        requires stage { has_one_message self.old.who self.old.stage ≡ true }
+        ensures few { WindsFew self.old.who.servers result.0 }
         ensures turn { turn_as act result.0
             ≡ turn_at (R.digest_of rule.now) (recorded ask_place (told_reply serve_place reply.now) self.old)
             self.old.stage }
@@ -123,18 +127,18 @@ impl ClientState {
     fn is_alone(&self) -> bool
         ensures { result ≡ is_lone self.now }
     {
-        has_one_message(&self.stands) && self.sent.len() == 1
+        !is_round(&self.stands) && self.group_size() == 1 && self.sent.len() == 1
     }
 
     fn is_complete(&self) -> bool
         ensures { result ≡ is_complete self.now }
     {
-        self.sent.len() == group_size(&self.stands) && are_told(self.sent.as_slice())
+        self.sent.len() == self.group_size() && are_told(self.sent.as_slice())
     }
 
-    /// Keeps the answer of the Ask at this place.
-    fn record(&mut self, ask_place: Place, serve_place: Place, reply: &Reply)
-        requires { is_lone self.old ≡ false }
+    /// Keeps the answer of a lookup.
+    fn record_lookup(&mut self, ask_place: Place, serve_place: Place, reply: &Reply)
+        requires { is_round self.old.stage ≡ true }
         ensures { self.new ≡ recorded ask_place (told_reply serve_place (heard reply.now)) self.old }
     {
         self.counts.count_serve(serve_place);
@@ -145,6 +149,16 @@ impl ClientState {
             serve_place,
             reply,
         );
+    }
+
+    /// Keeps the answer of a message that was sent with others.
+    fn record_other(&mut self, ask_place: Place, serve_place: Place, reply: &Reply)
+        requires stage { is_round self.old.stage ≡ false }
+        requires others { is_lone self.old ≡ false }
+        ensures { self.new ≡ recorded ask_place (told_reply serve_place (light reply.now)) self.old }
+    {
+        self.counts.count_serve(serve_place);
+        record_light(&mut self.sent, ask_place, serve_place, reply);
     }
 
     /// The answer to the one message of a group that is no round ends the group.
@@ -158,7 +172,7 @@ impl ClientState {
     )
         requires alone { length self.old.sent ≡ 1 }
         requires here { has_place ask_place self.old.sent ≡ true }
-        requires stage { has_one_message self.old.stage ≡ true }
+        requires stage { has_one_message self.old.who self.old.stage ≡ true }
         ensures { self.new
             ≡ served (R.digest_of rule.now) ask_place (told_reply serve_place reply.now) self.old }
     {
@@ -195,8 +209,41 @@ impl ClientState {
         }
     }
 
+    /// What comes of the answers to several messages that are no round.
+    #[tactic(auto, using(crate::proofs::TurnFacts::over_is_settled, crate::proofs::FewFacts::act_few))]
+    fn take_answers<R: IdRule>(&mut self, rule: &R) -> (Turn<Flow>, Option<NameRoom>)
+        requires some { 0 < length self.old.sent }
+        requires complete { is_complete self.old ≡ true }
+        requires stage { is_round self.old.stage ≡ false }
+        ensures turn { turn_as act result.0 ≡ turn_at (R.digest_of rule.now) self.old self.old.stage }
+        ensures few { WindsFew self.old.who.servers result.0 }
+        ensures room { goes_on result.0 ≡ true → is_some result.1 ≡ true }
+        ensures after { self.new ≡ record self.old { stage = compose; sent = [] } }
+        ensures call { is_some (next_course self.old.left) ≡ true }
+    {
+        let mut room = self.clash_room.take();
+        let turn = match mem::replace(&mut self.stands, Standing::Compose) {
+            Standing::Act(flow) => flow.after(rule, &self.who, self.sent.as_slice(), &mut room),
+            Standing::Winds(ending, _, rest) => Turn::WindsUp(ending, rest),
+            _ => unreachable!(),
+        };
+        self.sent.clear();
+        (turn, room)
+    }
+
+    /// The answers to several messages that are no round end the group.
+    fn end_step<R: IdRule>(&mut self, rule: &R)
+        requires some { 0 < length self.old.sent }
+        requires complete { is_complete self.old ≡ true }
+        requires stage { is_round self.old.stage ≡ false }
+        ensures { self.new ≡ settled (R.digest_of rule.now) true self.old }
+    {
+        let (turn, room) = self.take_answers(rule);
+        self.follow(turn, room);
+    }
+
     /// The Ask at a place was served. Only an Ask of the present group is waited for.
-    #[tactic(auto, using(crate::proofs::TurnFacts::complete_round, crate::proofs::TurnFacts::some_sent))]
+    #[tactic(auto, using(crate::proofs::TurnFacts::some_sent, crate::proofs::TurnFacts::lookup_told, crate::proofs::TurnFacts::other_told))]
     pub fn told<R: IdRule>(&mut self, rule: &R, ask_place: Place, serve_place: Place, reply: &Reply)
         ensures { self.new
             ≡ served (R.digest_of rule.now) ask_place (told_reply serve_place reply.now) self.old }
@@ -204,13 +251,20 @@ impl ClientState {
         if !has_place(self.sent.as_slice(), ask_place) {
             return;
         }
+        if is_round(&self.stands) {
+            self.record_lookup(ask_place, serve_place, reply);
+            if self.is_complete() {
+                self.end_round();
+            }
+            return;
+        }
         if self.is_alone() {
             self.end_alone(rule, ask_place, serve_place, reply);
             return;
         }
-        self.record(ask_place, serve_place, reply);
+        self.record_other(ask_place, serve_place, reply);
         if self.is_complete() {
-            self.end_round();
+            self.end_step(rule);
         }
     }
 }
