@@ -31,10 +31,10 @@ module _ (A : ℕ → Request → Type 0) where
   pub idle_asks : (who : Who) (calls : List Call) → AsksItsGroup A (idle who calls)
   idle_asks who calls = record { asked = tt }
 
-  wound_asks : (end : Ending) (more : List Message) (s : ClientState) → AsksItsGroup A (wound end more s)
+  wound_asks : (end : Ending) (more : List (List Message)) (s : ClientState) → AsksItsGroup A (wound end more s)
   wound_asks (ending.Answers given place) [] s = record { asked = tt }
   wound_asks ending.Retries [] s = record { asked = tt }
-  wound_asks end (m ∷ ms) s = record { asked = tt }
+  wound_asks end (ms ∷ later) s = record { asked = tt }
 
   turned_asks : (t : Turn Stage) (s : ClientState) → AsksItsGroup A (turned t s)
   turned_asks (turn.GoesOn next) s = record { asked = tt }
@@ -46,7 +46,7 @@ module _ (A : ℕ → Request → Type 0) where
 
   given_up_at : (s : ClientState) (stage : Stage) → AsksItsGroup A s → AsksItsGroup A (given_up_in s stage)
   given_up_at s (act flow) asks_its = wound_asks (ending.Answers answer.NoMemory None) (clean_up s.who flow) s
-  given_up_at s (winds end m ms) asks_its = asks_its
+  given_up_at s (winds end ms later) asks_its = asks_its
   given_up_at s compose asks_its = record { asked = tt }
   given_up_at s (round keys) asks_its = record { asked = tt }
 
@@ -100,7 +100,7 @@ module _ (A : ℕ → Request → Type 0) where
   lookup_answered who (round keys) sent place given asked told = keys_answered who keys sent place given asked told
   lookup_answered who compose sent place given asked told = tt
   lookup_answered who (act flow) sent place given asked told = tt
-  lookup_answered who (winds end m ms) sent place given asked told = tt
+  lookup_answered who (winds end ms later) sent place given asked told = tt
 
   pub answers_lookup : (place : ℕ) (given : Reply) (s : ClientState) → AsksItsGroup A s → AnswersAsked A place given → AnswersLookup s.stage s.sent place given
   answers_lookup place given s asks_its told = lookup_answered s.who s.stage s.sent place given asks_its.asked told
@@ -110,7 +110,7 @@ module _ (digest : List ℕ → Id) (A : ℕ → Request → Type 0) where
   composed_at s compose asked = record { asked = none_asked A (group s.who (next_stage digest s.who s.known (next_course s.left))) s.sent asked }
   composed_at s (round keys) asked = record { asked = asked }
   composed_at s (act flow) asked = record { asked = asked }
-  composed_at s (winds end m ms) asked = record { asked = asked }
+  composed_at s (winds end ms later) asked = record { asked = asked }
 
   pub composed_asks : (s : ClientState) → AsksItsGroup A s → AsksItsGroup A (composed digest s)
   composed_asks s asks_its = composed_at s s.stage asks_its.asked

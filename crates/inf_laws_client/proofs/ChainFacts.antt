@@ -9,11 +9,13 @@ use Rattle.inf_base.specs.declared.triple.Triple.TheVariants as triple
 use Rattle.inf_base.specs.Same.{dir_of}
 use Rattle.inf_message.specs.declared.reply.Reply.{Reply}
 use Rattle.inf_message.specs.declared.reply.Reply.TheVariants as reply
+use Rattle.inf_message.specs.declared.step.Message.{Message}
 use Rattle.inf_message.specs.Chain.{last_entry, way_to}
+use Rattle.inf_message.specs.CleanUp.{one_by_one}
 use Rattle.inf_message.specs.Who.{Who, last_id}
 use Rattle.inf_flow_dir.specs.declared.dir_flow.DirFlow.TheVariants as dir_flow
 use Rattle.inf_flow_dir.specs.declared.dir_flow.DirFlow.{DirFlow}
-use Rattle.inf_flow_dir.specs.DirFlow.{after as after_dir, clean_up as dir_clean_up, forget_in, lives_at, row_of}
+use Rattle.inf_flow_dir.specs.DirFlow.{after as after_dir, after_reply as dir_reply, clean_up as dir_clean_up, forget_in, lives_at, row_of}
 use Rattle.inf_resolve.specs.declared.known.Known.{Known}
 use Rattle.inf_resolve.specs.declared.resolved.Resolved.{Resolved}
 use Rattle.inf_resolve.specs.declared.resolved.Resolved.TheVariants as comes
@@ -27,10 +29,10 @@ use Rattle.inf_duty.specs.declared.flow.Flow.TheVariants as flow
 use Rattle.inf_duty.specs.Course.{flow_at, next_course}
 use Rattle.inf_duty.specs.Flow.{clean_up}
 use Rattle.inf_duty.specs.Group.{next_stage, stage_by}
-use Rattle.inf_laws_client.specs.Keeps.{ClientKeeps, FlowKeeps, TurnFits}
-use Rattle.inf_laws_client.specs.Told.{AllKnown, AreKnownFor, ArePlain, IsChainOf, StandsOn, chain_of}
+use Rattle.inf_duty.specs.Keeps.{ClientKeeps, FlowKeeps, TurnFits}
+use Rattle.inf_laws_client.specs.Told.{AllKnown, AllPlain, AreKnownFor, ArePlain, IsChainOf, StandsOn, chain_of}
 use Rattle.inf_laws_client.proofs.LedChain.{chain_is}
-use Rattle.inf_laws_client.proofs.KeepsFacts.{either_keeps, fails_fits, keeps_by}
+use Rattle.inf_duty.proofs.KeepsFacts.{either_keeps, fails_fits, keeps_by}
 
 -- ---- what winds a call up
 
@@ -44,12 +46,17 @@ plain_row : (who : Who) (parent : Id) (last : Option Entry) → ArePlain (row_of
 plain_row who parent None = tt
 plain_row who parent (Some entry) = plain_in who (dir_of entry.access) entry.access.birth (lives_at parent entry.key entry.access.birth)
 
-plain_clean_up : (who : Who) (step : DirFlow) → ArePlain (dir_clean_up who step)
+-- messages are no less plain one by one
+plain_steps : (ms : List Message) → ArePlain ms → AllPlain (one_by_one ms)
+plain_steps [] plain = tt
+plain_steps (m ∷ ms) plain = ((plain.0, tt), plain_steps ms plain.1)
+
+plain_clean_up : (who : Who) (step : DirFlow) → AllPlain (dir_clean_up who step)
 plain_clean_up who (dir_flow.Reserves chain name mode) = tt
-plain_clean_up who (dir_flow.Makes chain name mode version id) = (refl, tt)
-plain_clean_up who (dir_flow.Links chain name mode version dir) = (refl, (refl, tt))
+plain_clean_up who (dir_flow.Makes chain name mode version id) = ((refl, tt), tt)
+plain_clean_up who (dir_flow.Links chain name mode version dir) = ((refl, tt), ((refl, tt), tt))
 plain_clean_up who (dir_flow.Seals chain) = tt
-plain_clean_up who (dir_flow.Unlinks chain) = (refl, tt)
+plain_clean_up who (dir_flow.Unlinks chain) = ((refl, tt), tt)
 
 -- ---- where a path has led
 
@@ -90,7 +97,7 @@ abbrev pub StepOnChain : (Entry → Type 0) → List Call → Flow → Type 0
 StepOnChain T calls step = IsChainOf T (chain_of step)
 
 pub chain_cleans : (T : Entry → Type 0) (who : Who) (calls : List Call) (step : Flow) → StepOnChain T calls step
-    → ArePlain (clean_up who step)
+    → AllPlain (clean_up who step)
 chain_cleans T who calls (flow.File step) is = tt
 chain_cleans T who calls (flow.Dir step) is = plain_clean_up who step
 
@@ -99,7 +106,7 @@ module _ (digest : List ℕ → Id) (T : Entry → Type 0) where
   OnChain step = IsChainOf T (chain_of (flow.Dir step))
 
   dir_turns : (who : Who) (step : DirFlow) (asked place : ℕ) (given : Reply) → OnChain step
-      → TurnFits DirFlow OnChain ArePlain (after_dir digest who step asked place given)
+      → TurnFits DirFlow OnChain AllPlain (dir_reply digest who step asked place given)
   dir_turns who (dir_flow.Reserves chain name mode) asked place (reply.Reserved version) is = is
   dir_turns who (dir_flow.Makes chain name mode version id) asked place reply.Fine is = is
   dir_turns who (dir_flow.Makes chain name mode version id) asked place (reply.Clash kept) is =
@@ -107,19 +114,20 @@ module _ (digest : List ℕ → Id) (T : Entry → Type 0) where
   dir_turns who (dir_flow.Links chain name mode version dir) asked place reply.Fine is = tt
   dir_turns who (dir_flow.Seals chain) asked place reply.Fine is = is
   dir_turns who (dir_flow.Unlinks chain) asked place reply.Fine is =
-      (refl, plain_row who (last_id who (way_to chain)) (last_entry chain))
+      let parent = last_id who (way_to chain) in
+      ((refl, tt), plain_steps (row_of who parent (last_entry chain)) (plain_row who parent (last_entry chain)))
   dir_turns who step asked place given is =
-      fails_fits ArePlain DirFlow OnChain (dir_clean_up who step) place given (plain_clean_up who step)
+      fails_fits AllPlain DirFlow OnChain (dir_clean_up who step) place given (plain_clean_up who step)
 
-  dirs_keep : (who : Who) → FlowKeeps DirFlow (after_dir digest who) (dir_clean_up who) OnChain ArePlain
+  dirs_keep : (who : Who) → FlowKeeps DirFlow (after_dir digest who) (dir_clean_up who) OnChain AllPlain
   dirs_keep who =
-      keeps_by DirFlow (after_dir digest who) (dir_clean_up who) OnChain ArePlain (dir_turns who)
-      (λ step is. plain_clean_up who step)
+      keeps_by DirFlow (after_dir digest who) (dir_reply digest who) (dir_clean_up who) OnChain AllPlain
+      (λ step sent. refl) tt (dir_turns who) (λ step is. plain_clean_up who step)
 
-  pub chains_keep : ClientKeeps digest (WasTold T) (StepOnChain T) ArePlain
+  pub chains_keep : ClientKeeps digest (WasTold T) (λ who. StepOnChain T) (λ who. AllPlain)
   chains_keep = record {
     begins = λ who calls known told. next_stands digest T who known told.0 told.1 (next_course calls);
-    flows = λ who calls. either_keeps ArePlain digest who (StepOnChain T calls) tt (dirs_keep who);
-    none = tt;
-    later = λ m ms plain. plain.1;
+    flows = λ who calls. either_keeps AllPlain digest who (StepOnChain T calls) tt (dirs_keep who);
+    none = λ who. tt;
+    later = λ who ms later plain. plain.1;
   }

@@ -1,5 +1,5 @@
 -- A client knows what it was told, whatever is true of that, and sends no more.
-use Rattle.std.proofs.Common.{◌≡◌, ℕ, ◌==◌, Bool, true, false, zero, suc, List, [], ◌∷◌, ◌++◌, length, map, slice_get, All, Option, Some, None, refl, sym, ap, subst}
+use Rattle.std.proofs.Common.{◌≡◌, ℕ, ◌==◌, Bool, true, false, zero, suc, List, [], ◌∷◌, ◌++◌, length, map, slice_get, All, Option, Some, None, refl, sym, ap, ◌∙◌, subst}
 use Rattle.inf_base.specs.declared.id.Id.{Id}
 use Rattle.std.proofs.lemmas.List.Elements.{All-cons, All-nil}
 use Rattle.inf_base.specs.declared.answer.Answer.TheVariants as answer
@@ -11,7 +11,7 @@ use Rattle.inf_message.specs.declared.reply.Reply.{Reply}
 use Rattle.inf_message.specs.declared.reply.Reply.TheVariants as reply
 use Rattle.inf_message.specs.declared.request.Request.{Request}
 use Rattle.inf_message.specs.declared.step.Message.{Message}
-use Rattle.inf_message.specs.Heard.{heard}
+use Rattle.inf_message.specs.Heard.{heard, light}
 use Rattle.inf_message.specs.History.{Told}
 use Rattle.inf_server.specs.Chains.{chains_of}
 use Rattle.inf_flow_dir.specs.declared.dir_flow.DirFlow.TheVariants as dir_flow
@@ -20,9 +20,10 @@ use Rattle.inf_flow_file.specs.declared.file_flow.FileFlow.TheVariants as file_f
 use Rattle.inf_duty.specs.declared.flow.Flow.TheVariants as flow
 use Rattle.inf_message.specs.declared.turn.Turn.TheVariants as turn
 use Rattle.inf_duty.specs.ClientState.{ClientState, Stage, act, compose, idle, placed, round, winds, wound}
-use Rattle.inf_duty.specs.Flow.{clean_up, message_of}
+use Rattle.inf_duty.specs.Flow.{clean_up}
+use Rattle.inf_duty.proofs.FlowFacts.{message_of, messages_are}
 use Rattle.inf_duty.specs.Group.{composed, group}
-use Rattle.inf_duty.specs.Turn.{is_complete, learned, recorded, served, settled, told_by, told_in, told_of, turn_at, turned}
+use Rattle.inf_duty.specs.Turn.{heard_in, is_complete, learned, recorded, served, settled, told_by, told_in, told_of, turn_at, turned}
 use Rattle.inf_duty.specs.declared.flow.Flow.{Flow}
 use Rattle.inf_message.specs.Sent.{Sent, has_place, told_at}
 use Rattle.inf_message.specs.Who.{Who, lookup_of}
@@ -31,11 +32,11 @@ use Rattle.inf_message.specs.declared.turn.Turn.{Turn}
 use Rattle.inf_duty.specs.Duty.{asks, begun, given_up, given_up_in, next_step}
 use Rattle.inf_resolve.specs.declared.known.Known.{Known}
 use Rattle.inf_resolve.specs.Known.{told_entry}
-use Rattle.inf_laws_client.specs.Told.{AllKnown, AllTell, AnswersLookup, ArePlain, CarriesOnly, IfTold, IsChainOf, IsToldAsAsked, KnowsOnly, StandsOn, TellsOnly, chain_of}
+use Rattle.inf_laws_client.specs.Told.{AllKnown, AllPlain, AllTell, AnswersLookup, ArePlain, CarriesOnly, IfTold, IsChainOf, IsToldAsAsked, KnowsOnly, StandsOn, TellsOnly, chain_of}
 use Rattle.inf_duty.proofs.BegunKept.{if_both, kept_begun}
 use Rattle.inf_laws_client.proofs.ChainFacts.{StepOnChain, WasTold, chain_cleans, chains_keep}
-use Rattle.inf_laws_client.proofs.KeepsFacts.{composed_fits, given_up_fits, settled_fits}
-use Rattle.inf_laws_client.proofs.ToldFacts.{asks_next, composed_as_asked, given_up_as_asked, heard_in, idle_as_asked, is_sent, lookup_in, placed_as_asked, recorded_as_asked, settled_as_asked, told_one}
+use Rattle.inf_duty.proofs.KeepsFacts.{composed_fits, given_up_fits, settled_fits}
+use Rattle.inf_laws_client.proofs.ToldFacts.{asks_next, composed_as_asked, given_up_as_asked, holds_told_in, idle_as_asked, is_sent, lookup_in, placed_as_asked, recorded_as_asked, settled_as_asked, told_one}
 
 -- ---- messages that carry no chain
 
@@ -47,6 +48,15 @@ look_plain who (k ∷ keys) (suc n) m is = look_plain who keys n m is
 only_one : (one : Message) (n : ℕ) (m : Message) → slice_get (one ∷ []) n ≡ Some m → one ≡ m
 only_one one zero m is = cc
 only_one one (suc n) m is = absurd cc
+
+-- no message of a plain step does
+plain_one : (ms : List Message) (n : ℕ) (m : Message) → ArePlain ms → slice_get ms n ≡ Some m
+    → chains_of m.request ≡ []
+plain_one [] n m plain is = absurd cc
+plain_one (first ∷ ms) zero m plain is =
+    let same : first ≡ m = cc in
+    subst (λ (message : Message). chains_of message.request ≡ []) same plain.0
+plain_one (first ∷ ms) (suc n) m plain is = plain_one ms n m plain.1 is
 
 module _ (T : Entry → Type 0) where
   abbrev Tells : Told → Type 0
@@ -66,6 +76,20 @@ module _ (T : Entry → Type 0) where
   heard_tells place (reply.Listing items) tells = tt
   heard_tells place given tells = tells
 
+  light_tells : (place : ℕ) (given : Reply) → TellsOnly T place given → TellsOnly T place (light given)
+  light_tells place (reply.Found k access) tells = tt
+  light_tells place (reply.Clash kept) tells = tt
+  light_tells place (reply.Listing items) tells = tt
+  light_tells place given tells = tells
+
+  -- what is kept of a reply tells no more than the reply
+  kept_tells : (stage : Stage) (place : ℕ) (given : Reply) → TellsOnly T place given
+      → TellsOnly T place (heard_in stage given)
+  kept_tells (round keys) place given tells = heard_tells place given tells
+  kept_tells compose place given tells = light_tells place given tells
+  kept_tells (act step) place given tells = light_tells place given tells
+  kept_tells (winds end ms later) place given tells = light_tells place given tells
+
   -- what is known and was told
   record Knows (s : ClientState) : Type 0 where
     known : AllKnown T s.known
@@ -79,10 +103,10 @@ module _ (T : Entry → Type 0) where
   idle_knows who calls =
       record { as_asked = idle_as_asked who calls; known = tt; answers = tt; stands = tt }
 
-  wound_knows : (end : Ending) (more : List Message) (s : ClientState) → AllKnown T s.known → Knows (wound end more s)
+  wound_knows : (end : Ending) (more : List (List Message)) (s : ClientState) → AllKnown T s.known → Knows (wound end more s)
   wound_knows (ending.Answers given place) [] s known = record { known = tt; answers = tt }
   wound_knows ending.Retries [] s known = record { known = tt; answers = tt }
-  wound_knows end (m ∷ ms) s known = record { known = known; answers = tt }
+  wound_knows end (ms ∷ later) s known = record { known = known; answers = tt }
 
   turned_knows : (t : Turn Stage) (s : ClientState) → AllKnown T s.known → Knows (turned t s)
   turned_knows (turn.GoesOn next) s known = record { known = known; answers = tt }
@@ -93,7 +117,7 @@ module _ (T : Entry → Type 0) where
   given_up_at : (s : ClientState) (stage : Stage) → KnowsOnly T s → Knows (given_up_in s stage)
   given_up_at s (act step) knows =
       wound_knows (ending.Answers answer.NoMemory None) (clean_up s.who step) s knows.known
-  given_up_at s (winds end m ms) knows = record { known = knows.known; answers = knows.answers }
+  given_up_at s (winds end ms later) knows = record { known = knows.known; answers = knows.answers }
   given_up_at s compose knows = record { known = tt; answers = tt }
   given_up_at s (round keys) knows = record { known = tt; answers = tt }
 
@@ -141,7 +165,7 @@ module _ (T : Entry → Type 0) where
   learned_knows s (round keys) known told = known_more s.known (told_by keys s.sent) known (known_by keys s.sent told)
   learned_knows s compose known told = known
   learned_knows s (act step) known told = known
-  learned_knows s (winds end m ms) known told = known
+  learned_knows s (winds end ms later) known told = known
 
   -- ---- what is sent
 
@@ -166,9 +190,12 @@ module _ (T : Entry → Type 0) where
   stage_sends who compose n m stands is = absurd cc
   stage_sends who (round keys) n m stands is = no_chain (chains_of m.request) (look_plain who keys n m is)
   stage_sends who (act step) n m stands is =
-      subst (λ (message : Message). AreChains (chains_of message.request)) (only_one (message_of who step) n m is) (flow_sends who step stands)
-  stage_sends who (winds end first ms) n m stands is =
-      subst (λ (message : Message). AreChains (chains_of message.request)) (only_one first n m is) (no_chain (chains_of first.request) stands.0)
+      let found : slice_get (message_of who step ∷ []) n ≡ Some m =
+      sym (ap (λ (ms : List Message). slice_get ms n) (messages_are who step)) ∙ is in
+      subst (λ (message : Message). AreChains (chains_of message.request)) (only_one (message_of who step) n m found)
+      (flow_sends who step stands)
+  stage_sends who (winds end ms later) n m stands is =
+      no_chain (chains_of m.request) (plain_one ms n m stands.0 is)
 
   pub sends : (number : ℕ) (ask : Ask) (s : ClientState) → KnowsOnly T s → next_step s ≡ asks number ask → AreChains (chains_of ask.request)
   sends number ask s knows is =
@@ -179,7 +206,7 @@ module _ (T : Entry → Type 0) where
 pub given_up_knows : (T : Entry → Type 0) (s : ClientState) → KnowsOnly T s → KnowsOnly T (given_up s)
 given_up_knows T s knows =
     knows_so T (given_up s) (given_up_as_asked s knows.as_asked) (given_up_at T s s.stage knows)
-    (given_up_fits (StepOnChain T) ArePlain (chain_cleans T) s knows.stands)
+    (given_up_fits (λ who. StepOnChain T) (λ who. AllPlain) (chain_cleans T) s knows.stands)
 
 module _ (digest : List ℕ → Id) (T : Entry → Type 0) where
   pub composed_knows : (s : ClientState) → KnowsOnly T s → KnowsOnly T (composed digest s)
@@ -188,7 +215,7 @@ module _ (digest : List ℕ → Id) (T : Entry → Type 0) where
     known = knows.known;
     answers = knows.answers;
     stands =
-        composed_fits digest (WasTold T) (StepOnChain T) ArePlain (chains_keep digest T) s
+        composed_fits digest (WasTold T) (λ who. StepOnChain T) (λ who. AllPlain) (chains_keep digest T) s
         (knows.known, knows.as_asked.known) knows.stands;
   }
 
@@ -206,14 +233,14 @@ module _ (digest : List ℕ → Id) (T : Entry → Type 0) where
   settled_knows : (b : Bool) (s : ClientState) → KnowsOnly T s → KnowsOnly T (settled digest b s)
   settled_knows b s knows =
       knows_so T (settled digest b s) (settled_as_asked digest b s knows.as_asked) (settled_at b s knows)
-      (settled_fits digest (WasTold T) (StepOnChain T) ArePlain (chains_keep digest T) b s knows.stands)
+      (settled_fits digest (WasTold T) (λ who. StepOnChain T) (λ who. AllPlain) (chains_keep digest T) b s knows.stands)
 
   pub served_knows : (place : ℕ) (told : Told) (s : ClientState) → KnowsOnly T s
       → TellsOnly T told.serve_place told.reply → AnswersLookup s.stage s.sent place told.reply
       → KnowsOnly T (served digest place told s)
   served_knows place told s knows tells now =
       let later = recorded place (told_in s told) s in
-      let tells_so = heard_in (TellsOnly T) s told (heard_tells T) tells in
+      let tells_so = holds_told_in (TellsOnly T) s told (kept_tells T s.stage) tells in
       let here = recorded_knows T place (told_in s told) s knows tells_so (lookup_in s place told now) in
       if_both (KnowsOnly T) (has_place place s.sent) _ s (settled_knows (is_complete later) later here) knows
 
@@ -243,7 +270,7 @@ module _ (T U : Entry → Type 0) (weaker : (e : Entry) → T e → U e) where
   weaker_stage (round keys) stands = tt
   weaker_stage (act step) stands =
       record { carries = weaker_chain (chain_of step) stands.carries; links_up = stands.links_up }
-  weaker_stage (winds end m ms) stands = stands
+  weaker_stage (winds end ms later) stands = stands
 
   pub weaker_knows : (s : ClientState) → KnowsOnly T s → KnowsOnly U s
   weaker_knows s knows = record {

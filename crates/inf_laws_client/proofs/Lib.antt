@@ -1,6 +1,5 @@
 pub mod AskedFacts
 pub mod ChainFacts
-pub mod KeepsFacts
 pub mod KnowsFacts
 pub mod LedChain
 pub mod PathClients

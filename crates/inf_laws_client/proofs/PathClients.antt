@@ -16,10 +16,10 @@ use Rattle.inf_duty.specs.Flow.{after_act, clean_up}
 use Rattle.inf_duty.specs.Group.{composed, next_stage}
 use Rattle.inf_duty.specs.Turn.{is_complete, recorded, served, settled, told_in}
 use Rattle.inf_duty.proofs.BegunKept.{if_both, kept_begun}
-use Rattle.inf_laws_client.specs.Keeps.{AnyMessages, ClientKeeps, FlowKeeps}
+use Rattle.inf_duty.specs.Keeps.{AnySteps, ClientKeeps, FlowKeeps}
 use Rattle.inf_laws_client.specs.Paths.{FlowFollows, KeepsToPath, StageFollows, StandsOnPath}
 use Rattle.inf_laws_client.specs.Told.{AnswersLookup, AreKnownFor}
-use Rattle.inf_laws_client.proofs.KeepsFacts.{composed_fits, given_up_fits, keeps_by, settled_fits}
+use Rattle.inf_duty.proofs.KeepsFacts.{composed_fits, given_up_fits, keeps_turns, settled_fits}
 use Rattle.inf_laws_client.proofs.PathFacts.{begins_on_path, flows_follow}
 use Rattle.inf_laws_client.proofs.ToldFacts.{composed_as_asked, given_up_as_asked, idle_as_asked, lookup_in, placed_as_asked, recorded_as_asked, settled_as_asked}
 
@@ -33,7 +33,7 @@ stage_stands : (asked : Call) (calls : List Call) (stage : Stage) → StageFollo
 stage_stands asked calls compose follows = tt
 stage_stands asked calls (round keys) follows = tt
 stage_stands asked calls (act step) follows = follows
-stage_stands asked calls (winds end m ms) follows = tt
+stage_stands asked calls (winds end ms later) follows = tt
 
 next_stands : (digest : List ℕ → Id) (who : Who) (asked : Call) (calls : List Call) (known : List Known)
     (found : Option Course) → AreKnownFor known → course_of asked ≡ found
@@ -52,31 +52,31 @@ composed_stands digest who (asked ∷ calls) known fits =
 -- ---- flows and clients
 
 flows_keep : (digest : List ℕ → Id) (who : Who) (calls : List Call)
-    → FlowKeeps Flow (after_act digest who) (clean_up who) (FlowFollows calls) AnyMessages
+    → FlowKeeps Flow (after_act digest who) (clean_up who) (FlowFollows calls) AnySteps
 flows_keep digest who [] =
-    keeps_by Flow (after_act digest who) (clean_up who) (FlowFollows []) AnyMessages
-    (λ step ask_place place given follows. absurd follows) (λ step follows. tt)
+    keeps_turns Flow (after_act digest who) (clean_up who) (FlowFollows []) AnySteps
+    (λ step sent follows. absurd follows) (λ step follows. tt)
 flows_keep digest who (asked ∷ calls) = flows_follow digest asked who
 
-paths_keep : (digest : List ℕ → Id) → ClientKeeps digest AreKnownFor FlowFollows AnyMessages
+paths_keep : (digest : List ℕ → Id) → ClientKeeps digest AreKnownFor (λ who. FlowFollows) (λ who. AnySteps)
 paths_keep digest = record {
   begins = λ who calls known fits. composed_stands digest who calls known fits;
   flows = flows_keep digest;
-  none = tt;
-  later = λ m ms well. tt;
+  none = λ who. tt;
+  later = λ who ms later well. tt;
 }
 
 pub composed_keeps : (digest : List ℕ → Id) (s : ClientState) → KeepsToPath s → KeepsToPath (composed digest s)
 composed_keeps digest s keeps = record {
   as_asked = composed_as_asked digest s keeps.as_asked;
   stands =
-      composed_fits digest AreKnownFor FlowFollows AnyMessages (paths_keep digest) s keeps.as_asked.known keeps.stands;
+      composed_fits digest AreKnownFor (λ who. FlowFollows) (λ who. AnySteps) (paths_keep digest) s keeps.as_asked.known keeps.stands;
 }
 
 pub given_up_keeps : (s : ClientState) → KeepsToPath s → KeepsToPath (given_up s)
 given_up_keeps s keeps = record {
   as_asked = given_up_as_asked s keeps.as_asked;
-  stands = given_up_fits FlowFollows AnyMessages (λ who calls step follows. tt) s keeps.stands;
+  stands = given_up_fits (λ who. FlowFollows) (λ who. AnySteps) (λ who calls step follows. tt) s keeps.stands;
 }
 
 pub begun_keeps : (digest : List ℕ → Id) (ask : Ask) (s : ClientState) → KeepsToPath s
@@ -98,7 +98,7 @@ settled_keeps : (digest : List ℕ → Id) (b : Bool) (s : ClientState) → Keep
 settled_keeps digest b s keeps =
     record {
       as_asked = settled_as_asked digest b s keeps.as_asked;
-      stands = settled_fits digest AreKnownFor FlowFollows AnyMessages (paths_keep digest) b s keeps.stands;
+      stands = settled_fits digest AreKnownFor (λ who. FlowFollows) (λ who. AnySteps) (paths_keep digest) b s keeps.stands;
     }
 
 pub served_keeps : (digest : List ℕ → Id) (place : ℕ) (told : Told) (s : ClientState) → KeepsToPath s

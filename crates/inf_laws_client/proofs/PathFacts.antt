@@ -11,10 +11,11 @@ use Rattle.inf_message.specs.declared.reply.Reply.{Reply}
 use Rattle.inf_message.specs.declared.reply.Reply.TheVariants as reply
 use Rattle.inf_message.specs.declared.turn.Turn.{Turn}
 use Rattle.inf_message.specs.declared.turn.Turn.TheVariants as turn
+use Rattle.inf_message.specs.Sent.{Sent}
 use Rattle.inf_message.specs.Who.{Who}
 use Rattle.inf_flow_dir.specs.declared.dir_flow.DirFlow.TheVariants as dir_flow
 use Rattle.inf_flow_dir.specs.declared.dir_flow.DirFlow.{DirFlow}
-use Rattle.inf_flow_dir.specs.DirFlow.{after as after_dir, clean_up as dir_clean_up}
+use Rattle.inf_flow_dir.specs.DirFlow.{after as after_dir, after_reply as dir_reply, clean_up as dir_clean_up}
 use Rattle.inf_resolve.specs.declared.known.Known.{Known}
 use Rattle.inf_resolve.specs.declared.resolved.Resolved.{Resolved}
 use Rattle.inf_resolve.specs.declared.resolved.Resolved.TheVariants as comes
@@ -27,10 +28,10 @@ use Rattle.inf_duty.specs.declared.flow.Flow.TheVariants as flow
 use Rattle.inf_duty.specs.Course.{course_at, course_in, course_of, flow_at, split, text_of}
 use Rattle.inf_duty.specs.Flow.{after_act, clean_up}
 use Rattle.inf_duty.specs.Group.{stage_by}
-use Rattle.inf_laws_client.specs.Keeps.{AnyMessages, FlowKeeps, TurnFits}
+use Rattle.inf_duty.specs.Keeps.{AnySteps, FlowKeeps, TurnFits}
 use Rattle.inf_laws_client.specs.Paths.{Follows, StageFollows, StopsBefore, TurnFollows, names_of}
 use Rattle.inf_laws_client.specs.Told.{AreKnownFor}
-use Rattle.inf_laws_client.proofs.KeepsFacts.{either_keeps, fails_fits, keeps_by, turn_fits}
+use Rattle.inf_duty.proofs.KeepsFacts.{either_keeps, fails_fits, keeps_by, turn_fits}
 use Rattle.inf_laws_client.proofs.LedChain.{chain_names}
 
 abbrev ok : List (List ℕ) → Result (List (List ℕ)) Errno
@@ -150,7 +151,7 @@ module _ (digest : List ℕ → Id) (asked : Call) where
   OnPath step = Follows asked (flow.Dir step)
 
   dir_turns : (who : Who) (step : DirFlow) (ask_place place : ℕ) (given : Reply) → OnPath step
-      → TurnFits DirFlow OnPath AnyMessages (after_dir digest who step ask_place place given)
+      → TurnFits DirFlow OnPath AnySteps (dir_reply digest who step ask_place place given)
   dir_turns who (dir_flow.Reserves chain name mode) ask_place place (reply.Reserved version) is = is
   dir_turns who (dir_flow.Makes chain name mode version id) ask_place place reply.Fine is = is
   dir_turns who (dir_flow.Makes chain name mode version id) ask_place place (reply.Clash kept) is = tt
@@ -158,23 +159,23 @@ module _ (digest : List ℕ → Id) (asked : Call) where
   dir_turns who (dir_flow.Seals chain) ask_place place reply.Fine is = is
   dir_turns who (dir_flow.Unlinks chain) ask_place place reply.Fine is = tt
   dir_turns who step ask_place place given is =
-      fails_fits AnyMessages DirFlow OnPath (dir_clean_up who step) place given tt
+      fails_fits AnySteps DirFlow OnPath (dir_clean_up who step) place given tt
 
-  dirs_keep : (who : Who) → FlowKeeps DirFlow (after_dir digest who) (dir_clean_up who) OnPath AnyMessages
+  dirs_keep : (who : Who) → FlowKeeps DirFlow (after_dir digest who) (dir_clean_up who) OnPath AnySteps
   dirs_keep who =
-      keeps_by DirFlow (after_dir digest who) (dir_clean_up who) OnPath AnyMessages (dir_turns who) (λ step is. tt)
+      keeps_by DirFlow (after_dir digest who) (dir_reply digest who) (dir_clean_up who) OnPath AnySteps
+      (λ step sent. refl) tt (dir_turns who) (λ step is. tt)
 
   pub flows_follow : (who : Who)
-      → FlowKeeps Flow (after_act digest who) (clean_up who) (Follows asked) AnyMessages
-  flows_follow who = either_keeps AnyMessages digest who (Follows asked) tt (dirs_keep who)
+      → FlowKeeps Flow (after_act digest who) (clean_up who) (Follows asked) AnySteps
+  flows_follow who = either_keeps AnySteps digest who (Follows asked) tt (dirs_keep who)
 
-  turn_follows : (t : Turn Flow) → TurnFits Flow (Follows asked) AnyMessages t → TurnFollows asked t
+  turn_follows : (t : Turn Flow) → TurnFits Flow (Follows asked) AnySteps t → TurnFollows asked t
   turn_follows (turn.GoesOn next) follows = follows
   turn_follows (turn.WindsUp end more) follows = tt
 
-  pub after_act_follows : (who : Who) (step : Flow) (ask_place place : ℕ) (given : Reply) → Follows asked step
-      → TurnFollows asked (after_act digest who step ask_place place given)
-  after_act_follows who step ask_place place given is =
-      turn_follows (after_act digest who step ask_place place given)
-      (turn_fits Flow (after_act digest who) (clean_up who) (Follows asked) AnyMessages (flows_follow who) step ask_place
-      place given is)
+  pub after_act_follows : (who : Who) (step : Flow) (sent : List Sent) → Follows asked step
+      → TurnFollows asked (after_act digest who step sent)
+  after_act_follows who step sent is =
+      turn_follows (after_act digest who step sent)
+      (turn_fits Flow (after_act digest who) (clean_up who) (Follows asked) AnySteps (flows_follow who) step sent is)

@@ -17,19 +17,15 @@ use Rattle.inf_message.specs.declared.turn.Turn.{Turn}
 use Rattle.inf_message.specs.declared.turn.Turn.TheVariants as turn
 use Rattle.inf_message.specs.Heard.{heard}
 use Rattle.inf_message.specs.History.{Told, or_told}
-use Rattle.inf_message.specs.Sent.{Sent, is_wanting, told_at}
+use Rattle.inf_message.specs.Sent.{Sent, told_at}
 use Rattle.inf_message.specs.Who.{Who}
 use Rattle.inf_resolve.specs.declared.known.Known.{Known}
-use Rattle.inf_resolve.specs.declared.resolved.Resolved.{Resolved}
-use Rattle.inf_resolve.specs.declared.resolved.Resolved.TheVariants as comes
-use Rattle.inf_resolve.specs.Resolved.{resolved}
-use Rattle.inf_duty.specs.declared.course.Course.{Course}
 use Rattle.inf_duty.specs.ClientState.{ClientState, Stage, act, compose, idle, placed, round, winds, wound}
 use Rattle.inf_duty.specs.Course.{next_course}
 use Rattle.inf_duty.specs.Duty.{asks, given_up, given_up_in, next_in, next_of, next_step}
 use Rattle.inf_duty.specs.Flow.{clean_up}
 use Rattle.inf_duty.specs.Group.{composed, composed_stage, group, next_stage}
-use Rattle.inf_duty.specs.Turn.{is_lone, known_turn, learned, recorded, round_turn, settled, told_by, told_in, told_of, turn_at, turn_by, turned}
+use Rattle.inf_duty.specs.Turn.{heard_in, is_lone, learned, recorded, settled, told_by, told_in, told_of, turn_at, turned}
 use Rattle.inf_laws_client.specs.Told.{AnswersKeys, AnswersLookup, AreKnownFor, AreToldFor, IfTold, IsToldAsAsked, IsToldFor, RoundIsToldFor}
 
 -- ---- what is sent
@@ -63,18 +59,19 @@ told_one P told x_place None true now before = now refl
 told_one P told x_place (Some earlier) true now before = before
 told_one P told x_place old false now before = before
 
--- what is true of a reply with its place is true of what is kept of it, if it is once the reply was heard
-heard_if : (P : ℕ → Reply → Type 0) (b : Bool) (told : Told)
-    → ((place : ℕ) (given : Reply) → P place given → P place (heard given)) → P told.serve_place told.reply
-    → P (if b then told else record told { reply = heard told.reply }).serve_place
-    (if b then told else record told { reply = heard told.reply }).reply
-heard_if P true told hears now = now
-heard_if P false told hears now = hears told.serve_place told.reply now
+-- what is true of a reply with its place is true of what is kept of it, if it is where others are waited for too
+heard_if : (P : ℕ → Reply → Type 0) (b : Bool) (told : Told) (kept : Reply) → P told.serve_place told.reply
+    → P told.serve_place kept
+    → P (if b then told else record told { reply = kept }).serve_place
+    (if b then told else record told { reply = kept }).reply
+heard_if P true told kept now hears = now
+heard_if P false told kept now hears = hears
 
-pub heard_in : (P : ℕ → Reply → Type 0) (s : ClientState) (told : Told)
-    → ((place : ℕ) (given : Reply) → P place given → P place (heard given)) → P told.serve_place told.reply
-    → P (told_in s told).serve_place (told_in s told).reply
-heard_in P s told hears now = heard_if P (is_lone s) told hears now
+pub holds_told_in : (P : ℕ → Reply → Type 0) (s : ClientState) (told : Told)
+    → ((place : ℕ) (given : Reply) → P place given → P place (heard_in s.stage given))
+    → P told.serve_place told.reply → P (told_in s told).serve_place (told_in s told).reply
+holds_told_in P s told hears now =
+    heard_if P (is_lone s) told (heard_in s.stage told.reply) now (hears told.serve_place told.reply now)
 
 heard_for : (k : LookKey) (given : Reply) → IsToldFor k given → IsToldFor k (heard given)
 heard_for look.Top (reply.Listing items) told = tt
@@ -90,42 +87,17 @@ heard_keys (k ∷ keys) (x ∷ xs) place given told =
     (λ same. heard_for k given (told.0 same), heard_keys keys xs place given told.1)
 
 heard_lookup : (stage : Stage) (sent : List Sent) (place : ℕ) (given : Reply)
-    → AnswersLookup stage sent place given → AnswersLookup stage sent place (heard given)
+    → AnswersLookup stage sent place given → AnswersLookup stage sent place (heard_in stage given)
 heard_lookup (round keys) sent place given told = heard_keys keys sent place given told
 heard_lookup compose sent place given told = tt
 heard_lookup (act step) sent place given told = tt
-heard_lookup (winds end m ms) sent place given told = tt
+heard_lookup (winds end ms later) sent place given told = tt
 
 pub lookup_in : (s : ClientState) (place : ℕ) (told : Told) → AnswersLookup s.stage s.sent place told.reply
     → AnswersLookup s.stage s.sent place (told_in s told).reply
 lookup_in s place told now =
-    heard_in (λ (serve_place : ℕ) (given : Reply). AnswersLookup s.stage s.sent place given) s told
+    holds_told_in (λ (serve_place : ℕ) (given : Reply). AnswersLookup s.stage s.sent place given) s told
     (λ serve_place given. heard_lookup s.stage s.sent place given) now
-
--- ---- what comes of a round
-
--- nothing goes on behind a round but what is settled next, and nothing is left to wind up
-module _ (P : Turn Stage → Type 0) (goes : P (turn.GoesOn compose))
-    (winds_up : (end : Ending) → P (turn.WindsUp end [])) where
-  turn_by_comes : (r : Resolved) → P (turn_by r)
-  turn_by_comes (comes.IsBusy by place) = winds_up (ending.Answers (answer.Again by) (Some place))
-  turn_by_comes comes.Lacks = winds_up ending.Retries
-  turn_by_comes (comes.Asks keys) = goes
-  turn_by_comes (comes.Leads old new) = goes
-
-  known_comes : (digest : List ℕ → Id) (s : ClientState) (found : Option Course)
-      → P (known_turn digest s.who s.known found)
-  known_comes digest s None = winds_up ending.Retries
-  known_comes digest s (Some course) = turn_by_comes (resolved digest s.who.root course.looked s.known)
-
-  wanting_comes : (digest : List ℕ → Id) (s : ClientState) (b : Bool)
-      → P (if b then turn.WindsUp (ending.Answers answer.NoMemory None) []
-      else known_turn digest s.who s.known (next_course s.left))
-  wanting_comes digest s true = winds_up (ending.Answers answer.NoMemory None)
-  wanting_comes digest s false = known_comes digest s (next_course s.left)
-
-  pub round_comes : (digest : List ℕ → Id) (s : ClientState) → P (round_turn digest s)
-  round_comes digest s = wanting_comes digest s (is_wanting s.sent)
 
 -- ---- what was told answers what was asked
 
@@ -137,16 +109,16 @@ none_asked : (stage : Stage) → RoundIsToldFor stage []
 none_asked compose = refl
 none_asked (round keys) = none_told keys
 none_asked (act step) = tt
-none_asked (winds end m ms) = tt
+none_asked (winds end ms later) = tt
 
 pub idle_as_asked : (who : Who) (calls : List Call) → IsToldAsAsked (idle who calls)
 idle_as_asked who calls = record { known = tt; sent = refl }
 
-wound_as_asked : (end : Ending) (more : List Message) (s : ClientState) → AreKnownFor s.known
+wound_as_asked : (end : Ending) (more : List (List Message)) (s : ClientState) → AreKnownFor s.known
     → IsToldAsAsked (wound end more s)
 wound_as_asked (ending.Answers given place) [] s known = record { known = tt; sent = refl }
 wound_as_asked ending.Retries [] s known = record { known = tt; sent = refl }
-wound_as_asked end (m ∷ ms) s known = record { known = known; sent = tt }
+wound_as_asked end (ms ∷ later) s known = record { known = known; sent = tt }
 
 turned_as_asked : (t : Turn Stage) (s : ClientState) → AreKnownFor s.known → IsToldAsAsked (turned t s)
 turned_as_asked (turn.GoesOn next) s known = record { known = known; sent = none_asked next }
@@ -155,7 +127,7 @@ turned_as_asked (turn.WindsUp end more) s known = wound_as_asked end more s know
 given_up_at : (s : ClientState) (stage : Stage) → IsToldAsAsked s → IsToldAsAsked (given_up_in s stage)
 given_up_at s (act step) told =
     wound_as_asked (ending.Answers answer.NoMemory None) (clean_up s.who step) s told.known
-given_up_at s (winds end m ms) told = told
+given_up_at s (winds end ms later) told = told
 given_up_at s compose told = record { known = tt; sent = refl }
 given_up_at s (round keys) told = record { known = tt; sent = refl }
 
@@ -172,7 +144,7 @@ composed_at digest s compose known sent =
     }
 composed_at digest s (round keys) known sent = record { known = known; sent = sent }
 composed_at digest s (act step) known sent = record { known = known; sent = tt }
-composed_at digest s (winds end m ms) known sent = record { known = known; sent = tt }
+composed_at digest s (winds end ms later) known sent = record { known = known; sent = tt }
 
 pub composed_as_asked : (digest : List ℕ → Id) (s : ClientState) → IsToldAsAsked s
     → IsToldAsAsked (composed digest s)
@@ -195,7 +167,7 @@ more_asked : (s : ClientState) (number : ℕ) (ask : Ask) (x : Sent) (stage : St
 more_asked s number ask x compose sent is none told = absurd cc
 more_asked s number ask x (round keys) sent is none told = told_more keys sent x none told
 more_asked s number ask x (act step) sent is none told = tt
-more_asked s number ask x (winds end m ms) sent is none told = tt
+more_asked s number ask x (winds end ms later) sent is none told = tt
 
 pub placed_as_asked : (place number : ℕ) (ask : Ask) (s : ClientState) → IsToldAsAsked s
     → next_step s ≡ asks number ask → IsToldAsAsked (placed place s)
@@ -224,7 +196,7 @@ told_stage : (place : ℕ) (told : Told) (stage : Stage) (sent : List Sent)
 told_stage place told compose sent now before = ap (map (told_at place told)) before
 told_stage place told (round keys) sent now before = told_keys place told keys sent now before
 told_stage place told (act step) sent now before = tt
-told_stage place told (winds end m ms) sent now before = tt
+told_stage place told (winds end ms later) sent now before = tt
 
 pub recorded_as_asked : (place : ℕ) (told : Told) (s : ClientState) → IsToldAsAsked s
     → AnswersLookup s.stage s.sent place told.reply → IsToldAsAsked (recorded place told s)
@@ -252,7 +224,7 @@ learned_for : (s : ClientState) (stage : Stage) → RoundIsToldFor stage s.sent 
 learned_for s (round keys) sent known = known_more s.known (told_by keys s.sent) known (known_by keys s.sent sent)
 learned_for s compose sent known = known
 learned_for s (act step) sent known = known
-learned_for s (winds end m ms) sent known = known
+learned_for s (winds end ms later) sent known = known
 
 pub settled_as_asked : (digest : List ℕ → Id) (b : Bool) (s : ClientState) → IsToldAsAsked s
     → IsToldAsAsked (settled digest b s)

@@ -1,6 +1,5 @@
 pub mod Asked
 pub mod Examples
-pub mod Keeps
 pub mod Paths
 pub mod Run
 pub mod Told

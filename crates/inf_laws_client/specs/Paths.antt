@@ -14,7 +14,7 @@ use Rattle.inf_duty.specs.ClientState.{ClientState, Stage, act}
 use Rattle.inf_duty.specs.Course.{text_of}
 use Rattle.inf_duty.specs.declared.flow.Flow.{Flow}
 use Rattle.inf_message.specs.declared.turn.Turn.{Turn}
-use Rattle.inf_laws_client.specs.Keeps.{AnyMessages, StageFits}
+use Rattle.inf_duty.specs.Keeps.{AnySteps, StageFits}
 use Rattle.inf_laws_client.specs.Told.{IsToldAsAsked, name_of}
 
 abbrev pub names_in : List Entry → List (List ℕ)
@@ -79,7 +79,7 @@ FlowFollows [] step = ⊥
 FlowFollows (asked ∷ calls) step = Follows asked step
 
 abbrev pub StandsOnPath : List Call → Stage → Type 0
-StandsOnPath calls stage = StageFits (FlowFollows calls) AnyMessages stage
+StandsOnPath calls stage = StageFits (FlowFollows calls) AnySteps stage
 
 -- a flow stands on the path of the call under way
 pub record KeepsToPath (s : ClientState) : Type 0 where

@@ -22,7 +22,7 @@ use Rattle.inf_duty.specs.declared.flow.Flow.{Flow}
 use Rattle.inf_message.specs.Sent.{Sent}
 use Rattle.inf_resolve.specs.declared.known.Known.{Known}
 use Rattle.inf_resolve.specs.Known.{told_entry}
-use Rattle.inf_laws_client.specs.Keeps.{StageFits}
+use Rattle.inf_duty.specs.Keeps.{StageFits}
 
 -- ---- answers
 
@@ -64,7 +64,7 @@ abbrev pub RoundIsToldFor : Stage → List Sent → Type 0
 RoundIsToldFor compose sent = sent ≡ []
 RoundIsToldFor (round keys) sent = AreToldFor keys sent
 RoundIsToldFor (act step) sent = Unit {0}
-RoundIsToldFor (winds ending m ms) sent = Unit {0}
+RoundIsToldFor (winds ending ms later) sent = Unit {0}
 
 -- what a client was told answers what it asked
 pub record IsToldAsAsked (s : ClientState) : Type 0 where
@@ -123,8 +123,12 @@ abbrev pub ArePlain : List Message → Type 0
 ArePlain [] = Unit {0}
 ArePlain (m ∷ ms) = (chains_of m.request ≡ []) × ArePlain ms
 
+abbrev pub AllPlain : List (List Message) → Type 0
+AllPlain [] = Unit {0}
+AllPlain (ms ∷ later) = ArePlain ms × AllPlain later
+
 abbrev pub StandsOn : (Entry → Type 0) → Stage → Type 0
-StandsOn T stage = StageFits (λ (step : Flow). IsChainOf T (chain_of step)) ArePlain stage
+StandsOn T stage = StageFits (λ (step : Flow). IsChainOf T (chain_of step)) AllPlain stage
 
 pub record KnowsOnly (T : Entry → Type 0) (s : ClientState) : Type 0 where
   pub as_asked : IsToldAsAsked s

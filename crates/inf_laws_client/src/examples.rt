@@ -58,11 +58,11 @@ pub fn example_of_clashes()
 
 /// What is cleaned up behind each message of a flow, and what follows the unlinking.
 pub fn example_of_clean_ups()
-    ensures making { clean_up the_client make_a ≡ cancel ∷ [] }
-    ensures linking { clean_up the_client link_a ≡ drop_made ∷ cancel ∷ [] }
-    ensures unlinking { clean_up the_client unlink_a ≡ unseal_a ∷ [] }
-    ensures unlinked { after_unlink the_client chain_to_a ≡ drop_made ∷ [] }
-    ensures moved { after_unlink the_client chain_to_a_from_b ≡ drop_made ∷ forget_moved ∷ [] }
+    ensures making { clean_up the_client make_a ≡ (cancel ∷ []) ∷ [] }
+    ensures linking { clean_up the_client link_a ≡ (drop_made ∷ []) ∷ (cancel ∷ []) ∷ [] }
+    ensures unlinking { clean_up the_client unlink_a ≡ (unseal_a ∷ []) ∷ [] }
+    ensures unlinked { after_unlink the_client chain_to_a ≡ (drop_made ∷ []) ∷ [] }
+    ensures moved { after_unlink the_client chain_to_a_from_b ≡ (drop_made ∷ []) ∷ (forget_moved ∷ []) ∷ [] }
 {}
 
 /// A client that wants memory before it makes the content object takes back the name instead.

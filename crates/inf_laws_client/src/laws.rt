@@ -9,6 +9,7 @@ ghost use Rattle.inf_message.specs.declared.ask.Ask.{Ask};
 ghost use Rattle.inf_message.specs.declared.reply.Reply.{Reply};
 ghost use Rattle.inf_message.specs.declared.request.Request.{Request};
 ghost use Rattle.inf_message.specs.History.{Told};
+ghost use Rattle.inf_message.specs.Sent.{Sent};
 ghost use Rattle.inf_server.specs.Chains.{chains_of};
 ghost use Rattle.inf_laws_client.specs.Asked.{AnswersAsked, AsksItsGroup, Posting, WasAsked};
 ghost use Rattle.inf_duty.specs.ClientState.{ClientState, idle, placed};
@@ -63,8 +64,8 @@ pub fn flows_follow_paths()
     ensures begins { (digest : List ℕ → Id) (root : Id) (asked : Call) (course : Course) (known : List Known)
         → course_of asked ≡ Some course → AreKnownFor known
         → StageFollows asked (stage_by course.deed (resolved digest root course.looked known)) }
-    ensures goes_on { (digest : List ℕ → Id) (who : Who) (asked : Call) (flow : Flow) (ask_place place : ℕ)
-        (reply : Reply) → Follows asked flow → TurnFollows asked (after_act digest who flow ask_place place reply) }
+    ensures goes_on { (digest : List ℕ → Id) (who : Who) (asked : Call) (flow : Flow) (sent : List Sent)
+        → Follows asked flow → TurnFollows asked (after_act digest who flow sent) }
 {}
 
 /// A client keeps to the path of the call under way, where each lookup of a name is told under that name.

@@ -5,5 +5,4 @@ pub returns-clause-begins : goal.returns-clause-begins
 returns-clause-begins c = λ digest root asked course known found fits. begins_on_path digest root asked course known found fits
 
 pub returns-clause-goes_on : goal.returns-clause-goes_on
-returns-clause-goes_on c =
-    λ digest who asked flow ask_place place given is. after_act_follows digest asked who flow ask_place place given is
+returns-clause-goes_on c = λ digest who asked flow sent is. after_act_follows digest asked who flow sent is
