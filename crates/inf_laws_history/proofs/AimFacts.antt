@@ -12,7 +12,7 @@ use Rattle.inf_flow_dir.specs.declared.dir_flow.DirFlow.TheVariants as dir_flow
 use Rattle.inf_flow_file.specs.declared.file_flow.FileFlow.TheVariants as file_flow
 use Rattle.inf_duty.specs.declared.flow.Flow.TheVariants as flow
 use Rattle.inf_duty.specs.ClientState.{ClientState, Stage, act, compose, round, winds}
-use Rattle.inf_duty.specs.Flow.{message_of}
+use Rattle.inf_duty.proofs.FlowFacts.{message_of}
 use Rattle.inf_duty.specs.Group.{group}
 use Rattle.inf_duty.specs.Course.{course_at, course_of, text_of}
 use Rattle.inf_duty.specs.declared.flow.Flow.{Flow}
@@ -28,7 +28,7 @@ use Rattle.inf_laws_directory.specs.Standing.{IsToldAlong}
 use Rattle.inf_laws_directory.specs.Told.{IsTold}
 use Rattle.inf_laws_history.specs.Pending.{Waits}
 use Rattle.inf_laws_history.specs.Phases.{FlowMay, HasPhase, IsLiftedBy, StageMay}
-use Rattle.inf_laws_history.proofs.GroupMessages.{look_in, only_one}
+use Rattle.inf_laws_history.proofs.GroupMessages.{lift_message, look_in, step_message}
 use Rattle.inf_laws_history.proofs.CourseFacts.{HasCourse, StageHasCourse}
 use Rattle.inf_message.specs.declared.ask.Ask.{Ask}
 use Rattle.inf_message.specs.declared.op.Op.{Op}
@@ -152,11 +152,11 @@ module _ (service : Service) (objects : Objects) (root : Access) (phases : Phase
       let found = look_in who keys index number what is in
       subst (λ (r : Request). AimsAt who.caller asked r) (sym found.is) tt
   stage_aims who asked calls (act step) phase index number what stands path course has may is =
-      subst (λ (m : Message). AimsAt who.caller asked m.request) (only_one (message_of who step) index number what is)
+      subst (λ (m : Message). AimsAt who.caller asked m.request) (step_message who step index number what is)
       (flow_aims who asked step stands path may course)
-  stage_aims who asked calls (winds ending first ms) phase index number what stands path course has may is =
-      subst (λ (m : Message). AimsAt who.caller asked m.request) (only_one first index number what is)
-      (lift_aims who.servers who.caller asked phase first has.0)
+  stage_aims who asked calls (winds ending ms later) phase index number what stands path course has may is =
+      lift_aims who.servers who.caller asked phase (record { number = number; request = what })
+      (lift_message who.servers phase ms later index number what has is)
 
   pub aims : (s : ClientState) (asked : Call) (calls : List Call) (phase : Phase) (place number : ℕ) (ask : Ask) → s.left ≡ asked ∷ calls
       → KnowsOnly T s → KeepsToPath s → HasCourse s → HasPhase service.digest s.who s.stage phase → StageMay s.who.caller s.stage

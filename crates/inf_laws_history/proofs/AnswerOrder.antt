@@ -1,6 +1,6 @@
 -- The order of answers within a group: an Ask that still waits may as well be answered before a later Ask of the group is
 -- made, and before that one is answered.
-use Rattle.std.proofs.Common.{◌≡◌, ℕ, ◌+◌, ◌<◌, ◌&&◌, ◌||◌, zero, suc, Bool, true, false, cond, eqb, List, [], ◌∷◌, ◌++◌, length, map, slice_get, Option, Some, None, option_map, refl, sym, ap, ap₂, ◌∙◌, subst, arith}
+use Rattle.std.proofs.Common.{◌≡◌, ℕ, ◌+◌, ◌<◌, ◌&&◌, ◌||◌, not, zero, suc, Bool, true, false, cond, eqb, List, [], ◌∷◌, ◌++◌, length, map, slice_get, Option, Some, None, option_map, refl, sym, ap, ap₂, ◌∙◌, subst, arith}
 use Rattle.inf_base.specs.declared.id.Id.{Id}
 use Rattle.std.proofs.lemmas.Bool.{or_right}
 use Rattle.std.proofs.lemmas.Bool.Decides.{Decides-eqb, nat_tests}
@@ -9,11 +9,10 @@ use Rattle.std.proofs.lemmas.Option.{slice_get-map, slice_get_within}
 use Rattle.std.specs.List.{list_all}
 use Rattle.inf_duty.specs.Duty.{asked}
 use Rattle.inf_duty.specs.Own.{after_answer, told_pair}
-use Rattle.inf_duty.specs.ClientState.{ClientState, Counts, Stage, act, compose, counted, is_round, one_if, placed, round, winds}
-use Rattle.inf_message.specs.Heard.{heard}
+use Rattle.inf_duty.specs.ClientState.{ClientState, Counts, Stage, counted, is_round, one_if, placed}
 use Rattle.inf_message.specs.Who.{Who}
 use Rattle.inf_duty.specs.Group.{group}
-use Rattle.inf_duty.specs.Turn.{after_record, is_complete, later_place, recorded, served, told_in}
+use Rattle.inf_duty.specs.Turn.{after_record, heard_in, is_complete, later_place, recorded, served, told_in}
 use Rattle.inf_duty.specs.Messages.{has_one_message}
 use Rattle.inf_message.specs.Sent.{Sent, has_place, is_first, is_told, told_at}
 use Rattle.inf_laws_history.proofs.ClientSteps.{recorded_in, served_within}
@@ -101,29 +100,32 @@ not_full s room =
     ap (λ b. b && list_all is_told s.sent) apart
 
 -- what is kept of an answer that others are waited for with
-abbrev pub kept_of : Told → Told
-kept_of told = record told { reply = heard told.reply }
+abbrev pub kept_of : Stage → Told → Told
+kept_of stage told = record told { reply = heard_in stage told.reply }
 
--- a group that is asked in part is a round
-several : (who : Who) (stage : Stage) (sent : List Sent) → 0 < length sent → length sent < length (group who stage) → has_one_message stage ≡ false
-several who compose sent some room = refl
-several who (round keys) sent some room = refl
-several who (act step) sent some room = absurd (omega (arith, some, room))
-several who (winds end m ms) sent some room = absurd (omega (arith, some, room))
+-- a group that is asked in part has more than one message
+several : (who : Who) (stage : Stage) (sent : List Sent) → 0 < length sent → length sent < length (group who stage) → has_one_message who stage ≡ false
+several who stage sent some room =
+    let apart : eqb (length (group who stage)) 1 ≡ false = grind (arith, nat_tests) in
+    ap (λ b. not (is_round stage) && b) apart ∙ none (not (is_round stage))
+  where
+    none : (b : Bool) → (b && false) ≡ false
+    none true = refl
+    none false = refl
 
-open_several : (at : ℕ) (s : ClientState) → IsOpenIn at s → has_one_message s.stage ≡ false
+open_several : (at : ℕ) (s : ClientState) → IsOpenIn at s → has_one_message s.who s.stage ≡ false
 open_several at s is =
     let within = slice_get_within s.sent is.index (waiting_at at) is.waits in
     several s.who s.stage s.sent (omega (arith, within)) is.room
 
-kept_in : (s : ClientState) (told : Told) → has_one_message s.stage ≡ false → told_in s told ≡ kept_of told
-kept_in s told more = ap (λ b. cond (b && eqb (length s.sent) 1) told (kept_of told)) more
+kept_in : (s : ClientState) (told : Told) → has_one_message s.who s.stage ≡ false → told_in s told ≡ kept_of s.stage told
+kept_in s told more = ap (λ b. cond (b && eqb (length s.sent) 1) told (kept_of s.stage told)) more
 
-recorded_kept : (at : ℕ) (told : Told) (s : ClientState) → has_one_message s.stage ≡ false → recorded_in at told s ≡ recorded at (kept_of told) s
+recorded_kept : (at : ℕ) (told : Told) (s : ClientState) → has_one_message s.who s.stage ≡ false → recorded_in at told s ≡ recorded at (kept_of s.stage told) s
 recorded_kept at told s more = ap (λ t. recorded at t s) (kept_in s told more)
 
 -- an answer does not end a group that is not wholly asked
-pub open_recorded : (digest : List ℕ → Id) (at : ℕ) (told : Told) (s : ClientState) → IsOpenIn at s → served digest at told s ≡ recorded at (kept_of told) s
+pub open_recorded : (digest : List ℕ → Id) (at : ℕ) (told : Told) (s : ClientState) → IsOpenIn at s → served digest at told s ≡ recorded at (kept_of s.stage told) s
 open_recorded digest at told s is =
     served_within digest at told s (held at s.sent is.index is.waits)
     (not_full (recorded_in at told s) (let room = is.room in let same = length-map s.sent (told_at at (told_in s told)) in omega arith))
@@ -136,30 +138,30 @@ open_stays at place told s unlike is = record {
   room = let room = is.room in let same = length-map s.sent (told_at at told) in omega arith;
 }
 
-served_here : (digest : List ℕ → Id) (at : ℕ) (told : Told) (s : ClientState) → has_one_message s.stage ≡ false → has_place at s.sent ≡ true
-    → served digest at told s ≡ after_record digest (recorded at (kept_of told) s)
+served_here : (digest : List ℕ → Id) (at : ℕ) (told : Told) (s : ClientState) → has_one_message s.who s.stage ≡ false → has_place at s.sent ≡ true
+    → served digest at told s ≡ after_record digest (recorded at (kept_of s.stage told) s)
 served_here digest at told s more here =
     ap (λ b. cond b (after_record digest (recorded_in at told s)) s) here ∙ ap (after_record digest) (recorded_kept at told s more)
 
 module _ (digest : List ℕ → Id) (at place : ℕ) (told : Told) (ask : Ask) (s : ClientState) (apart : eqb place at ≡ false) (behind : eqb at place ≡ false) (is : IsOpenIn at s) where
-  more : has_one_message s.stage ≡ false
+  more : has_one_message s.who s.stage ≡ false
   more = open_several at s is
 
   -- the answer is kept before the other Ask is made
   abbrev kept_first : ClientState
-  kept_first = recorded at (kept_of told) s
+  kept_first = recorded at (kept_of s.stage told) s
 
   -- both orders find the client within its group
   asked_so : asked digest place ask s ≡ placed place s
   asked_so = ap (placed place) (begun_stays digest ask s.sent s is.index (waiting_at at) is.waits)
 
-  told_there : slice_get kept_first.sent is.index ≡ Some (told_at at (kept_of told) (waiting_at at))
-  told_there = slice_get-map (told_at at (kept_of told)) s.sent is.index ∙ ap (option_map (told_at at (kept_of told))) is.waits
+  told_there : slice_get kept_first.sent is.index ≡ Some (told_at at (kept_of s.stage told) (waiting_at at))
+  told_there = slice_get-map (told_at at (kept_of s.stage told)) s.sent is.index ∙ ap (option_map (told_at at (kept_of s.stage told))) is.waits
 
   asked_after : asked digest place ask (served digest at told s) ≡ placed place kept_first
   asked_after =
       ap (asked digest place ask) (open_recorded digest at told s is)
-      ∙ ap (placed place) (begun_stays digest ask kept_first.sent kept_first is.index (told_at at (kept_of told) (waiting_at at)) told_there)
+      ∙ ap (placed place) (begun_stays digest ask kept_first.sent kept_first is.index (told_at at (kept_of s.stage told) (waiting_at at)) told_there)
 
   still_held : has_place at (placed place s).sent ≡ true
   still_held = held at (placed place s).sent is.index (got_stays s.sent (waiting_at place) is.index (waiting_at at) is.waits)
@@ -174,7 +176,7 @@ module _ (digest : List ℕ → Id) (at place : ℕ) (told : Told) (ask : Ask) (
       (not_complete place (recorded_in at told (placed place s)) (length s.sent)
       (sent_recorded at place (told_in (placed place s) told) (placed place s).sent (length s.sent) apart (newest_waits s)))
       ∙ recorded_kept at told (placed place s) more
-      ∙ recorded_placed at place (kept_of told) s apart
+      ∙ recorded_placed at place (kept_of s.stage told) s apart
       ∙ sym asked_after
 
   -- the other answer leaves it waiting
@@ -182,25 +184,25 @@ module _ (digest : List ℕ → Id) (at place : ℕ) (told : Told) (ask : Ask) (
   waits_still answer =
       sent_recorded place at answer (placed place s).sent is.index behind (got_stays s.sent (waiting_at place) is.index (waiting_at at) is.waits)
 
-  other_first : (answer : Told) → served digest place answer (placed place s) ≡ recorded place (kept_of answer) (placed place s)
+  other_first : (answer : Told) → served digest place answer (placed place s) ≡ recorded place (kept_of s.stage answer) (placed place s)
   other_first answer =
       served_within digest place answer (placed place s) (held place (placed place s).sent (length s.sent) (newest_waits s))
       (not_complete at (recorded_in place answer (placed place s)) is.index (waits_still (told_in (placed place s) answer)))
       ∙ recorded_kept place answer (placed place s) more
 
-  other_last : (answer : Told) → served digest place answer (placed place kept_first) ≡ after_record digest (recorded place (kept_of answer) (placed place kept_first))
+  other_last : (answer : Told) → served digest place answer (placed place kept_first) ≡ after_record digest (recorded place (kept_of s.stage answer) (placed place kept_first))
   other_last answer =
       served_here digest place answer (placed place kept_first) more
       (held place (placed place kept_first).sent (length kept_first.sent) (newest_waits kept_first))
 
   over_served : (answer : Told) → served digest at told (served digest place answer (asked digest place ask s)) ≡ served digest place answer (asked digest place ask (served digest at told s))
   over_served answer =
-      let other : ClientState = recorded place (kept_of answer) (placed place s) in
+      let other : ClientState = recorded place (kept_of s.stage answer) (placed place s) in
       ap (λ t. served digest at told (served digest place answer t)) asked_so
       ∙ ap (served digest at told) (other_first answer)
-      ∙ served_here digest at told other more (held at other.sent is.index (waits_still (kept_of answer)))
+      ∙ served_here digest at told other more (held at other.sent is.index (waits_still (kept_of s.stage answer)))
       ∙ ap (after_record digest)
-      (recorded_twice at place (kept_of told) (kept_of answer) (placed place s) apart ∙ ap (recorded place (kept_of answer)) (recorded_placed at place (kept_of told) s apart))
+      (recorded_twice at place (kept_of s.stage told) (kept_of s.stage answer) (placed place s) apart ∙ ap (recorded place (kept_of s.stage answer)) (recorded_placed at place (kept_of s.stage told) s apart))
       ∙ sym (other_last answer)
       ∙ ap (served digest place answer) (sym asked_after)
 

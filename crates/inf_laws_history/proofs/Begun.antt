@@ -37,7 +37,7 @@ use Rattle.inf_resolve.specs.Resolved.{resolved}
 -- a message of a flow, or of a clean-up, is next or waited for
 abbrev pub IsInFlow : Stage → Type 0
 IsInFlow (act flow) = Unit {0}
-IsInFlow (winds end m ms) = Unit {0}
+IsInFlow (winds end ms later) = Unit {0}
 IsInFlow other_stage = ⊥
 
 pub record IsBegun (most : ℕ) (s : ClientState) : Type 0 where
@@ -58,10 +58,10 @@ module _ (digest : List ℕ → Id) (most : ℕ) where
     knows = λ some. absurd (omega (arith, some));
   }
 
-  wound_is : (end : Ending) (more : List Message) (s : ClientState) → is_some s.counts.first ≡ true → Is s → Is (wound end more s)
+  wound_is : (end : Ending) (more : List (List Message)) (s : ClientState) → is_some s.counts.first ≡ true → Is s → Is (wound end more s)
   wound_is (ending.Answers given at) [] s some is = ended_is given at s
   wound_is ending.Retries [] s some is = record { within = is.within; waits = λ none. some; flows = λ flows. absurd flows; knows = λ none. some }
-  wound_is end (m ∷ ms) s some is = record { within = is.within; waits = λ none. some; flows = λ flows. some; knows = λ none. some }
+  wound_is end (ms ∷ later) s some is = record { within = is.within; waits = λ none. some; flows = λ flows. some; knows = λ none. some }
 
   turned_is : (t : Turn Stage) (s : ClientState) → is_some s.counts.first ≡ true → Is s → Is (turned t s)
   turned_is (turn.GoesOn next) s some is = record { within = is.within; waits = λ none. some; flows = λ flows. some; knows = λ none. some }
@@ -73,11 +73,11 @@ module _ (digest : List ℕ → Id) (most : ℕ) where
       let t : ClientState = learned (round keys) s in
       turned_is (turn_at digest t (round keys)) t some (record { within = is.within; waits = is.waits; flows = is.flows; knows = λ more. some })
   over_is (act flow) s some is = turned_is (turn_at digest s (act flow)) s some is
-  over_is (winds end m ms) s some is = turned_is (turn_at digest s (winds end m ms)) s some is
+  over_is (winds end ms later) s some is = turned_is (turn_at digest s (winds end ms later)) s some is
 
   given_up_is : (s : ClientState) (stage : Stage) → (IsInFlow stage → is_some s.counts.first ≡ true) → Is s → Is (given_up_in s stage)
   given_up_is s (act flow) flows is = wound_is (ending.Answers answer.NoMemory None) (clean_up s.who flow) s (flows tt) is
-  given_up_is s (winds end m ms) flows is = is
+  given_up_is s (winds end ms later) flows is = is
   given_up_is s compose flows is = ended_is answer.NoMemory None s
   given_up_is s (round keys) flows is = ended_is answer.NoMemory None s
 
@@ -96,7 +96,7 @@ module _ (digest : List ℕ → Id) (most : ℕ) where
   composed_flows s compose knows flows now = knows (next_flows s.who s.known (next_course s.left) now)
   composed_flows s (round keys) knows flows now = flows now
   composed_flows s (act flow) knows flows now = flows now
-  composed_flows s (winds end m ms) knows flows now = flows now
+  composed_flows s (winds end ms later) knows flows now = flows now
 
   kept : IsKept digest Is
   kept = record {

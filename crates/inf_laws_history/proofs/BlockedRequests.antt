@@ -11,7 +11,6 @@ use Rattle.inf_base.specs.declared.id.Id.{Id}
 use Rattle.inf_base.specs.declared.key.LookKey.{LookKey}
 use Rattle.inf_base.specs.declared.key.LookKey.TheVariants as look
 use Rattle.inf_base.specs.declared.triple.Triple.{Triple}
-use Rattle.inf_base.specs.Checks.{◌>>=◌, ◌>>◌}
 use Rattle.inf_base.specs.Content.{Content, Hold, Slot, TopAccess, reserved, file, directory}
 use Rattle.inf_base.specs.Same.{dir_of, is_same_call}
 use Rattle.inf_base.proofs.Same.{same_call_self}

@@ -80,7 +80,7 @@ module _ (world : World) (keeps : (h : List Event) → Legal world h → Kept wo
 -- a result that was told of a call in the way names a change in flight
 pub again_is_because : (world : World) → ((h : List Event) → Legal world h → Kept world h) → (h : List Event) → Legal world h → (results : List CallResult)
     → Outcome world h results → (result : CallResult) (by : CallRef) → IsBusyFor h result.call by result.place
-    → IfSome result.place (λ place. Counts h result.call result.answer place) → IsAgainBecause world h results result by
+    → IfSome result.place (λ place. Counts world h result.call result.answer place) → IsAgainBecause world h results result by
 again_is_because world keeps h legal results out result by is placed =
     let legally = serve_may world h legal is.place is.number is.ask_place (reply.Busy by is.spot is.born) is.told in
     let same : legally.1.posted ≡ is.posted = let one = legally.1.made in let two = is.asked in cc in
@@ -89,8 +89,8 @@ again_is_because world keeps h legal results out result by is placed =
     subst (λ (p : Posted). IsWhy world (before is.place h) kept.phases is.number by is.spot p.ask) same
     (why_busy world keeps (before is.place h) legally.0 is.number is.ask_place by is.spot is.born legally.1) in
     let clients : by.client ≢ result.call.client = λ equal. why.is_other (equal ∙ ap (λ (c : CallRef). c.client) (sym is.own)) in
-    let counts : Counts h result.call result.answer is.place =
-    subst (λ (at : Option ℕ). IfSome at (λ place. Counts h result.call result.answer place)) is.placed placed in
+    let counts : Counts world h result.call result.answer is.place =
+    subst (λ (at : Option ℕ). IfSome at (λ place. Counts world h result.call result.answer place)) is.placed placed in
     record {
       at = record { number = is.number; ask_place = is.ask_place; serve_place = is.place };
       placed = is.placed;

@@ -4,7 +4,6 @@ use Rattle.std.proofs.lemmas.Bool.Decides.{Decides-eqb}
 use Rattle.inf_base.specs.declared.id.Id.{Id}
 use Rattle.inf_base.specs.declared.triple.Triple.{Triple}
 use Rattle.inf_base.specs.declared.triple.Triple.TheVariants as triple
-use Rattle.inf_base.specs.Checks.{◌>>◌}
 use Rattle.inf_base.specs.Content.{Content}
 use Rattle.inf_base.specs.Identity.{identity}
 use Rattle.inf_base.specs.Same.{is_same_id, is_same_triple}

@@ -39,10 +39,10 @@ pub record Lasts (digest : List ℕ → Id) (P : ClientState → Type 0) : Type 
   pub learning : (known : List Known) (s : ClientState) → P s → P (record s { known = known })
 
 module _ (digest : List ℕ → Id) (P : ClientState → Type 0) (lasts : Lasts digest P) where
-  pub wound_lasts : (end : Ending) (more : List Message) (s : ClientState) → P s → P (wound end more s)
+  pub wound_lasts : (end : Ending) (more : List (List Message)) (s : ClientState) → P s → P (wound end more s)
   wound_lasts (ending.Answers given place) [] s now = lasts.ending given place s now
   wound_lasts ending.Retries [] s now = lasts.again s now
-  wound_lasts end (m ∷ ms) s now = lasts.going_on (winds end m ms) s now
+  wound_lasts end (ms ∷ later) s now = lasts.going_on (winds end ms later) s now
 
   pub turned_lasts : (t : Turn Stage) (s : ClientState) → P s → P (turned t s)
   turned_lasts (turn.GoesOn next) s now = lasts.going_on next s now
@@ -52,7 +52,7 @@ module _ (digest : List ℕ → Id) (P : ClientState → Type 0) (lasts : Lasts 
   learned_lasts compose s now = now
   learned_lasts (round keys) s now = lasts.learning (s.known ++ told_by keys s.sent) s now
   learned_lasts (act flow) s now = now
-  learned_lasts (winds end m ms) s now = now
+  learned_lasts (winds end ms later) s now = now
 
   pub after_group_lasts : (s : ClientState) → P s → P (after_group digest s)
   after_group_lasts s now =
@@ -60,7 +60,7 @@ module _ (digest : List ℕ → Id) (P : ClientState → Type 0) (lasts : Lasts 
 
   given_up_at : (s : ClientState) (stage : Stage) → P s → P (given_up_in s stage)
   given_up_at s (act flow) now = wound_lasts (ending.Answers answer.NoMemory None) (clean_up s.who flow) s now
-  given_up_at s (winds end m ms) now = now
+  given_up_at s (winds end ms later) now = now
   given_up_at s compose now = lasts.ending answer.NoMemory None s now
   given_up_at s (round keys) now = lasts.ending answer.NoMemory None s now
 

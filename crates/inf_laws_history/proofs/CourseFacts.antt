@@ -1,94 +1,50 @@
 -- A client acts, in any history, only for a call that has a course: one of the kinds that go by flows, with a path that is
 -- in order.
-use Rattle.std.proofs.Common.{suc, ap, ◌≡◌, ℕ, ◌==◌, Bool, true, false, List, [], ◌∷◌, length, slice_get, Option, Some, None, is_some, refl}
-use Rattle.inf_base.specs.declared.answer.Answer.TheVariants as answer
+use Rattle.std.proofs.Common.{suc, ap, ◌≡◌, ℕ, ◌==◌, Bool, true, List, [], ◌∷◌, length, slice_get, Option, Some, None, is_some, refl}
 use Rattle.inf_base.specs.declared.call.Call.{Call}
 use Rattle.inf_base.specs.declared.id.Id.{Id}
 use Rattle.inf_base.specs.declared.setup.ClientLine.{ClientLine}
 use Rattle.inf_message.specs.declared.ask.Ask.{Ask}
 use Rattle.inf_message.specs.declared.event.Event.{Event}
 use Rattle.inf_message.specs.declared.event.Event.TheVariants as event
-use Rattle.inf_message.specs.declared.step.Message.{Message}
 use Rattle.inf_message.specs.History.{Told, told_reply}
-use Rattle.inf_message.specs.declared.ending.Ending.TheVariants as ending
 use Rattle.inf_message.specs.declared.turn.Turn.TheVariants as turn
-use Rattle.inf_duty.specs.ClientState.{ClientState, Stage, act, compose, round, winds, wound}
-use Rattle.inf_duty.specs.Flow.{clean_up}
-use Rattle.inf_duty.specs.Group.{composed, composed_stage, next_stage, stage_by}
+use Rattle.inf_duty.specs.ClientState.{ClientState, Stage}
+use Rattle.inf_duty.specs.Flow.{after_act, clean_up}
+use Rattle.inf_duty.specs.Group.{composed, next_stage, stage_by}
 use Rattle.inf_duty.specs.declared.course.Course.{Course}
 use Rattle.inf_duty.specs.declared.course.Deed.{Deed}
 use Rattle.inf_duty.specs.Course.{next_course}
-use Rattle.inf_duty.specs.Turn.{act_turn, after_record, is_complete, known_turn, learned, recorded, round_turn, served, settled, told_in, turn_at, turn_by, turned}
-use Rattle.inf_message.specs.Sent.{Sent, has_place, is_wanting}
-use Rattle.inf_message.specs.Turn.{turn_as}
+use Rattle.inf_duty.specs.Turn.{after_record, is_complete, recorded, served, settled, told_in}
+use Rattle.inf_message.specs.Sent.{Sent, has_place}
 use Rattle.inf_message.specs.Who.{Who}
-use Rattle.inf_message.specs.declared.ending.Ending.{Ending}
 use Rattle.inf_message.specs.declared.turn.Turn.{Turn}
 use Rattle.inf_duty.specs.After.{client_after}
-use Rattle.inf_duty.specs.Duty.{begun, given_up, given_up_in}
+use Rattle.inf_duty.specs.Duty.{begun, given_up}
 use Rattle.inf_duty.specs.Start.{starting}
 use Rattle.inf_duty.specs.World.{World}
 use Rattle.inf_duty.proofs.BegunKept.{if_both, kept_begun}
 use Rattle.inf_duty.specs.declared.flow.Flow.{Flow}
+use Rattle.inf_duty.specs.Keeps.{AnySteps, ClientKeeps, StageFits, TurnFits}
+use Rattle.inf_duty.proofs.KeepsFacts.{composed_fits, given_up_fits, keeps_turns, settled_fits}
 use Rattle.inf_resolve.specs.declared.known.Known.{Known}
 use Rattle.inf_resolve.specs.declared.resolved.Resolved.{Resolved}
 use Rattle.inf_resolve.specs.declared.resolved.Resolved.TheVariants as comes
 use Rattle.inf_resolve.specs.Resolved.{resolved}
 
 -- where a flow is at work, the call has a course
+abbrev FlowHasCourse : List Call → Flow → Type 0
+FlowHasCourse calls step = is_some (next_course calls) ≡ true
+
 abbrev pub StageHasCourse : List Call → Stage → Type 0
-StageHasCourse calls compose = Unit {0}
-StageHasCourse calls (round keys) = Unit {0}
-StageHasCourse calls (act flow) = is_some (next_course calls) ≡ true
-StageHasCourse calls (winds end m ms) = Unit {0}
+StageHasCourse calls stage = StageFits (FlowHasCourse calls) AnySteps stage
 
 pub record HasCourse (s : ClientState) : Type 0 where
   pub course : StageHasCourse s.left s.stage
 
-abbrev TurnHasCourse : List Call → Turn Stage → Type 0
-TurnHasCourse calls (turn.GoesOn next) = StageHasCourse calls next
-TurnHasCourse calls (turn.WindsUp end more) = Unit {0}
-
-wound_course : (end : Ending) (more : List Message) (s : ClientState) → HasCourse (wound end more s)
-wound_course (ending.Answers given place) [] s = record { course = tt }
-wound_course ending.Retries [] s = record { course = tt }
-wound_course (ending.Answers given place) (m ∷ ms) s = record { course = tt }
-wound_course ending.Retries (m ∷ ms) s = record { course = tt }
-
-act_course : (calls : List Call) (t : Turn Flow) → is_some (next_course calls) ≡ true → TurnHasCourse calls (turn_as act t)
-act_course calls (turn.GoesOn next) is = is
-act_course calls (turn.WindsUp end more) is = tt
-
-comes_course : (calls : List Call) (r : Resolved) → TurnHasCourse calls (turn_by r)
-comes_course calls (comes.Asks keys) = tt
-comes_course calls (comes.Leads old new) = tt
-comes_course calls (comes.IsBusy by place) = tt
-comes_course calls comes.Lacks = tt
-
-known_course : (digest : List ℕ → Id) (who : Who) (known : List Known) (calls : List Call) (found : Option Course)
-    → TurnHasCourse calls (known_turn digest who known found)
-known_course digest who known calls None = tt
-known_course digest who known calls (Some course) = comes_course calls (resolved digest who.root course.looked known)
-
-round_course : (digest : List ℕ → Id) (s : ClientState) → TurnHasCourse s.left (round_turn digest s)
-round_course digest s =
-    if_both (TurnHasCourse s.left) (is_wanting s.sent) (turn.WindsUp (ending.Answers answer.NoMemory None) [])
-    (known_turn digest s.who s.known (next_course s.left)) tt
-    (known_course digest s.who s.known s.left (next_course s.left))
-
-turned_course : (t : Turn Stage) (s : ClientState) → TurnHasCourse s.left t → HasCourse (turned t s)
-turned_course (turn.GoesOn next) s has = record { course = has }
-turned_course (turn.WindsUp end more) s has = wound_course end more s
-
-after_course : (digest : List ℕ → Id) (s : ClientState) (stage : Stage) → StageHasCourse s.left stage
-    → HasCourse (turned (turn_at digest (learned stage s) stage) (learned stage s))
-after_course digest s compose has = record { course = tt }
-after_course digest s (round keys) has =
-    let now : ClientState = learned (round keys) s in
-    turned_course (round_turn digest now) now (round_course digest now)
-after_course digest s (act flow) has =
-    turned_course (turn_at digest s (act flow)) s (act_course s.left (act_turn digest s.who flow s.sent) has)
-after_course digest s (winds end m ms) has = wound_course end ms s
+-- nothing is asked of what an attempt knows
+abbrev KnowsAny : List Known → Type 0
+KnowsAny known = Unit {0}
 
 stage_course : (calls : List Call) (what : Deed) (r : Resolved) → is_some (next_course calls) ≡ true
     → StageHasCourse calls (stage_by what r)
@@ -103,30 +59,35 @@ next_stage_course digest who known calls None is = tt
 next_stage_course digest who known calls (Some course) is =
     stage_course calls course.deed (resolved digest who.root course.looked known) (ap is_some is)
 
-composed_at : (digest : List ℕ → Id) (s : ClientState) (stage : Stage) → StageHasCourse s.left stage → StageHasCourse s.left (composed_stage digest s stage)
-composed_at digest s compose has = next_stage_course digest s.who s.known s.left (next_course s.left) refl
-composed_at digest s (round keys) has = has
-composed_at digest s (act flow) has = has
-composed_at digest s (winds end m ms) has = has
+turn_course : (calls : List Call) (t : Turn Flow) → is_some (next_course calls) ≡ true
+    → TurnFits Flow (FlowHasCourse calls) AnySteps t
+turn_course calls (turn.GoesOn next) is = is
+turn_course calls (turn.WindsUp end more) is = tt
+
+courses_keep : (digest : List ℕ → Id) → ClientKeeps digest KnowsAny (λ who. FlowHasCourse) (λ who. AnySteps)
+courses_keep digest = record {
+  begins = λ who calls known any. next_stage_course digest who known calls (next_course calls) refl;
+  flows = λ who calls.
+      keeps_turns Flow (after_act digest who) (clean_up who) (FlowHasCourse calls) AnySteps
+      (λ step sent has. turn_course calls (after_act digest who step sent) has) (λ step has. tt);
+  none = λ who. tt;
+  later = λ who ms later well. tt;
+}
 
 composed_course : (digest : List ℕ → Id) (s : ClientState) → HasCourse s → HasCourse (composed digest s)
-composed_course digest s has = record { course = composed_at digest s s.stage has.course }
-
-given_up_at : (s : ClientState) (stage : Stage) → HasCourse s → HasCourse (given_up_in s stage)
-given_up_at s (act flow) has = wound_course (ending.Answers answer.NoMemory None) (clean_up s.who flow) s
-given_up_at s (winds end m ms) has = has
-given_up_at s compose has = record { course = tt }
-given_up_at s (round keys) has = record { course = tt }
+composed_course digest s has =
+    record { course = composed_fits digest KnowsAny (λ who. FlowHasCourse) (λ who. AnySteps) (courses_keep digest) s tt has.course }
 
 given_up_course : (s : ClientState) → HasCourse s → HasCourse (given_up s)
-given_up_course s has = given_up_at s s.stage has
+given_up_course s has =
+    record { course = given_up_fits (λ who. FlowHasCourse) (λ who. AnySteps) (λ who calls step fits. tt) s has.course }
 
 begun_course : (digest : List ℕ → Id) (ask : Ask) (sent : List Sent) (s : ClientState) → HasCourse s → HasCourse (begun digest ask sent s)
 begun_course digest ask sent s has = kept_begun digest HasCourse (record { composing = composed_course digest; giving_up = given_up_course }) ask sent s has
 
 settled_course : (digest : List ℕ → Id) (b : Bool) (s : ClientState) → HasCourse s → HasCourse (settled digest b s)
-settled_course digest true s has = after_course digest s s.stage has.course
-settled_course digest false s has = has
+settled_course digest b s has =
+    record { course = settled_fits digest KnowsAny (λ who. FlowHasCourse) (λ who. AnySteps) (courses_keep digest) b s has.course }
 
 served_course : (digest : List ℕ → Id) (place : ℕ) (told : Told) (s : ClientState) → HasCourse s → HasCourse (served digest place told s)
 served_course digest place told s has =

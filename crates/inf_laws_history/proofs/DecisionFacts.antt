@@ -1,6 +1,6 @@
 -- What a Serve decides is the tree's: the calls that it decides replay on the tree, and what stands then stands for the
 -- tree that they leave.
-use Rattle.std.proofs.Common.{◌≡◌, ℕ, Bool, true, false, if◌then◌else◌, List, [], ◌∷◌, Option, Some, None, refl, sym, ap, subst}
+use Rattle.std.proofs.Common.{◌≡◌, ℕ, true, false, List, [], ◌∷◌, Option, Some, None, refl, sym, ap, subst}
 use Rattle.inf_base.specs.declared.access.Access.{Access}
 use Rattle.inf_base.specs.declared.answer.Answer.{Answer}
 use Rattle.inf_base.specs.declared.answer.Answer.TheVariants as answer
@@ -17,7 +17,8 @@ use Rattle.inf_flow_file.specs.declared.file_flow.FileFlow.TheVariants as file_f
 use Rattle.inf_duty.specs.declared.flow.Flow.TheVariants as flow
 use Rattle.inf_message.specs.declared.turn.Turn.TheVariants as turn
 use Rattle.inf_duty.specs.ClientState.{ClientState, Stage, act}
-use Rattle.inf_duty.specs.Flow.{after_act, clean_up, message_of}
+use Rattle.inf_duty.specs.Flow.{after_reply, clean_up}
+use Rattle.inf_duty.proofs.FlowFacts.{message_of}
 use Rattle.inf_duty.specs.declared.course.Course.{Course}
 use Rattle.inf_duty.proofs.BegunKept.{if_both}
 use Rattle.inf_duty.specs.Course.{next_course}
@@ -145,7 +146,7 @@ module _ (digest : List ℕ → Id) (m : Moment) (s : ClientState) (asked : Call
 
   -- what is owed for the message is what comes of it
   pub act_comes : (step : Flow) (ask_place place : ℕ) (given : Reply) → Owes m s.who.caller asked (message_of s.who step).request given
-      → ComesTo (after_act digest s.who step ask_place place given)
+      → ComesTo (after_reply digest s.who step ask_place place given)
   act_comes (flow.File (file_flow.Finishes chain (op.Create name mode))) ask_place place reply.Fine owes = one_comes answer.Done refl (comes_done m s.who.caller asked owes)
   act_comes (flow.File (file_flow.Finishes chain (op.Stat name))) ask_place place (reply.Stat kind meta) owes =
       one_comes (answer.Stat kind meta) refl (comes_told m s.who.caller asked kind meta owes)

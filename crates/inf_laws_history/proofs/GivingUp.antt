@@ -16,7 +16,7 @@ use Rattle.inf_message.specs.declared.request.Request.{Request}
 use Rattle.inf_message.specs.declared.step.Message.{Message}
 
 abbrev pub IsWinding : Stage → Type 0
-IsWinding (winds end m ms) = Unit {0}
+IsWinding (winds end ms later) = Unit {0}
 IsWinding other_stage = ⊥
 
 -- kept by settling what to ask for, and by giving up a call
@@ -29,7 +29,7 @@ abbrev Tied : List Call → Stage → List Call → Type 0
 Tied calls stage left = IsWinding stage ⊎ (left ≡ calls)
 
 winding_stays : (s : ClientState) (stage : Stage) → IsWinding stage → given_up_in s stage ≡ s
-winding_stays s (winds end m ms) winding = refl
+winding_stays s (winds end ms later) winding = refl
 winding_stays s compose winding = absurd winding
 winding_stays s (round keys) winding = absurd winding
 winding_stays s (act flow) winding = absurd winding
@@ -37,14 +37,14 @@ winding_stays s (act flow) winding = absurd winding
 abbrev IsTied : List Call → ClientState → Type 0
 IsTied calls s = Tied calls s.stage s.left
 
-wound_tied : (call : Call) (calls : List Call) (s : ClientState) (more : List Message) → s.left ≡ call ∷ calls
+wound_tied : (call : Call) (calls : List Call) (s : ClientState) (more : List (List Message)) → s.left ≡ call ∷ calls
     → IsTied calls (wound (ending.Answers answer.NoMemory None) more s)
 wound_tied call calls s [] same = inr (ap rest_of same)
-wound_tied call calls s (m ∷ ms) same = inl tt
+wound_tied call calls s (ms ∷ later) same = inl tt
 
 given_up_tied : (call : Call) (calls : List Call) (s : ClientState) (stage : Stage) → s.stage ≡ stage → Tied (call ∷ calls) stage s.left
     → IsTied calls (given_up_in s stage)
-given_up_tied call calls s (winds end m ms) is tied = inl (subst IsWinding (sym is) tt)
+given_up_tied call calls s (winds end ms later) is tied = inl (subst IsWinding (sym is) tt)
 given_up_tied call calls s (act flow) is (inl winding) = absurd winding
 given_up_tied call calls s (act flow) is (inr same) = wound_tied call calls s (clean_up s.who flow) same
 given_up_tied call calls s compose is (inl winding) = absurd winding

@@ -14,11 +14,11 @@ use Rattle.inf_duty.specs.World.{World}
 use Rattle.inf_message.specs.declared.ending.Ending.TheVariants as ending
 use Rattle.inf_message.specs.declared.turn.Turn.TheVariants as turn
 use Rattle.inf_duty.specs.ClientState.{ClientState, Stage, act, compose, ended, one_if, result_of, round, winds, wound}
-use Rattle.inf_duty.specs.Flow.{clean_up}
+use Rattle.inf_duty.specs.Flow.{after_act, clean_up}
 use Rattle.inf_duty.specs.Group.{composed_stage}
 use Rattle.inf_duty.specs.declared.flow.Flow.{Flow}
 use Rattle.inf_duty.specs.Course.{next_course}
-use Rattle.inf_duty.specs.Turn.{act_turn, after_group, learned, recorded, round_turn, served, told_by, told_in, told_of, turn_at, turned}
+use Rattle.inf_duty.specs.Turn.{after_group, learned, recorded, round_turn, served, told_by, told_in, told_of, turn_at, turned}
 use Rattle.inf_message.specs.Sent.{Sent, told_at}
 use Rattle.inf_message.specs.Turn.{turn_as}
 use Rattle.inf_message.specs.declared.ending.Ending.{Ending}
@@ -44,7 +44,7 @@ ending_count place (ending.Answers given at) = one_if (is_place place at)
 ending_count place ending.Retries = 0
 
 abbrev stage_count : ℕ → Stage → ℕ
-stage_count place (winds end m ms) = ending_count place end
+stage_count place (winds end ms later) = ending_count place end
 stage_count place other_stage = 0
 
 -- how often a client holds a place: by calls that ended, by the one that winds up, by its present group, or by what its
@@ -71,12 +71,12 @@ module _ (digest : List ℕ → Id) (place : ℕ) where
 
   -- ---- after a group
 
-  wound_holds : (end : Ending) (more : List Message) (s : ClientState)
+  wound_holds : (end : Ending) (more : List (List Message)) (s : ClientState)
       → held_at place (wound end more s) ≤ count_at place s.results + ending_count place end + one_if (known_there place s.known)
   wound_holds (ending.Answers given at) [] s = omega (arith, ended_count given at s)
   wound_holds ending.Retries [] s = omega arith
-  wound_holds (ending.Answers given at) (m ∷ ms) s = omega arith
-  wound_holds ending.Retries (m ∷ ms) s = omega arith
+  wound_holds (ending.Answers given at) (ms ∷ later) s = omega arith
+  wound_holds ending.Retries (ms ∷ later) s = omega arith
 
   there_counts : (at : ℕ) (sent : List Sent) → told_there at sent ≡ true → one_if (eqb place at) ≤ one_if (told_there place sent)
   there_counts at sent there = by_test (eqb place at) refl
@@ -154,12 +154,12 @@ module _ (digest : List ℕ → Id) (place : ℕ) where
       omega (arith, few)
   stage_holds (act flow) s =
       let few : Few s (turned (turn_at digest s (act flow)) s) =
-      flow_holds (act_turn digest s.who flow s.sent) s (act_turn_there digest s.who flow s.sent)
+      flow_holds (after_act digest s.who flow s.sent) s (act_turn_there digest s.who flow s.sent)
       in
       omega (arith, few)
-  stage_holds (winds end m ms) s =
-      let few : held_at place (turned (turn_at digest s (winds end m ms)) s)
-      ≤ count_at place s.results + ending_count place end + one_if (known_there place s.known) = wound_holds end ms s in
+  stage_holds (winds end ms later) s =
+      let few : held_at place (turned (turn_at digest s (winds end ms later)) s)
+      ≤ count_at place s.results + ending_count place end + one_if (known_there place s.known) = wound_holds end later s in
       omega (arith, few)
 
   -- ---- before a group
@@ -169,11 +169,11 @@ module _ (digest : List ℕ → Id) (place : ℕ) where
       by_next (λ (next : Stage). stage_count place next ≡ 0) digest s.who s.known (next_course s.left) refl (λ keys. refl) (λ course old new leads. refl)
   composed_count (round keys) s = refl
   composed_count (act flow) s = refl
-  composed_count (winds end m ms) s = refl
+  composed_count (winds end ms later) s = refl
 
   given_up_holds : (stage : Stage) (s : ClientState) → held_at place (given_up_in s stage) ≤ held_at place s
   given_up_holds (act flow) s = omega (arith, wound_holds (ending.Answers answer.NoMemory None) (clean_up s.who flow) s)
-  given_up_holds (winds end m ms) s = omega arith
+  given_up_holds (winds end ms later) s = omega arith
   given_up_holds compose s = omega (arith, ended_count answer.NoMemory None s)
   given_up_holds (round keys) s = omega (arith, ended_count answer.NoMemory None s)
 

@@ -4,6 +4,7 @@ pub mod AimFacts
 pub mod AnswerOrder
 pub mod AskSteps
 pub mod AskedGroups
+pub mod AttemptFacts
 pub mod BusyCauses
 pub mod BearerCauses
 pub mod Begun

@@ -23,7 +23,7 @@ use Rattle.inf_flow_dir.specs.declared.dir_flow.DirFlow.TheVariants as dir_flow
 use Rattle.inf_flow_file.specs.declared.file_flow.FileFlow.TheVariants as file_flow
 use Rattle.inf_duty.specs.declared.flow.Flow.TheVariants as flow
 use Rattle.inf_duty.specs.ClientState.{ClientState, Stage, act, call_ref, compose, round, winds}
-use Rattle.inf_duty.specs.Flow.{message_of}
+use Rattle.inf_duty.proofs.FlowFacts.{message_of}
 use Rattle.inf_duty.specs.Group.{group}
 use Rattle.inf_duty.specs.declared.flow.Flow.{Flow}
 use Rattle.inf_message.specs.Who.{Who, id_or_root, last_id}
@@ -39,7 +39,7 @@ use Rattle.inf_laws_history.specs.Pending.{Waits}
 use Rattle.inf_laws_history.specs.Phases.{HasPhase}
 use Rattle.inf_laws_history.specs.Sites.{site_of}
 use Rattle.inf_laws_history.proofs.AgainCauses.{asker_fits, waits}
-use Rattle.inf_laws_history.proofs.GroupMessages.{look_in, only_one}
+use Rattle.inf_laws_history.proofs.GroupMessages.{look_in, step_message}
 use Rattle.inf_laws_history.proofs.PastLinks.{LinksAt, asker_links}
 use Rattle.inf_laws_history.proofs.PhaseFacts.{IsCleanUp}
 use Rattle.inf_laws_history.proofs.PhaseFits.{IsSentHome, sent_home}
@@ -96,8 +96,8 @@ module _ (digest : List ℕ → Id) (s : ClientState) (place number : ℕ) (ask 
   stage_to (round keys) at is =
       let look = look_in s.who keys it.index number ask.request is in
       absurd (let unlike : request.Lookup look.k ≡ request.Link chain name dir mode = sym look.is ∙ is_link in cc)
-  stage_to (act step) at is = flow_to step (only_one (message_of s.who step) it.index number ask.request is)
-  stage_to (winds ending m ms) at is =
+  stage_to (act step) at is = flow_to step (step_message s.who step it.index number ask.request is)
+  stage_to (winds ending ms later) at is =
       absurd (subst (λ (r : Request). IsSentHome s.who.servers number r) is_link (sent_home digest s place number ask phases has it (subst IsCleanUp (sym at) tt)))
 
   sent_to : IsSentTo

@@ -76,16 +76,16 @@ module _ (digest : List ℕ → Id) (client total : ℕ) where
         (record { own = is.own; counted = is.counted; less = omega arith });
   }
 
-  wound_is : (end : Ending) (more : List Message) (s : ClientState) → 0 < length s.left → Is s → Is (wound end more s)
+  wound_is : (end : Ending) (more : List (List Message)) (s : ClientState) → 0 < length s.left → Is s → Is (wound end more s)
   wound_is (ending.Answers given at) [] s some is = ended_is given at s some is
   wound_is ending.Retries [] s some is = record { own = is.own; counted = is.counted; all = is.all; under = tt; results = is.results }
-  wound_is end (m ∷ ms) s some is = record { own = is.own; counted = is.counted; all = is.all; under = some; results = is.results }
+  wound_is end (ms ∷ later) s some is = record { own = is.own; counted = is.counted; all = is.all; under = some; results = is.results }
 
   any_under : (left : List Call) (stage : Stage) → 0 < length left → IsUnder left stage
   any_under left compose some = tt
   any_under left (round keys) some = some
   any_under left (act flow) some = some
-  any_under left (winds end m ms) some = some
+  any_under left (winds end ms later) some = some
 
   turned_is : (t : Turn Stage) (s : ClientState) → 0 < length s.left → Is s → Is (turned t s)
   turned_is (turn.GoesOn next) s some is =
@@ -99,11 +99,11 @@ module _ (digest : List ℕ → Id) (client total : ℕ) where
       turned_is (turn_at digest t (round keys)) t under
       (record { own = is.own; counted = is.counted; all = is.all; under = is.under; results = is.results })
   over_is s (act flow) under is = turned_is (turn_at digest s (act flow)) s under is
-  over_is s (winds end m ms) under is = turned_is (turn_at digest s (winds end m ms)) s under is
+  over_is s (winds end ms later) under is = turned_is (turn_at digest s (winds end ms later)) s under is
 
   given_up_is : (s : ClientState) (stage : Stage) → 0 < length s.left → Is s → Is (given_up_in s stage)
   given_up_is s (act flow) some is = wound_is (ending.Answers answer.NoMemory None) (clean_up s.who flow) s some is
-  given_up_is s (winds end m ms) some is = is
+  given_up_is s (winds end ms later) some is = is
   given_up_is s compose some is = ended_is answer.NoMemory None s some is
   given_up_is s (round keys) some is = ended_is answer.NoMemory None s some is
 
@@ -116,7 +116,7 @@ module _ (digest : List ℕ → Id) (client total : ℕ) where
   composed_under s compose under = next_under s.left s.who s.known
   composed_under s (round keys) under = under
   composed_under s (act flow) under = under
-  composed_under s (winds end m ms) under = under
+  composed_under s (winds end ms later) under = under
 
   kept : IsKept digest Is
   kept = record {

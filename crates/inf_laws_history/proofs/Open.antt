@@ -21,11 +21,12 @@ use Rattle.inf_message.specs.declared.ask.Ask.{Ask}
 use Rattle.inf_message.specs.declared.step.Message.{Message}
 use Rattle.inf_message.specs.History.{Told, or_told}
 use Rattle.inf_laws_history.proofs.ClientSteps.{by_answer, recorded_in}
-use Rattle.inf_laws_history.proofs.Turns.{first_told}
+use Rattle.inf_duty.proofs.FlowFacts.{one_message}
+use Rattle.inf_laws_history.proofs.Turns.{deciding_told}
 
 -- the one message of a flow is not answered yet
 abbrev pub IsOpenAt : Stage → List Sent → Type 0
-IsOpenAt (act flow) sent = length sent ≡ 1 → first_told sent ≡ None
+IsOpenAt (act flow) sent = length sent ≡ 1 → deciding_told sent ≡ None
 IsOpenAt other_stage sent = Unit {0}
 
 pub record IsOpen (s : ClientState) : Type 0 where
@@ -33,29 +34,29 @@ pub record IsOpen (s : ClientState) : Type 0 where
 
 -- a flow's message was answered just now
 abbrev pub TellsFlow : Told → Stage → List Sent → Type 0
-TellsFlow told (act flow) sent = first_told sent ≡ Some told
+TellsFlow told (act flow) sent = deciding_told sent ≡ Some told
 TellsFlow told other_stage sent = Unit {0}
 
 none_sent : (stage : Stage) → IsOpenAt stage []
 none_sent (act flow) = λ one. refl
 none_sent compose = tt
 none_sent (round keys) = tt
-none_sent (winds end m ms) = tt
+none_sent (winds end ms later) = tt
 
 pub starting_open : (world : World) (client : ℕ) (line : Option ClientLine) → IsOpen (starting world client line)
 starting_open world client None = record { waits = tt }
 starting_open world client (Some line) = record { waits = tt }
 
-wound_open : (end : Ending) (more : List Message) (s : ClientState) → IsOpen (wound end more s)
+wound_open : (end : Ending) (more : List (List Message)) (s : ClientState) → IsOpen (wound end more s)
 wound_open (ending.Answers given place) [] s = record { waits = tt }
 wound_open ending.Retries [] s = record { waits = tt }
-wound_open end (m ∷ ms) s = record { waits = tt }
+wound_open end (ms ∷ later) s = record { waits = tt }
 
 turned_open : (t : Turn Stage) (s : ClientState) → IsOpen (turned t s)
 turned_open (turn.GoesOn next) s = record { waits = none_sent next }
 turned_open (turn.WindsUp end more) s = wound_open end more s
 
-newly_sent : (sent : List Sent) (new : Sent) → new.told ≡ None → length (sent ++ new ∷ []) ≡ 1 → first_told (sent ++ new ∷ []) ≡ None
+newly_sent : (sent : List Sent) (new : Sent) → new.told ≡ None → length (sent ++ new ∷ []) ≡ 1 → deciding_told (sent ++ new ∷ []) ≡ None
 newly_sent [] new waits same = waits
 newly_sent (x ∷ sent) new waits same = absurd (omega (arith, length-append sent (new ∷ [])))
 
@@ -63,7 +64,7 @@ one_more : (stage : Stage) (sent : List Sent) (new : Sent) → new.told ≡ None
 one_more (act flow) sent new waits = newly_sent sent new waits
 one_more compose sent new waits = tt
 one_more (round keys) sent new waits = tt
-one_more (winds end m ms) sent new waits = tt
+one_more (winds end ms later) sent new waits = tt
 
 pub asked_open : (digest : List ℕ → Id) (place : ℕ) (ask : Ask) (s : ClientState) → IsOpen (asked digest place ask s)
 asked_open digest place ask s =
@@ -99,7 +100,7 @@ all_told place told [] one here = refl
 all_told place told (x ∷ y ∷ sent) one here = absurd (omega arith)
 all_told place told (x ∷ []) one here = rw (told_one place told x (only _ here)) refl
 
-told_now : (place : ℕ) (told : Told) (sent : List Sent) → length sent ≡ 1 → has_place place sent ≡ true → first_told sent ≡ None → first_told (map (told_at place told) sent) ≡ Some told
+told_now : (place : ℕ) (told : Told) (sent : List Sent) → length sent ≡ 1 → has_place place sent ≡ true → deciding_told sent ≡ None → deciding_told (map (told_at place told) sent) ≡ Some told
 told_now place told [] one here waits = absurd (cc)
 told_now place told (x ∷ y ∷ sent) one here waits = absurd (omega arith)
 told_now place told (x ∷ []) one here waits = told_one place told x (only _ here) ∙ ap (λ before. Some (or_told before told)) waits
@@ -114,12 +115,12 @@ tells_flow : (place : ℕ) (told : Told) (who : Who) (stage : Stage) (sent : Lis
     → (eqb (length (map (told_at place told) sent)) (length (group who stage)) && list_all is_told (map (told_at place told) sent)) ≡ true
     → TellsFlow told stage (map (told_at place told) sent)
 tells_flow place told who (act flow) sent is here complete =
-    let same : length (map (told_at place told) sent) ≡ 1 = counted_same _ _ (first_of_both _ _ complete) in
+    let same : length (map (told_at place told) sent) ≡ 1 = counted_same _ _ (first_of_both _ _ complete) ∙ one_message who flow in
     let one : length sent ≡ 1 = sym (length-map sent (told_at place told)) ∙ same in
     told_now place told sent one here (is one)
 tells_flow place told who compose sent is here complete = tt
 tells_flow place told who (round keys) sent is here complete = tt
-tells_flow place told who (winds end m ms) sent is here complete = tt
+tells_flow place told who (winds end ms later) sent is here complete = tt
 
 -- the answer that completes the group of a flow's message is the one that was just told
 pub told_completes : (place : ℕ) (told : Told) (s : ClientState) → IsOpen s → has_place place s.sent ≡ true → is_complete (recorded place told s) ≡ true
@@ -130,10 +131,14 @@ still_open : (place : ℕ) (told : Told) (who : Who) (stage : Stage) (sent : Lis
     → (eqb (length (map (told_at place told) sent)) (length (group who stage)) && list_all is_told (map (told_at place told) sent)) ≡ false
     → IsOpenAt stage (map (told_at place told) sent)
 still_open place told who (act flow) sent here going =
-    λ same. absurd (let e : (eqb (length (map (told_at place told) sent)) 1 && list_all is_told (map (told_at place told) sent)) ≡ true = complete_now place told sent here same in cc)
+    λ same. absurd (not_both (complete_now place told sent here same)
+    (ap (λ (n : ℕ). eqb (length (map (told_at place told) sent)) n && list_all is_told (map (told_at place told) sent)) (sym (one_message who flow)) ∙ going))
+  where
+    not_both : {b : Bool} → b ≡ true → b ≡ false → ⊥
+    not_both is apart = cc
 still_open place told who compose sent here going = tt
 still_open place told who (round keys) sent here going = tt
-still_open place told who (winds end m ms) sent here going = tt
+still_open place told who (winds end ms later) sent here going = tt
 
 pub served_open : (digest : List ℕ → Id) (place : ℕ) (told : Told) (s : ClientState) → IsOpen s → IsOpen (served digest place told s)
 served_open digest place told s is =

@@ -165,7 +165,7 @@ no_call s (turn.WindsUp (ending.Answers given (Some place)) more) none = ap (λ 
 no_call s (turn.WindsUp ending.Retries more) none = refl
 
 no_call_at : (digest : List ℕ → Id) (s : ClientState) (stage : Stage) → s.left ≡ [] → decided_at_stage digest s stage ≡ []
-no_call_at digest s (winds end m ms) none = refl
+no_call_at digest s (winds end ms later) none = refl
 no_call_at digest s compose none = refl
 no_call_at digest s (round keys) none = no_call s (turn_at digest (learned (round keys) s) (round keys)) none
 no_call_at digest s (act flow) none = no_call s (turn_at digest s (act flow)) none

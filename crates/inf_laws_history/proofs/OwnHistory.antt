@@ -124,7 +124,7 @@ module _ (world : World) (client : ℕ) where
       rw is.apart (inr (record {
         apart = waits.apart;
         before = open_on at place told owns unlike is.before waits.before;
-        waits = subst (IsOpenIn place) shown (open_stays at place (kept_of (hear told)) (client_from world client owns) (flipped at place unlike) waits.waits);
+        waits = subst (IsOpenIn place) shown (open_stays at place (kept_of (client_from world client owns).stage (hear told)) (client_from world client owns) (flipped at place unlike) waits.waits);
       }))
 
   -- ---- histories

@@ -17,7 +17,7 @@ use Rattle.inf_flow_dir.specs.declared.dir_flow.DirFlow.TheVariants as dir_flow
 use Rattle.inf_flow_file.specs.declared.file_flow.FileFlow.TheVariants as file_flow
 use Rattle.inf_duty.specs.declared.flow.Flow.TheVariants as flow
 use Rattle.inf_duty.specs.ClientState.{ClientState, Stage, act, compose, round, winds}
-use Rattle.inf_duty.specs.Flow.{message_of}
+use Rattle.inf_duty.proofs.FlowFacts.{message_of}
 use Rattle.inf_duty.specs.Group.{group}
 use Rattle.inf_duty.specs.Turn.{served}
 use Rattle.inf_duty.specs.declared.flow.Flow.{Flow}
@@ -49,7 +49,7 @@ use Rattle.inf_laws_history.proofs.AgainCauses.{found_at, under_way, waits}
 use Rattle.inf_duty.proofs.BegunKept.{if_both}
 use Rattle.inf_laws_history.proofs.ClientSteps.{Lasts, begun_lasts, served_lasts}
 use Rattle.inf_laws_history.proofs.ContentBirths.{IsBirth, WasMade, births_after, so_found}
-use Rattle.inf_laws_history.proofs.GroupMessages.{alone, look_in, only_one}
+use Rattle.inf_laws_history.proofs.GroupMessages.{lift_message, look_in, step_alone, step_message}
 use Rattle.inf_laws_history.proofs.PhaseFacts.{one_ask, served_one, staged}
 
 -- ---- the numbers of calls grow
@@ -141,10 +141,11 @@ module _ (digest : List ℕ → Id) (who : Who) (phase : Phase) where
       let look = look_in who keys index number asked is in
       absurd (let unlike : request.Lookup look.k ≡ request.Make birth = sym look.is ∙ makes_it in cc)
   stage_makes (act step) index number asked birth is makes_it has may =
-      flow_makes who phase step birth (ap (λ (m : Message). m.request) (only_one (message_of who step) index number asked is) ∙ makes_it) has.0 may
-  stage_makes (winds ending m ms) index number asked birth is makes_it has may =
-      absurd (lifts_none who.servers phase m (λ (r : Request). r ≡ request.Make birth → ⊥) (λ dir it. cc) (λ dir it. cc) (λ dir it. cc) (λ id dir it. cc) has.0
-      (ap (λ (x : Message). x.request) (only_one m index number asked is) ∙ makes_it))
+      flow_makes who phase step birth (ap (λ (m : Message). m.request) (step_message who step index number asked is) ∙ makes_it) has.0 may
+  stage_makes (winds ending ms later) index number asked birth is makes_it has may =
+      absurd (lifts_none who.servers phase (record { number = number; request = asked }) (λ (r : Request). r ≡ request.Make birth → ⊥)
+      (λ dir it. cc) (λ dir it. cc) (λ dir it. cc) (λ id dir it. cc)
+      (lift_message who.servers phase ms later index number asked has is) makes_it)
 
   stage_links : (stage : Stage) (index number : ℕ) (asked : Request) (way : List Entry) (under : List ℕ) (dir : DirRef) (bits : ℕ)
       → slice_get (group who stage) index ≡ Some (record { number = number; request = asked })
@@ -154,10 +155,11 @@ module _ (digest : List ℕ → Id) (who : Who) (phase : Phase) where
       let look = look_in who keys index number asked is in
       absurd (let unlike : request.Lookup look.k ≡ request.Link way under dir bits = sym look.is ∙ links_it in cc)
   stage_links (act step) index number asked way under dir bits is links_it has may =
-      flow_links who phase step way under dir bits (ap (λ (m : Message). m.request) (only_one (message_of who step) index number asked is) ∙ links_it) has.0 may
-  stage_links (winds ending m ms) index number asked way under dir bits is links_it has may =
-      absurd (lifts_none who.servers phase m (λ (r : Request). r ≡ request.Link way under dir bits → ⊥) (λ d it. cc) (λ d it. cc) (λ d it. cc) (λ id d it. cc) has.0
-      (ap (λ (x : Message). x.request) (only_one m index number asked is) ∙ links_it))
+      flow_links who phase step way under dir bits (ap (λ (m : Message). m.request) (step_message who step index number asked is) ∙ links_it) has.0 may
+  stage_links (winds ending ms later) index number asked way under dir bits is links_it has may =
+      absurd (lifts_none who.servers phase (record { number = number; request = asked }) (λ (r : Request). r ≡ request.Link way under dir bits → ⊥)
+      (λ d it. cc) (λ d it. cc) (λ d it. cc) (λ id d it. cc)
+      (lift_message who.servers phase ms later index number asked has is) links_it)
 
 -- ---- a link that is done ends its call
 
@@ -169,7 +171,7 @@ module _ (digest : List ℕ → Id) (A : ℕ → Request → Type 0) (s : Client
   flow_ends : (step : Flow) → (message_of s.who step).request ≡ request.Link way under dir bits
       → s.number < (served digest place told (staged s (act step) (one_ask place None))).number
   flow_ends (flow.Dir (dir_flow.Links chain name mode version dir)) is =
-      served_one digest (λ (t : ClientState). s.number < t.number) s (act (flow.Dir (dir_flow.Links chain name mode version dir))) place told refl refl (omega arith)
+      served_one digest (λ (t : ClientState). s.number < t.number) s (act (flow.Dir (dir_flow.Links chain name mode version dir))) place told refl (omega arith)
   flow_ends (flow.File (file_flow.Finishes chain asked)) is = absurd cc
   flow_ends (flow.Dir (dir_flow.Reserves chain name mode)) is = absurd cc
   flow_ends (flow.Dir (dir_flow.Makes chain name mode version id)) is = absurd cc
@@ -183,12 +185,13 @@ module _ (digest : List ℕ → Id) (A : ℕ → Request → Type 0) (s : Client
       let look = look_in s.who keys waits_it.index number ask.request waits_it.message in
       absurd (let unlike : request.Lookup look.k ≡ request.Link way under dir bits = sym look.is ∙ links_it in cc)
   stage_ends (act step) sent phase waits_it asks has =
-      let lone = alone A (message_of s.who step) sent waits_it.index place number ask.request waits_it.sent waits_it.message asks in
+      let lone = step_alone A s.who step sent waits_it.index place number ask.request waits_it.sent waits_it.message asks in
       subst (λ (xs : List Sent). s.number < (served digest place told (staged s (act step) xs)).number) (sym lone.sent_alone)
       (flow_ends step (ap (λ (m : Message). m.request) lone.message ∙ links_it))
-  stage_ends (winds ending m ms) sent phase waits_it asks has =
-      absurd (lifts_none s.who.servers phase m (λ (r : Request). r ≡ request.Link way under dir bits → ⊥) (λ d it. cc) (λ d it. cc) (λ d it. cc) (λ id d it. cc) has.0
-      (ap (λ (x : Message). x.request) (only_one m waits_it.index number ask.request waits_it.message) ∙ links_it))
+  stage_ends (winds ending ms later) sent phase waits_it asks has =
+      absurd (lifts_none s.who.servers phase (record { number = number; request = ask.request }) (λ (r : Request). r ≡ request.Link way under dir bits → ⊥)
+      (λ d it. cc) (λ d it. cc) (λ d it. cc) (λ id d it. cc)
+      (lift_message s.who.servers phase ms later waits_it.index number ask.request has waits_it.message) links_it)
 
 -- ---- what was linked
 

@@ -1,5 +1,5 @@
 -- What a client's call has in hand, from its first Ask on.
-use Rattle.std.proofs.Common.{◌≡◌, ◌≢◌, ℕ, ◌+◌, ◌==◌, Bool, true, false, if◌then◌else◌, ◌||◌, ◌&&◌, List, [], ◌∷◌, length, slice_get, Option, Some, None, refl, sym, ap, ◌∙◌, subst}
+use Rattle.std.proofs.Common.{◌≡◌, ◌≢◌, ℕ, ◌+◌, ◌==◌, Bool, true, false, if◌then◌else◌, ◌||◌, ◌&&◌, not, List, [], ◌∷◌, length, slice_get, Option, Some, None, refl, sym, ap, ◌∙◌, subst}
 use Rattle.inf_base.specs.declared.id.Id.{Id}
 use Rattle.std.specs.List.{list_all}
 use Rattle.std.proofs.lemmas.Bool.{both_ways}
@@ -14,14 +14,16 @@ use Rattle.inf_duty.specs.Duty.{begun, given_up_in}
 use Rattle.inf_duty.proofs.BegunKept.{IsKept, if_both, kept_begun}
 use Rattle.inf_message.specs.declared.ending.Ending.TheVariants as ending
 use Rattle.inf_message.specs.declared.turn.Turn.TheVariants as turn
-use Rattle.inf_duty.specs.ClientState.{ClientState, Stage, act, call_ref, compose, finished, idle as idle_client, placed, round, winds, wound}
-use Rattle.inf_duty.specs.Flow.{clean_up, message_of}
+use Rattle.inf_duty.specs.ClientState.{ClientState, Stage, act, call_ref, compose, finished, idle as idle_client, is_round, placed, round, winds, wound}
+use Rattle.inf_duty.specs.Flow.{clean_up}
+use Rattle.inf_duty.specs.declared.flow.Flow.{Flow}
+use Rattle.inf_duty.proofs.FlowFacts.{after_decided, message_of, one_message}
 use Rattle.inf_duty.specs.Group.{composed_stage, group}
 use Rattle.inf_duty.specs.Course.{next_course}
 use Rattle.inf_duty.specs.Messages.{has_one_message}
-use Rattle.inf_duty.specs.Turn.{after_group, after_record, is_complete, later_place, learned, recorded, round_turn, served, settled, told_in, turn_at, turned}
-use Rattle.inf_message.specs.Heard.{heard}
+use Rattle.inf_duty.specs.Turn.{after_group, after_record, heard_in, is_complete, later_place, learned, recorded, round_turn, served, settled, told_in, turn_at, turned}
 use Rattle.inf_message.specs.Sent.{Sent, has_place, is_told}
+use Rattle.inf_message.specs.Turn.{turn_as}
 use Rattle.inf_message.specs.Who.{Who}
 use Rattle.inf_message.specs.declared.ending.Ending.{Ending}
 use Rattle.inf_message.specs.declared.turn.Turn.{Turn}
@@ -35,7 +37,7 @@ use Rattle.inf_laws_directory.specs.Phases.{Phase, Phases, idle, with_phase}
 use Rattle.inf_laws_directory.proofs.CallFacts.{phase_apart, phase_here, same_phases}
 use Rattle.inf_laws_history.specs.Pending.{Waits}
 use Rattle.inf_laws_history.specs.Phases.{HasPhase, Lifts, StageMay}
-use Rattle.inf_laws_history.proofs.GroupMessages.{IsAlone, alone, look_in}
+use Rattle.inf_laws_history.proofs.GroupMessages.{IsAlone, lift_alone, look_in, one_lift, step_alone}
 use Rattle.inf_laws_history.proofs.PhaseTurns.{MayGoOn, TurnHas, act_has, clean_up_lifts, lifted_by, next_opens, round_has}
 use Rattle.inf_message.specs.declared.step.Message.{Message}
 use Rattle.inf_message.specs.declared.ask.Ask.{Ask}
@@ -59,7 +61,7 @@ pub record InHand (digest : List ℕ → Id) (phases : Phases) (s : ClientState)
   pub may : StageMay s.who.caller s.stage
 
 abbrev pub IsCleanUp : Stage → Type 0
-IsCleanUp (winds end m ms) = Unit {0}
+IsCleanUp (winds end ms later) = Unit {0}
 IsCleanUp other_stage = ⊥
 
 -- what is asked of a reply to the client's Ask
@@ -86,16 +88,16 @@ finished_in_hand : (digest : List ℕ → Id) (phases : Phases) (end : Ending) (
 finished_in_hand digest phases (ending.Answers given place) s all = record { phase = all (s.number + 1); others = λ number apart. all number; may = tt }
 finished_in_hand digest phases ending.Retries s all = record { phase = all s.number; others = λ number apart. all number; may = tt }
 
-wound_in_hand : (digest : List ℕ → Id) (phases : Phases) (end : Ending) (more : List Message) (s : ClientState) → Lifts s.who.servers (phases (call_ref s)) more
+wound_in_hand : (digest : List ℕ → Id) (phases : Phases) (end : Ending) (more : List (List Message)) (s : ClientState) → Lifts s.who.servers (phases (call_ref s)) more
     → OthersIdle phases s → InHand digest phases (wound end more s)
 wound_in_hand digest phases end [] s lifts others = finished_in_hand digest phases end s (all_idle phases s lifts others)
-wound_in_hand digest phases end (m ∷ ms) s lifts others = record { phase = lifts; others = others; may = tt }
+wound_in_hand digest phases end (ms ∷ later) s lifts others = record { phase = lifts; others = others; may = tt }
 
-learns_nothing : (s : ClientState) (stage : Stage) → has_one_message stage ≡ true → learned stage s ≡ s
+learns_nothing : (s : ClientState) (stage : Stage) → has_one_message s.who stage ≡ true → learned stage s ≡ s
 learns_nothing s compose one = refl
 learns_nothing s (round keys) one = absurd cc
 learns_nothing s (act flow) one = refl
-learns_nothing s (winds end m ms) one = refl
+learns_nothing s (winds end ms later) one = refl
 
 turned_in_hand : (digest : List ℕ → Id) (phases : Phases) (t : Turn Stage) (s : ClientState) → TurnHas digest s.who (phases (call_ref s)) t → OthersIdle phases s → InHand digest phases (turned t s)
 turned_in_hand digest phases (turn.GoesOn next) s has others = record { phase = has.0; others = others; may = has.1 }
@@ -110,13 +112,13 @@ composed_in_hand digest phases s compose here others may =
     record { phase = opens.0; others = others; may = opens.1 }
 composed_in_hand digest phases s (round keys) here others may = record { phase = here; others = others; may = may }
 composed_in_hand digest phases s (act flow) here others may = record { phase = here; others = others; may = may }
-composed_in_hand digest phases s (winds end m ms) here others may = record { phase = here; others = others; may = may }
+composed_in_hand digest phases s (winds end ms later) here others may = record { phase = here; others = others; may = may }
 
 given_up_at : (digest : List ℕ → Id) (phases : Phases) (s : ClientState) (stage : Stage) → HasPhase digest s.who stage (phases (call_ref s)) → InHand digest phases s
     → InHand digest phases (given_up_in s stage)
 given_up_at digest phases s (act flow) here hand =
     wound_in_hand digest phases (ending.Answers answer.NoMemory None) (clean_up s.who flow) s (clean_up_lifts s.who flow (phases (call_ref s)) here.0) hand.others
-given_up_at digest phases s (winds end m ms) here hand = hand
+given_up_at digest phases s (winds end ms later) here hand = hand
 given_up_at digest phases s compose here hand = finished_in_hand digest phases (ending.Answers answer.NoMemory None) s (all_idle phases s here hand.others)
 given_up_at digest phases s (round keys) here hand = finished_in_hand digest phases (ending.Answers answer.NoMemory None) s (all_idle phases s here hand.others)
 
@@ -162,19 +164,27 @@ abbrev pub answered : ℕ → Told → Stage → ClientState → ClientState
 answered place told stage s =
     record s { stage = stage; sent = one_ask place (Some told); counts = record s.counts { last = later_place s.counts.last told.serve_place } }
 
-lone_told : (b : Bool) (told : Told) → b ≡ true
-    → (if b then told else record told { reply = heard told.reply }) ≡ told
-lone_told true told is = refl
-lone_told false told is = absurd cc
+lone_told : (b : Bool) (stage : Stage) (told : Told) → b ≡ true
+    → (if b then told else record told { reply = heard_in stage told.reply }) ≡ told
+lone_told true stage told is = refl
+lone_told false stage told is = absurd cc
+
+-- a group of one message that is no round
+one_message_is : (who : Who) (stage : Stage) → is_round stage ≡ false → length (group who stage) ≡ 1 → has_one_message who stage ≡ true
+one_message_is who stage no_round one = ap (λ b. not b && (length (group who stage) == 1)) no_round ∙ ap (λ n. n == 1) one
+
+one_message_size : (who : Who) (stage : Stage) (b : Bool) → (b && (length (group who stage) == 1)) ≡ true → length (group who stage) ≡ 1
+one_message_size who stage true one = (Decides-eqb (length (group who stage)) 1).0 one
+one_message_size who stage false one = absurd cc
 
 -- a group of one message is over with its answer, which is kept as it was replied
-pub served_one : (digest : List ℕ → Id) (P : ClientState → Type 0) (s : ClientState) (stage : Stage) (place : ℕ) (told : Told) → length (group s.who stage) ≡ 1
-    → has_one_message stage ≡ true
+pub served_one : (digest : List ℕ → Id) (P : ClientState → Type 0) (s : ClientState) (stage : Stage) (place : ℕ) (told : Told)
+    → has_one_message s.who stage ≡ true
     → P (after_group digest (answered place told stage s)) → P (served digest place told (staged s stage (one_ask place None)))
-served_one digest P s stage place told one lone now =
+served_one digest P s stage place told lone now =
     let before : ClientState = staged s stage (one_ask place None) in
     subst (λ (t : Told). P (if has_place place before.sent then after_record digest (recorded place t before) else before))
-    (sym (lone_told (has_one_message stage && (length before.sent == 1)) told (ap (λ b. b && true) lone)))
+    (sym (lone_told (has_one_message s.who stage && (length before.sent == 1)) stage told (ap (λ b. b && true) lone)))
     (by (place == place) ((Decides-eqb place place).1 refl))
   where
     by : (b : Bool) → b ≡ true
@@ -183,16 +193,16 @@ served_one digest P s stage place told one lone now =
           sent = (if b then record { place = place; told = Some told } else record { place = place; told = None }) ∷ [];
           counts = record s.counts { last = later_place s.counts.last told.serve_place };
         }) else staged s stage (one_ask place None))
-    by true same = subst (λ (n : ℕ). P (settled digest ((1 == n) && list_all is_told (one_ask place (Some told))) (answered place told stage s))) (sym one) now
+    by true same = subst (λ (n : ℕ). P (settled digest ((1 == n) && list_all is_told (one_ask place (Some told))) (answered place told stage s))) (sym (one_message_size s.who stage (not (is_round stage)) lone)) now
     by false same = absurd cc
 
-one_in_hand : (digest : List ℕ → Id) (phases : Phases) (s : ClientState) (stage : Stage) (place : ℕ) (told : Told) (phase : Phase) → length (group s.who stage) ≡ 1
-    → has_one_message stage ≡ true → TurnHas digest s.who phase (turn_at digest (answered place told stage s) stage) → OthersIdle phases s
+one_in_hand : (digest : List ℕ → Id) (phases : Phases) (s : ClientState) (stage : Stage) (place : ℕ) (told : Told) (phase : Phase)
+    → has_one_message s.who stage ≡ true → TurnHas digest s.who phase (turn_at digest (answered place told stage s) stage) → OthersIdle phases s
     → InHand digest (with_phase (call_ref s) phase phases) (served digest place told (staged s stage (one_ask place None)))
-one_in_hand digest phases s stage place told phase one lone has others =
+one_in_hand digest phases s stage place told phase lone has others =
     let now = with_phase (call_ref s) phase phases in
     let t = turn_at digest (answered place told stage s) stage in
-    served_one digest (λ (c : ClientState). InHand digest now c) s stage place told one lone
+    served_one digest (λ (c : ClientState). InHand digest now c) s stage place told lone
     (subst (λ (c : ClientState). InHand digest now (turned (turn_at digest c stage) c)) (sym (learns_nothing (answered place told stage s) stage lone))
     (turned_in_hand digest now t (answered place told stage s)
     (subst (λ (p : Phase). TurnHas digest s.who p t) (sym (phase_here (call_ref s) phase phases)) has) (others_stay phases s phase others)))
@@ -248,21 +258,27 @@ module _ (service : Service) (A : ℕ → Request → Type 0) (T : Entry → Typ
       (round_in_hand service.digest phases s keys sent at.ask_place (told_reply at.serve_place given) phase others))
   stage_in_hand (act flow) sent phase others may stands asks there is goes cleans =
       let m = message_of s.who flow in
-      let one = alone A m sent index at.ask_place at.number asked there is asks in
+      let one = step_alone A s.who flow sent index at.ask_place at.number asked there is asks in
       let same : asked ≡ m.request = sym (ap (λ (x : Message). x.request) one.message) in
+      let next = next_phase service at (phases (call_ref s)) m.request given in
+      let told = told_reply at.serve_place given in
       come m (act flow) sent one
-      (one_in_hand service.digest phases s (act flow) at.ask_place (told_reply at.serve_place given)
-      (next_phase service at (phases (call_ref s)) m.request given) refl refl
+      (one_in_hand service.digest phases s (act flow) at.ask_place told next
+      (one_message_is s.who (act flow) refl (one_message s.who flow))
+      (subst (λ (t : Turn Flow). TurnHas service.digest s.who next (turn_as act t))
+      (sym (after_decided service.digest s.who flow (one_ask at.ask_place (Some told)) (record { place = at.ask_place; told = Some told }) told refl refl))
       (act_has service s.who at (phases (call_ref s)) flow given phase.0 phase.1 may stands.links_up
-      (subst (λ (r : Request). MayGoOn s.who.caller r given) same goes)) others)
-  stage_in_hand (winds end m ms) sent phase others may stands asks there is goes cleans =
-      let one = alone A m sent index at.ask_place at.number asked there is asks in
-      let lifts = ap (next_phase service at (phases (call_ref s)) m.request) (cleans tt)
-      ∙ lifted_by service at s.who.servers (phases (call_ref s)) m phase.0 in
-      come m (winds end m ms) sent one
-      (one_in_hand service.digest phases s (winds end m ms) at.ask_place (told_reply at.serve_place given)
-      (next_phase service at (phases (call_ref s)) m.request given) refl refl
-      (subst (λ (p : Phase). Lifts s.who.servers p ms) (sym lifts) phase.1) others)
+      (subst (λ (r : Request). MayGoOn s.who.caller r given) same goes))) others)
+  stage_in_hand (winds end ms later) sent phase others may stands asks there is goes cleans =
+      let one = one_lift s.who.servers (phases (call_ref s)) ms later phase in
+      let lifts = ap (next_phase service at (phases (call_ref s)) one.message.request) (cleans tt)
+      ∙ lifted_by service at s.who.servers (phases (call_ref s)) one.message one.lifts in
+      come one.message (winds end ms later) sent
+      (lift_alone A s.who.servers (phases (call_ref s)) ms later one sent index at.ask_place at.number asked there is asks)
+      (one_in_hand service.digest phases s (winds end ms later) at.ask_place (told_reply at.serve_place given)
+      (next_phase service at (phases (call_ref s)) one.message.request given)
+      (one_message_is s.who (winds end ms later) refl (ap length one.is))
+      (subst (λ (p : Phase). Lifts s.who.servers p later) (sym lifts) one.rest) others)
 
 pub served_in_hand : (service : Service) (A : ℕ → Request → Type 0) (T : Entry → Type 0) (s : ClientState)
     (at : At) (ask : Ask) (given : Reply) (phases : Phases)

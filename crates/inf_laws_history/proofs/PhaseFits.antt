@@ -8,7 +8,7 @@ use Rattle.inf_flow_dir.specs.declared.dir_flow.DirFlow.TheVariants as dir_flow
 use Rattle.inf_flow_file.specs.declared.file_flow.FileFlow.TheVariants as file_flow
 use Rattle.inf_duty.specs.declared.flow.Flow.TheVariants as flow
 use Rattle.inf_duty.specs.ClientState.{ClientState, Stage, act, call_ref, compose, round, winds}
-use Rattle.inf_duty.specs.Flow.{message_of}
+use Rattle.inf_duty.proofs.FlowFacts.{message_of}
 use Rattle.inf_duty.specs.Group.{group}
 use Rattle.inf_duty.specs.declared.flow.Flow.{Flow}
 use Rattle.inf_message.specs.Chain.{dir_in}
@@ -21,7 +21,7 @@ use Rattle.inf_laws_directory.specs.Phases.{Phase, Phases, has_made, has_reserve
 use Rattle.inf_laws_directory.proofs.ServedReplies.{cancel_fine, drop_fine, forget_fine, reserved_may_write, sealed_may_write, unseal_fine}
 use Rattle.inf_laws_history.specs.Pending.{Waits}
 use Rattle.inf_laws_history.specs.Phases.{FlowHas, FlowMay, HasPhase, IsLiftedBy, StageMay}
-use Rattle.inf_laws_history.proofs.GroupMessages.{look_in, only_one}
+use Rattle.inf_laws_history.proofs.GroupMessages.{lift_message, look_in, step_message}
 use Rattle.inf_laws_history.proofs.PhaseFacts.{Answering, InHand, IsCleanUp}
 use Rattle.inf_laws_history.proofs.PhaseTurns.{ends_under}
 use Rattle.inf_message.specs.declared.ask.Ask.{Ask}
@@ -81,11 +81,11 @@ stage_fits digest T who (round keys) index at asked phase has may stands is =
     subst (λ (r : Request). Fits at phase r) (sym look.is)
     (subst (λ (p : Phase). Fits at p (request.Lookup look.k)) (sym has) tt)
 stage_fits digest T who (act step) index at asked phase has may stands is =
-    subst (λ (x : Message). Fits at phase x.request) (only_one (message_of who step) index at.number asked is)
+    subst (λ (x : Message). Fits at phase x.request) (step_message who step index at.number asked is)
     (flow_fits at who step phase has.0 may stands.links_up)
-stage_fits digest T who (winds ending m ms) index at asked phase has may stands is =
-    subst (λ (x : Message). Fits at phase x.request) (only_one m index at.number asked is)
-    (lifted_fits at who.servers phase m has.0)
+stage_fits digest T who (winds ending ms later) index at asked phase has may stands is =
+    lifted_fits at who.servers phase (record { number = at.number; request = asked })
+    (lift_message who.servers phase ms later index at.number asked has is)
 
 pub fits_phase : (digest : List ℕ → Id) (T : Entry → Type 0) (s : ClientState) (at : At) (ask : Ask)
     (phases : Phases)
@@ -125,8 +125,9 @@ stage_home : (digest : List ℕ → Id) (who : Who) (stage : Stage) (index numbe
 stage_home digest who compose index number asked phase has cleans is = absurd cleans
 stage_home digest who (round keys) index number asked phase has cleans is = absurd cleans
 stage_home digest who (act step) index number asked phase has cleans is = absurd cleans
-stage_home digest who (winds ending m ms) index number asked phase has cleans is =
-    subst (λ (x : Message). IsSentHome who.servers x.number x.request) (only_one m index number asked is) (lifted_home who.servers phase m has.0)
+stage_home digest who (winds ending ms later) index number asked phase has cleans is =
+    lifted_home who.servers phase (record { number = number; request = asked })
+    (lift_message who.servers phase ms later index number asked has is)
 
 pub sent_home : (digest : List ℕ → Id) (s : ClientState) (place number : ℕ) (ask : Ask) (phases : Phases)
     → HasPhase digest s.who s.stage (phases (call_ref s)) → Waits s place number ask → IsCleanUp s.stage → IsSentHome s.who.servers number ask.request

@@ -18,7 +18,8 @@ use Rattle.inf_flow_file.specs.declared.file_flow.FileFlow.TheVariants as file_f
 use Rattle.inf_duty.specs.declared.flow.Flow.TheVariants as flow
 use Rattle.inf_message.specs.declared.turn.Turn.TheVariants as turn
 use Rattle.inf_duty.specs.ClientState.{ClientState, Stage, act}
-use Rattle.inf_duty.specs.Flow.{HasBirthId, after_act, clean_up, message_of}
+use Rattle.inf_duty.specs.Flow.{HasBirthId, after_reply, clean_up}
+use Rattle.inf_duty.proofs.FlowFacts.{message_of}
 use Rattle.inf_duty.specs.declared.course.Course.{Course}
 use Rattle.inf_duty.specs.declared.course.Deed.{Deed}
 use Rattle.inf_duty.specs.declared.course.Deed.TheVariants as deed
@@ -29,6 +30,7 @@ use Rattle.inf_duty.specs.Turn.{known_turn, round_turn, turn_by}
 use Rattle.inf_duty.specs.declared.flow.Flow.{Flow}
 use Rattle.inf_flow_dir.specs.DirFlow.{forget_in, lives_at, row_of}
 use Rattle.inf_message.specs.Chain.{dir_in, last_dir, way_to}
+use Rattle.inf_message.specs.CleanUp.{one_by_one}
 use Rattle.inf_message.specs.Sent.{is_wanting}
 use Rattle.inf_message.specs.Turn.{fails, turn_as}
 use Rattle.inf_message.specs.Who.{Who, birth_of, id_or_root, last_id, lift}
@@ -151,14 +153,14 @@ sealed_same (Some first) (Some last) phase parent target dir name over is keyed 
     let same : last ≡ target = cc in
     sealed_key first phase last.key last.access dir name (ap (λ (e : Entry). e.key) same ∙ keyed)
 
-forgets_lift : (who : Who) (dir : DirRef) (birth : Triple) (b : Bool) → Lifts who.servers idle (if b then [] else forget_in who dir birth)
+forgets_lift : (who : Who) (dir : DirRef) (birth : Triple) (b : Bool) → Lifts who.servers idle (one_by_one (if b then [] else forget_in who dir birth))
 forgets_lift who dir triple.Root true = refl
 forgets_lift who dir triple.Root false = refl
 forgets_lift who dir (triple.Of parent name version) true = refl
 forgets_lift who dir (triple.Of parent name version) false = (record { parent = parent; dir = dir; is = refl }, refl)
 
 unlinked_lifts : (who : Who) (parent : Id) (found : Option Entry) (target : Entry) (phase : Phase) → found ≡ Some target
-    → Lifts who.servers (unlinked_at_end found phase) (lift who (dir_in found) request.Drop ∷ row_of who parent found)
+    → Lifts who.servers (unlinked_at_end found phase) (one_by_one (lift who (dir_in found) request.Drop ∷ row_of who parent found))
 unlinked_lifts who parent None target phase is = absurd cc
 unlinked_lifts who parent (Some entry) target phase is =
     (refl, forgets_lift who (dir_of entry.access) entry.access.birth (lives_at parent entry.key entry.access.birth))
@@ -173,7 +175,7 @@ module _ (service : Service) (who : Who) (at : At) (phase : Phase) where
   abbrev Comes : Flow → Reply → Type 0
   Comes step given =
       TurnHas service.digest who (next_phase service at phase (message_of who step).request given)
-      (turn_as act (after_act service.digest who step at.ask_place at.serve_place given))
+      (turn_as act (after_reply service.digest who step at.ask_place at.serve_place given))
 
   finish_has : (chain : List Entry) (asked : Op) (given : Reply) → FlowHas who (flow.File (file_flow.Finishes chain asked)) phase → Comes (flow.File (file_flow.Finishes chain asked)) given
   finish_has chain (op.Create name mode) reply.Fine has = has

@@ -23,10 +23,11 @@ use Rattle.inf_flow_file.specs.declared.file_flow.FileFlow.TheVariants as file_f
 use Rattle.inf_duty.specs.declared.flow.Flow.TheVariants as flow
 use Rattle.inf_message.specs.declared.turn.Turn.TheVariants as turn
 use Rattle.inf_duty.specs.ClientState.{ClientState, Stage, act, compose, ended, result_of, round, winds, wound}
-use Rattle.inf_duty.specs.Flow.{after_act, clean_up}
+use Rattle.inf_duty.specs.Flow.{after_act, after_reply, clean_up}
+use Rattle.inf_duty.proofs.FlowFacts.{act_by}
 use Rattle.inf_duty.specs.Group.{composed_stage}
 use Rattle.inf_duty.specs.Course.{next_course}
-use Rattle.inf_duty.specs.Turn.{act_turn, learned, round_turn, served, turn_at, turned}
+use Rattle.inf_duty.specs.Turn.{learned, round_turn, served, turn_at, turned}
 use Rattle.inf_duty.specs.declared.flow.Flow.{Flow}
 use Rattle.inf_message.specs.Sent.{Sent, is_wanting}
 use Rattle.inf_message.specs.Turn.{fails, turn_as}
@@ -62,7 +63,7 @@ EndingIs P (ending.Answers given at) = P given at
 EndingIs P ending.Retries = Unit {0}
 
 abbrev pub StageIs : Of → Stage → Type 0
-StageIs P (winds end m ms) = EndingIs P end
+StageIs P (winds end ms later) = EndingIs P end
 StageIs P other_stage = Unit {0}
 
 abbrev FlowIs : Of → Turn Flow → Type 0
@@ -85,7 +86,7 @@ module _ (P : Of) (of : IsOfServes P) where
   fails_is wrap who step place reply.NoMem = of.wanting
   fails_is wrap who step place any_reply = tt
 
-  act_is : (digest : List ℕ → Id) (who : Who) (step : Flow) (asked place : ℕ) (given : Reply) → FlowIs P (after_act digest who step asked place given)
+  act_is : (digest : List ℕ → Id) (who : Who) (step : Flow) (asked place : ℕ) (given : Reply) → FlowIs P (after_reply digest who step asked place given)
   act_is digest who (flow.File (file_flow.Finishes chain (op.Create name mode))) asked place reply.Fine = of.done place
   act_is digest who (flow.File (file_flow.Finishes chain (op.Stat name))) asked place (reply.Stat kind meta) = of.stat kind meta place
   act_is digest who (flow.Dir (dir_flow.Reserves chain name mode)) asked place (reply.Reserved version) = tt
@@ -98,14 +99,10 @@ module _ (P : Of) (of : IsOfServes P) where
   act_is digest who (flow.File step) asked place given = fails_is flow.File who (flow.File step) place given
   act_is digest who (flow.Dir step) asked place given = fails_is flow.Dir who (flow.Dir step) place given
 
-  told_is : (digest : List ℕ → Id) (who : Who) (step : Flow) (place : ℕ) (told : Option Told) (xs : List Sent)
-      → FlowIs P (act_turn digest who step (record { place = place; told = told } ∷ xs))
-  told_is digest who step place None xs = tt
-  told_is digest who step place (Some told) xs = act_is digest who step place told.serve_place told.reply
-
-  flow_is : (digest : List ℕ → Id) (who : Who) (step : Flow) (sent : List Sent) → FlowIs P (act_turn digest who step sent)
-  flow_is digest who step [] = tt
-  flow_is digest who step (x ∷ xs) = told_is digest who step x.place x.told xs
+  flow_is : (digest : List ℕ → Id) (who : Who) (step : Flow) (sent : List Sent) → FlowIs P (after_act digest who step sent)
+  flow_is digest who step sent =
+      act_by (FlowIs P) digest who step sent tt
+      (λ x told found as_told. act_is digest who step x.place told.serve_place told.reply)
 
   -- ---- after a group
 
@@ -119,8 +116,8 @@ module _ (P : Of) (of : IsOfServes P) where
   turn_is : (digest : List ℕ → Id) (s : ClientState) (stage : Stage) → StageIs P stage → TurnIs P (turn_at digest s stage)
   turn_is digest s compose is = tt
   turn_is digest s (round keys) is = round_is digest s
-  turn_is digest s (act step) is = as_act (act_turn digest s.who step s.sent) (flow_is digest s.who step s.sent)
-  turn_is digest s (winds end m ms) is = is
+  turn_is digest s (act step) is = as_act (after_act digest s.who step s.sent) (flow_is digest s.who step s.sent)
+  turn_is digest s (winds end ms later) is = is
 
   -- ---- a client
 
@@ -132,10 +129,10 @@ module _ (P : Of) (of : IsOfServes P) where
   ended_are given at s is before =
       record { results = All-push (ResultIs P) s.results (result_of given at s.counts.last s) before is; stage = tt }
 
-  wound_are : (end : Ending) (more : List Message) (s : ClientState) → EndingIs P end → All (ResultIs P) s.results → AllAre (wound end more s)
+  wound_are : (end : Ending) (more : List (List Message)) (s : ClientState) → EndingIs P end → All (ResultIs P) s.results → AllAre (wound end more s)
   wound_are (ending.Answers given at) [] s is before = ended_are given at s is before
   wound_are ending.Retries [] s is before = record { results = before; stage = tt }
-  wound_are end (m ∷ ms) s is before = record { results = before; stage = is }
+  wound_are end (ms ∷ later) s is before = record { results = before; stage = is }
 
   turned_are : (t : Turn Stage) (s : ClientState) → TurnIs P t → All (ResultIs P) s.results → AllAre (turned t s)
   turned_are (turn.GoesOn next) s is before = record { results = before; stage = is }
@@ -147,11 +144,11 @@ module _ (P : Of) (of : IsOfServes P) where
   over_are digest s (round keys) is before =
       let t : ClientState = learned (round keys) s in turned_are (turn_at digest t (round keys)) t (turn_is digest t (round keys) tt) before
   over_are digest s (act step) is before = turned_are (turn_at digest s (act step)) s (turn_is digest s (act step) tt) before
-  over_are digest s (winds end m ms) is before = turned_are (turn_at digest s (winds end m ms)) s is before
+  over_are digest s (winds end ms later) is before = turned_are (turn_at digest s (winds end ms later)) s is before
 
   given_up_are : (s : ClientState) (stage : Stage) → AllAre s → AllAre (given_up_in s stage)
   given_up_are s (act step) before = wound_are (ending.Answers answer.NoMemory None) (clean_up s.who step) s of.wanting before.results
-  given_up_are s (winds end m ms) before = before
+  given_up_are s (winds end ms later) before = before
   given_up_are s compose before = ended_are answer.NoMemory None s of.wanting before.results
   given_up_are s (round keys) before = ended_are answer.NoMemory None s of.wanting before.results
 
@@ -159,7 +156,7 @@ module _ (P : Of) (of : IsOfServes P) where
   composed_is digest s compose is = by_next (StageIs P) digest s.who s.known (next_course s.left) tt (λ keys. tt) (λ course old new leads. tt)
   composed_is digest s (round keys) is = is
   composed_is digest s (act step) is = is
-  composed_is digest s (winds end m ms) is = is
+  composed_is digest s (winds end ms later) is = is
 
   kept : (digest : List ℕ → Id) → IsKept digest AllAre
   kept digest = record {

@@ -16,10 +16,10 @@ use Rattle.inf_duty.proofs.BegunKept.{IsKept, if_both, kept_all_given_up, kept_b
 use Rattle.inf_message.specs.declared.ending.Ending.TheVariants as ending
 use Rattle.inf_message.specs.declared.turn.Turn.TheVariants as turn
 use Rattle.inf_duty.specs.ClientState.{ClientState, Stage, act, call_ref, compose, ended, result_of, round, winds, wound}
-use Rattle.inf_duty.specs.Flow.{clean_up}
+use Rattle.inf_duty.specs.Flow.{after_act, clean_up}
 use Rattle.inf_duty.specs.Group.{composed_stage}
 use Rattle.inf_duty.specs.Course.{next_course}
-use Rattle.inf_duty.specs.Turn.{act_turn, learned, served, turn_at, turned}
+use Rattle.inf_duty.specs.Turn.{learned, served, turn_at, turned}
 use Rattle.inf_duty.specs.declared.flow.Flow.{Flow}
 use Rattle.inf_message.specs.Sent.{has_place}
 use Rattle.inf_message.specs.Turn.{turn_as}
@@ -51,7 +51,7 @@ EndingHas P h call (ending.Answers given at) = IfPlaced P h call given at
 EndingHas P h call ending.Retries = Unit {0}
 
 abbrev StageHas : Of → List Event → CallRef → Stage → Type 0
-StageHas P h call (winds end m ms) = EndingHas P h call end
+StageHas P h call (winds end ms later) = EndingHas P h call end
 StageHas P h call other_stage = Unit {0}
 
 abbrev TurnHas : Of → List Event → CallRef → Turn Stage → Type 0
@@ -69,7 +69,7 @@ pub record IsBrought (world : World) (P : Of) : Type 0 where
   pub by_flow : (h : List Event) → Legal world h → (number ask_place : ℕ) (given : Reply) → MayServe world h number ask_place given → (client : ℕ) (flow : Flow)
       → (client_after world client h).stage ≡ act flow → has_place ask_place (client_after world client h).sent ≡ true
       → TurnOf (P (event.Serve number ask_place given ∷ h) (call_ref (client_after world client h)))
-      (act_turn world.digest (client_after world client h).who flow (recorded_in ask_place (told_reply (suc (length h)) given) (client_after world client h)).sent)
+      (after_act world.digest (client_after world client h).who flow (recorded_in ask_place (told_reply (suc (length h)) given) (client_after world client h)).sent)
 
 module _ (world : World) (P : Of) (brought : IsBrought world P) where
   record AllHave (h : List Event) (s : ClientState) : Type 0 where
@@ -98,10 +98,10 @@ module _ (world : World) (P : Of) (brought : IsBrought world P) where
     ended_have given at s is before =
         record { results = All-push (ResultHas P h) s.results (result_of given at s.counts.last s) before is; stage = tt }
 
-    wound_have : (end : Ending) (more : List Message) (s : ClientState) → EndingHas P h (call_ref s) end → All (ResultHas P h) s.results → AllHave h (wound end more s)
+    wound_have : (end : Ending) (more : List (List Message)) (s : ClientState) → EndingHas P h (call_ref s) end → All (ResultHas P h) s.results → AllHave h (wound end more s)
     wound_have (ending.Answers given at) [] s is before = ended_have given at s is before
     wound_have ending.Retries [] s is before = record { results = before; stage = tt }
-    wound_have end (m ∷ ms) s is before = record { results = before; stage = is }
+    wound_have end (ms ∷ later) s is before = record { results = before; stage = is }
 
     turned_have : (t : Turn Stage) (s : ClientState) → TurnHas P h (call_ref s) t → All (ResultHas P h) s.results → AllHave h (turned t s)
     turned_have (turn.GoesOn next) s is before = record { results = before; stage = is }
@@ -109,7 +109,7 @@ module _ (world : World) (P : Of) (brought : IsBrought world P) where
 
     given_up_have : (s : ClientState) (stage : Stage) → AllHave h s → AllHave h (given_up_in s stage)
     given_up_have s (act flow) before = wound_have (ending.Answers answer.NoMemory None) (clean_up s.who flow) s tt before.results
-    given_up_have s (winds end m ms) before = before
+    given_up_have s (winds end ms later) before = before
     given_up_have s compose before = ended_have answer.NoMemory None s tt before.results
     given_up_have s (round keys) before = ended_have answer.NoMemory None s tt before.results
 
@@ -118,7 +118,7 @@ module _ (world : World) (P : Of) (brought : IsBrought world P) where
         by_next (StageHas P h (call_ref s)) world.digest s.who s.known (next_course s.left) tt (λ keys. tt) (λ course old new leads. tt)
     composed_has s (round keys) is = is
     composed_has s (act flow) is = is
-    composed_has s (winds end m ms) is = is
+    composed_has s (winds end ms later) is = is
 
     kept : IsKept world.digest (AllHave h)
     kept = record {
@@ -153,7 +153,7 @@ module _ (world : World) (P : Of) (brought : IsBrought world P) where
         by_round (TurnHas P now (call_ref s)) world.digest (learned (round keys) told_now) tt tt tt
         (brought.by_round h legal number ask_place given may client keys is here)
     by_stage here (act flow) is has = turn_has now (call_ref s) _ (brought.by_flow h legal number ask_place given may client flow is here)
-    by_stage here (winds end m ms) is has = has
+    by_stage here (winds end ms later) is has = has
 
     over_has : (stage : Stage) → TurnHas P now (call_ref s) (turn_at world.digest (learned stage told_now) stage) → All (ResultHas P now) s.results
         → AllHave now (turned (turn_at world.digest (learned stage told_now) stage) (learned stage told_now))
@@ -161,7 +161,7 @@ module _ (world : World) (P : Of) (brought : IsBrought world P) where
     over_has (round keys) has before =
         turned_have now (turn_at world.digest (learned (round keys) told_now) (round keys)) (learned (round keys) told_now) has before
     over_has (act flow) has before = turned_have now (turn_at world.digest told_now (act flow)) told_now has before
-    over_has (winds end m ms) has before = turned_have now (turn_at world.digest told_now (winds end m ms)) told_now has before
+    over_has (winds end ms later) has before = turned_have now (turn_at world.digest told_now (winds end ms later)) told_now has before
 
     served_has : AllHave now s → AllHave now (served world.digest ask_place told s)
     served_has before =

@@ -1,22 +1,21 @@
 -- What an answer that gave its call up rests on: a Serve that said so, which stands there whatever joins.
-use Rattle.std.proofs.Common.{◌≡◌, ℕ, suc, ◌≤◌, ◌<◌, Bool, true, false, cond, eqb, nat_lt, List, [], ◌∷◌, length, Option, None, Some, refl, sym, ap, subst, ◌∙◌, arith}
+use Rattle.std.proofs.Common.{◌≡◌, ◌⊎◌, inl, inr, ℕ, suc, ◌≤◌, ◌<◌, Bool, true, false, cond, eqb, nat_lt, List, [], ◌∷◌, length, Option, None, Some, refl, sym, ap, subst, ◌∙◌, arith}
 use Rattle.std.proofs.lemmas.Bool.Decides.{Decides-eqb, nat_tests}
 use Rattle.inf_base.specs.declared.answer.Answer.{Answer}
 use Rattle.inf_base.specs.declared.answer.Answer.TheVariants as answer
 use Rattle.inf_base.specs.declared.caller.CallRef.{CallRef}
 use Rattle.inf_base.specs.declared.triple.Triple.{Triple}
-use Rattle.inf_duty.specs.Duty.{asked}
 use Rattle.inf_duty.specs.World.{World}
 use Rattle.inf_message.specs.declared.ending.Ending.TheVariants as ending
-use Rattle.inf_duty.specs.ClientState.{ClientState, Stage, call_ref, winds}
-use Rattle.inf_message.specs.Heard.{heard}
+use Rattle.inf_duty.specs.ClientState.{ClientState, Stage, act, call_ref, compose, round, winds}
+use Rattle.inf_message.specs.Heard.{heard, light}
+use Rattle.inf_duty.specs.Turn.{heard_in}
 use Rattle.inf_message.specs.Sent.{Sent}
 use Rattle.inf_message.specs.declared.ending.Ending.{Ending}
 use Rattle.inf_laws_history.specs.Causes.{before}
 use Rattle.inf_laws_history.specs.Legal.{Legal, MayServe}
 use Rattle.inf_laws_history.specs.Objects.{WasAskedIn}
 use Rattle.inf_laws_history.proofs.AskedGroups.{asked_in_stays}
-use Rattle.inf_message.specs.declared.ask.Ask.{Ask}
 use Rattle.inf_message.specs.declared.call_result.CallResult.{CallResult}
 use Rattle.inf_message.specs.declared.event.Event.{Event}
 use Rattle.inf_message.specs.declared.event.Event.TheVariants as event
@@ -86,12 +85,42 @@ serve_may world (event.Serve n p r ∷ h) legal place number ask_place given sta
 
 -- ---- what a result rests on
 
+-- what is kept of a reply is the reply, or Other
+abbrev pub IsKeptOf : Reply → Reply → Type 0
+IsKeptOf given kept = (kept ≡ given) ⊎ (kept ≡ reply.Other)
+
+heard_keeps : (given : Reply) → IsKeptOf given (heard given)
+heard_keeps (reply.Listing items) = inr refl
+heard_keeps other_reply = inl refl
+
+light_keeps : (given : Reply) → IsKeptOf given (light given)
+light_keeps (reply.Found k access) = inr refl
+light_keeps (reply.Clash kept) = inr refl
+light_keeps (reply.Listing items) = inr refl
+light_keeps other_reply = inl refl
+
+pub stage_keeps : (stage : Stage) (given : Reply) → IsKeptOf given (heard_in stage given)
+stage_keeps (round keys) given = heard_keeps given
+stage_keeps compose given = light_keeps given
+stage_keeps (act step) given = light_keeps given
+stage_keeps (winds end ms later) given = light_keeps given
+
+pub keeps_on : (given kept later : Reply) → IsKeptOf given kept → IsKeptOf kept later → IsKeptOf given later
+keeps_on given kept later is (inr other) = inr other
+keeps_on given kept later (inl same) (inl again) = inl (again ∙ same)
+keeps_on given kept later (inr other) (inl again) = inr (again ∙ other)
+
+-- what is kept as another reply than Other was given so
+pub given_as : (given kept what : Reply) → IsKeptOf given kept → kept ≡ what → (what ≡ reply.Other → ⊥) → given ≡ what
+given_as given kept what (inl same) is unlike = sym same ∙ is
+given_as given kept what (inr other) is unlike = absurd (unlike (sym is ∙ other))
+
 -- the call's Ask at a place was served so
 pub record IsServedFor (h : List Event) (call : CallRef) (place : ℕ) (told : Told) : Type 0 where
   pub number : ℕ
   pub given : Reply
   pub stands : event_at told.serve_place h ≡ Some (event.Serve number place given)
-  pub hears : heard given ≡ heard told.reply
+  pub hears : IsKeptOf given told.reply
   pub posted : Posted
   pub asked : asked_at place (before told.serve_place h) ≡ Some posted
   pub own : posted.ask.from ≡ call
@@ -141,7 +170,7 @@ EndsCaused h call (ending.Answers given at) = IsCausedFor h call given at
 EndsCaused h call ending.Retries = Unit {0}
 
 abbrev pub StageCaused : List Event → CallRef → Stage → Type 0
-StageCaused h call (winds end m ms) = EndsCaused h call end
+StageCaused h call (winds end ms later) = EndsCaused h call end
 StageCaused h call other_stage = Unit {0}
 
 abbrev pub IsServedIf : List Event → CallRef → ℕ → Option Told → Type 0
@@ -220,7 +249,7 @@ module _ (e : Event) (h : List Event) (call : CallRef) where
   ending_stays ending.Retries is = tt
 
   stage_stays : (stage : Stage) → StageCaused h call stage → StageCaused (e ∷ h) call stage
-  stage_stays (winds end m ms) is = ending_stays end is
+  stage_stays (winds end ms later) is = ending_stays end is
   stage_stays other_stage is = tt
 
   if_stays : (place : ℕ) (told : Option Told) → IsServedIf h call place told → IsServedIf (e ∷ h) call place told

@@ -15,10 +15,10 @@ use Rattle.inf_duty.specs.World.{World}
 use Rattle.inf_message.specs.declared.ending.Ending.TheVariants as ending
 use Rattle.inf_message.specs.declared.turn.Turn.TheVariants as turn
 use Rattle.inf_duty.specs.ClientState.{ClientState, Stage, act, compose, ended, rest_of, result_of, round, winds, wound}
-use Rattle.inf_duty.specs.Flow.{clean_up}
+use Rattle.inf_duty.specs.Flow.{after_act, clean_up}
 use Rattle.inf_duty.specs.Group.{composed_stage}
 use Rattle.inf_duty.specs.Course.{next_course}
-use Rattle.inf_duty.specs.Turn.{act_turn, learned, round_turn, served, told_in, turn_at, turned}
+use Rattle.inf_duty.specs.Turn.{learned, round_turn, served, told_in, turn_at, turned}
 use Rattle.inf_message.specs.Who.{Who}
 use Rattle.inf_message.specs.declared.ending.Ending.{Ending}
 use Rattle.inf_message.specs.declared.turn.Turn.{Turn}
@@ -167,7 +167,7 @@ by_ending place caller left (ending.Answers given at) = if_at place at (called c
 by_ending place caller left ending.Retries = []
 
 abbrev pub by_stage : ℕ → Caller → List Call → Stage → List Decided
-by_stage place caller left (winds end m ms) = by_ending place caller left end
+by_stage place caller left (winds end ms later) = by_ending place caller left end
 by_stage place caller left other_stage = []
 
 -- what a client's calls come to at a place: those that ended, and the one that is decided and winds up
@@ -180,7 +180,7 @@ none_called place caller (ending.Answers given (Some at)) = no_more (eqb place a
 none_called place caller ending.Retries = refl
 
 none_staged : (place : ℕ) (caller : Caller) (stage : Stage) → by_stage place caller [] stage ≡ []
-none_staged place caller (winds end m ms) = none_called place caller end
+none_staged place caller (winds end ms later) = none_called place caller end
 none_staged place caller compose = refl
 none_staged place caller (round keys) = refl
 none_staged place caller (act flow) = refl
@@ -229,20 +229,20 @@ module _ (world : World) (client : ℕ) (line : Option ClientLine) (found : slic
       (λ course old new leads. refl)
   composed_at (round keys) s = refl
   composed_at (act flow) s = refl
-  composed_at (winds end m ms) s = refl
+  composed_at (winds end ms later) s = refl
 
   gave_up_at : (s : ClientState) → comes_to world place (ended answer.NoMemory None s) ≡ tree_at world place s.results ++ []
   gave_up_at s =
       append-nil (tree_at world place (ended answer.NoMemory None s).results)
       ∙ tree_at_both world place s.results _
 
-  winding_at : (more : List Message) (s : ClientState) → comes_to world place (wound (ending.Answers answer.NoMemory None) more s) ≡ tree_at world place s.results ++ []
+  winding_at : (more : List (List Message)) (s : ClientState) → comes_to world place (wound (ending.Answers answer.NoMemory None) more s) ≡ tree_at world place s.results ++ []
   winding_at [] s = gave_up_at s
   winding_at (m ∷ ms) s = refl
 
   given_up_at : (stage : Stage) (s : ClientState) → s.stage ≡ stage → comes_to world place (given_up_in s stage) ≡ tree_at world place s.results ++ by_stage place s.who.caller s.left stage
   given_up_at (act flow) s is = winding_at (clean_up s.who flow) s
-  given_up_at (winds end m ms) s is = ap (λ stage. tree_at world place s.results ++ by_stage place s.who.caller s.left stage) is
+  given_up_at (winds end ms later) s is = ap (λ stage. tree_at world place s.results ++ by_stage place s.who.caller s.left stage) is
   given_up_at compose s is = gave_up_at s
   given_up_at (round keys) s is = gave_up_at s
 
@@ -275,15 +275,15 @@ module _ (world : World) (client : ℕ) (line : Option ClientLine) (found : slic
 
   -- ---- the turn after a group
 
-  wound_comes : (end : Ending) (more : List Message) (s : ClientState) → Reads world client line s
+  wound_comes : (end : Ending) (more : List (List Message)) (s : ClientState) → Reads world client line s
       → comes_to world place (wound end more s) ≡ tree_at world place s.results ++ by_ending place s.who.caller s.left end
   wound_comes (ending.Answers given at) [] s reads =
       append-nil (tree_at world place (ended given at s).results)
       ∙ tree_at_both world place s.results _
       ∙ ap (λ more. tree_at world place s.results ++ more) (one_result given at s.counts.last s reads)
   wound_comes ending.Retries [] s reads = refl
-  wound_comes (ending.Answers given at) (m ∷ ms) s reads = refl
-  wound_comes ending.Retries (m ∷ ms) s reads = refl
+  wound_comes (ending.Answers given at) (ms ∷ later) s reads = refl
+  wound_comes ending.Retries (ms ∷ later) s reads = refl
 
   -- an answer with a place has this one, or is not the tree's
   abbrev IsSaidAt : ℕ → Answer → ℕ → Type 0
@@ -307,7 +307,7 @@ module _ (world : World) (client : ℕ) (line : Option ClientLine) (found : slic
   onward_at caller left compose is = refl
   onward_at caller left (round keys) is = refl
   onward_at caller left (act flow) is = refl
-  onward_at caller left (winds end m ms) is = absurd is
+  onward_at caller left (winds end ms later) is = absurd is
 
   turned_comes : (now : ℕ) (t : Turn Stage) (s : ClientState) → Reads world client line s → StageTurnOf (IsSaidAt now) t
       → comes_to world place (turned t s) ≡ tree_at world place s.results ++ only_at place now (decided_by_turn s t)
@@ -340,11 +340,11 @@ module _ (world : World) (client : ℕ) (line : Option ClientLine) (found : slic
   stage_comes told (act flow) s reads tells =
       let t : Turn Stage = turn_at world.digest s (act flow) in
       turned_comes told.serve_place t s reads
-      (turn_as_act (IsSaidAt told.serve_place) (act_turn world.digest s.who flow s.sent)
+      (turn_as_act (IsSaidAt told.serve_place) (after_act world.digest s.who flow s.sent)
       (weaker_turn (IsAt told.serve_place) (IsSaidAt told.serve_place) (λ given at is. inl is) _ (act_turn_at world.digest s.who flow s.sent told tells)))
       ∙ ap (λ front. front ++ only_at place told.serve_place (decided_by_turn s t)) (sym (append-nil (tree_at world place s.results)))
-  stage_comes told (winds end m ms) s reads tells =
-      wound_comes end ms s reads
+  stage_comes told (winds end ms later) s reads tells =
+      wound_comes end later s reads
       ∙ sym (append-nil _)
       ∙ ap (λ more. (tree_at world place s.results ++ by_ending place s.who.caller s.left end) ++ more) (sym (no_more (eqb place told.serve_place)))
 

@@ -1,21 +1,25 @@
 -- What a Serve decides for the client that waits for it.
-use Rattle.std.proofs.Common.{◌≡◌, ℕ, ◌||◌, Bool, true, false, if◌then◌else◌, List, [], ◌∷◌, Some, None, refl, sym, ap, ◌∙◌, subst}
+use Rattle.std.proofs.Common.{◌≡◌, ℕ, ◌==◌, ◌&&◌, ◌||◌, Bool, true, false, if◌then◌else◌, List, [], ◌∷◌, Some, None, refl, sym, ap, ◌∙◌, subst}
 use Rattle.inf_base.specs.declared.call.Call.{Call}
 use Rattle.inf_base.specs.declared.caller.Caller.{Caller}
 use Rattle.inf_base.specs.declared.id.Id.{Id}
 use Rattle.inf_duty.specs.ClientState.{ClientState, Stage, act, compose, round, winds}
-use Rattle.inf_duty.specs.Flow.{message_of}
+use Rattle.inf_duty.proofs.FlowFacts.{after_is, message_of, one_message}
+use Rattle.inf_duty.specs.Flow.{after_reply}
+use Rattle.inf_message.specs.declared.turn.Turn.{Turn}
+use Rattle.inf_message.specs.Turn.{turn_as}
 use Rattle.inf_duty.specs.Group.{group}
 use Rattle.inf_duty.specs.Turn.{is_complete, learned, recorded, told_in}
 use Rattle.inf_duty.specs.declared.flow.Flow.{Flow}
+use Rattle.inf_message.specs.Heard.{light}
 use Rattle.inf_message.specs.Sent.{Sent, has_place, told_at}
 use Rattle.inf_laws_client.specs.Asked.{AreAskedFor, AsksItsGroup}
 use Rattle.inf_laws_directory.specs.Owes.{Goes, Moment, Owes}
 use Rattle.inf_laws_directory.specs.Phases.{Phase, has_made, has_reserved, has_sealed, has_unlinked, idle}
-use Rattle.inf_laws_history.specs.Decisions.{decided_at_stage, decided_for, decided_if, decided_when}
+use Rattle.inf_laws_history.specs.Decisions.{decided_at_stage, decided_by_turn, decided_for, decided_if, decided_when}
 use Rattle.inf_laws_history.specs.Pending.{Waits}
 use Rattle.inf_laws_history.specs.Phases.{HasPhase, IsLiftedBy}
-use Rattle.inf_laws_history.proofs.GroupMessages.{alone, look_in, only_one}
+use Rattle.inf_laws_history.proofs.GroupMessages.{lift_message, look_in, step_alone}
 use Rattle.inf_laws_history.proofs.DecisionFacts.{Comes, act_comes, comes_on, round_undecided}
 use Rattle.inf_message.specs.declared.ask.Ask.{Ask}
 use Rattle.inf_message.specs.declared.reply.Reply.{Reply}
@@ -94,14 +98,28 @@ module _ (digest : List ℕ → Id) (A : ℕ → Request → Type 0) (m : Moment
   abbrev decides_with : Flow → Sent → List Decided
   decides_with flow x = decided_if digest (is_complete (with_only flow x)) (with_only flow x)
 
+  abbrev only : Flow → ClientState
+  only flow = in_stage (act flow) (waiting place ∷ [])
+
+  -- the answer to the only Ask is taken as it comes
+  as_told : (flow : Flow) → told_in (only flow) told ≡ told
+  as_told flow =
+      ap (λ (n : ℕ). if (true && (n == 1)) && true then told else record told { reply = light told.reply }) (one_message s.who flow)
+
   acting : (flow : Flow) → message_of s.who flow ≡ record { number = number; request = ask.request }
       → Comes m (decided_for digest place told (in_stage (act flow) (waiting place ∷ [])))
   acting flow is =
       let x : Sent = record { place = place; told = Some told } in
       let is_told : told_at place told (waiting place) ≡ x = ap (λ (b : Bool). if b then x else waiting place) (itself place) in
       let decides : decided_for digest place told (in_stage (act flow) (waiting place ∷ [])) ≡ decides_with flow x =
-      ap (λ (b : Bool). decided_when digest (b || false) place told (in_stage (act flow) (waiting place ∷ []))) (itself place) ∙ ap (decides_with flow) is_told in
-      subst (λ (ds : List Decided). Comes m ds) (sym decides)
+      ap (λ (b : Bool). decided_when digest (b || false) place told (only flow)) (itself place)
+      ∙ ap (λ (t : Told). decided_if digest (is_complete (recorded place t (only flow))) (recorded place t (only flow))) (as_told flow)
+      ∙ ap (decides_with flow) is_told in
+      let by_reply : decides_with flow x
+      ≡ decided_by_turn (with_only flow x) (turn_as act (after_reply digest s.who flow place told.serve_place told.reply)) =
+      ap (λ (n : ℕ). decided_if digest ((1 == n) && true) (with_only flow x)) (one_message s.who flow)
+      ∙ ap (λ (t : Turn Flow). decided_by_turn (with_only flow x) (turn_as act t)) (after_is digest s.who flow (x ∷ [])) in
+      subst (λ (ds : List Decided). Comes m ds) (sym (decides ∙ by_reply))
       (act_comes digest m (with_only flow x) asked calls left flow place serve_place given
       (subst (λ (message : Message). Owes m s.who.caller asked message.request given) (sym is) owes))
 
@@ -115,11 +133,12 @@ module _ (digest : List ℕ → Id) (A : ℕ → Request → Type 0) (m : Moment
       quiet_comes before (round_undecided digest now (learned (round keys) now))
       (subst (λ (r : Request). IsQuiet r) (sym found.is) tt)
   by_stage (act flow) sent phase waits asks has =
-      let lone = alone A (message_of s.who flow) sent waits.index place number ask.request waits.sent waits.message asks in
+      let lone = step_alone A s.who flow sent waits.index place number ask.request waits.sent waits.message asks in
       subst (λ (xs : List Sent). Comes m (decided_for digest place told (in_stage (act flow) xs))) (sym lone.sent_alone) (acting flow lone.message)
-  by_stage (winds ending first ms) sent phase waits asks has =
-      quiet_comes (in_stage (winds ending first ms) sent) refl
-      (subst (λ (n : Message). IsQuiet n.request) (only_one first waits.index number ask.request waits.message) (lift_quiet s.who.servers phase first has.0))
+  by_stage (winds ending ms later) sent phase waits asks has =
+      quiet_comes (in_stage (winds ending ms later) sent) refl
+      (lift_quiet s.who.servers phase (record { number = number; request = ask.request })
+      (lift_message s.who.servers phase ms later waits.index number ask.request has waits.message))
 
   -- what is owed for the request is what comes of what the client's call decides
   pub serve_comes : (phase : Phase) → Waits s place number ask → AsksItsGroup A s → HasPhase digest s.who s.stage phase → Comes m (decided_for digest place told s)

@@ -23,13 +23,13 @@ use Rattle.inf_flow_file.specs.declared.file_flow.FileFlow.TheVariants as file_f
 use Rattle.inf_duty.specs.declared.flow.Flow.TheVariants as flow
 use Rattle.inf_message.specs.declared.turn.Turn.TheVariants as turn
 use Rattle.inf_duty.specs.ClientState.{ClientState, Stage, act, call_ref, compose, ended, result_of, round, winds, wound}
-use Rattle.inf_duty.specs.Flow.{after_act, clean_up, message_of}
+use Rattle.inf_duty.specs.Flow.{after_act, after_reply, clean_up, messages_of}
+use Rattle.inf_duty.proofs.FlowFacts.{act_by, message_of, messages_are}
 use Rattle.inf_duty.specs.Group.{composed_stage, group}
 use Rattle.inf_duty.specs.Course.{next_course}
-use Rattle.inf_duty.specs.Turn.{act_turn, is_lone, learned, round_turn, served, told_by, told_in, told_of, turn_at, turned}
+use Rattle.inf_duty.specs.Turn.{heard_in, is_lone, learned, round_turn, served, told_by, told_in, told_of, turn_at, turned}
 use Rattle.inf_duty.specs.declared.flow.Flow.{Flow}
-use Rattle.inf_message.specs.Heard.{heard}
-use Rattle.inf_message.specs.Sent.{Sent, has_place, is_wanting, told_at}
+use Rattle.inf_message.specs.Sent.{Sent, deciding, has_place, is_wanting, told_at}
 use Rattle.inf_message.specs.Turn.{fails, turn_as}
 use Rattle.inf_message.specs.Who.{Who, birth_of}
 use Rattle.inf_message.specs.declared.ending.Ending.{Ending}
@@ -54,7 +54,7 @@ use Rattle.inf_laws_history.proofs.AskedGroups.{asks_group, group_stays}
 use Rattle.inf_duty.proofs.BegunKept.{IsKept, if_both, kept_all_given_up, kept_begun}
 use Rattle.inf_laws_history.proofs.ClientSteps.{by_answer, recorded_in, waits_for_own}
 use Rattle.inf_laws_history.proofs.PendingFacts.{pending_after}
-use Rattle.inf_laws_history.proofs.ResultCauses.{AllCaused, AreKnown, AreServed, EndsCaused, IsBusyFor, IsCaused, IsCausedFor, IsClashFor, IsKnownFor, IsServedFor, IsServedIf, StageCaused, asked_before, before_all, before_stays, caused_stays}
+use Rattle.inf_laws_history.proofs.ResultCauses.{AllCaused, AreKnown, AreServed, EndsCaused, IsBusyFor, IsCaused, IsCausedFor, IsClashFor, IsKnownFor, IsServedFor, IsServedIf, StageCaused, asked_before, before_all, before_stays, caused_stays, given_as, keeps_on, stage_keeps}
 use Rattle.inf_laws_history.proofs.Turns.{by_next, by_round}
 use Rattle.inf_resolve.specs.declared.known.Known.{Known}
 use Rattle.inf_resolve.specs.InTheWay.{IsInTheWay, IsToldBusy}
@@ -76,15 +76,15 @@ module _ (h : List Event) where
     sent = tt;
   }
 
-  wound_caused : (end : Ending) (more : List Message) (s : ClientState) → AllCaused h s.results → AreKnown h (call_ref s) s.known → EndsCaused h (call_ref s) end
+  wound_caused : (end : Ending) (more : List (List Message)) (s : ClientState) → AllCaused h s.results → AreKnown h (call_ref s) s.known → EndsCaused h (call_ref s) end
       → IsCaused h (wound end more s)
   wound_caused (ending.Answers given at) [] s all known new = ended_caused given at s all new
   wound_caused ending.Retries [] s all known new = record { results = all; stage = tt; known = tt; sent = tt }
-  wound_caused end (m ∷ ms) s all known new = record { results = all; stage = new; known = known; sent = tt }
+  wound_caused end (ms ∷ later) s all known new = record { results = all; stage = new; known = known; sent = tt }
 
   given_up_caused : (stage : Stage) (s : ClientState) → IsCaused h s → IsCaused h (given_up_in s stage)
   given_up_caused (act step) s is = wound_caused (ending.Answers answer.NoMemory None) (clean_up s.who step) s is.results is.known tt
-  given_up_caused (winds end m ms) s is = is
+  given_up_caused (winds end ms later) s is = is
   given_up_caused compose s is = ended_caused answer.NoMemory None s is.results tt
   given_up_caused (round keys) s is = ended_caused answer.NoMemory None s is.results tt
 
@@ -99,14 +99,6 @@ module _ (h : List Event) where
     TurnCaused (turn.GoesOn next) = StageCaused h call next
     TurnCaused (turn.WindsUp end more) = EndsCaused h call end
 
-    pub heard_busy : (given : Reply) (by : CallRef) (at : Spot) (born : ℕ) → heard given ≡ reply.Busy by at born → given ≡ reply.Busy by at born
-    heard_busy (reply.Listing items) by at born is = absurd cc
-    heard_busy other_reply by at born is = is
-
-    heard_clash : (given : Reply) (kept : Triple) → heard given ≡ reply.Clash kept → given ≡ reply.Clash kept
-    heard_clash (reply.Listing items) kept is = absurd cc
-    heard_clash other_reply kept is = is
-
     busy_for : (place : ℕ) (told : Told) (by : CallRef) (at : Spot) (born : ℕ) → IsServedFor h call place told → told.reply ≡ reply.Busy by at born
         → IsBusyFor h call by (Some told.serve_place)
     busy_for place told by at born is reads = record {
@@ -116,7 +108,7 @@ module _ (h : List Event) where
       ask_place = place;
       spot = at;
       born = born;
-      told = is.stands ∙ ap (λ (r : Reply). Some (event.Serve is.number place r)) (heard_busy is.given by at born (is.hears ∙ ap heard reads));
+      told = is.stands ∙ ap (λ (r : Reply). Some (event.Serve is.number place r)) (given_as is.given told.reply (reply.Busy by at born) is.hears reads (λ e. cc));
       posted = is.posted;
       asked = is.asked;
       own = is.own;
@@ -132,7 +124,7 @@ module _ (h : List Event) where
           placed = refl;
           number = is.number;
           ask_place = place;
-          told = is.stands ∙ ap (λ (r : Reply). Some (event.Serve is.number place r)) (heard_clash is.given kept (is.hears ∙ ap heard reads));
+          told = is.stands ∙ ap (λ (r : Reply). Some (event.Serve is.number place r)) (given_as is.given told.reply (reply.Clash kept) is.hears reads (λ e. cc));
           posted = is.posted;
           asked = is.asked;
           caller = is.own;
@@ -218,7 +210,7 @@ module _ (digest : List ℕ → Id) (h : List Event) where
       by_next (StageCaused h (call_ref s)) digest s.who s.known (next_course s.left) tt (λ keys. tt) (λ course old new leads. tt)
   composed_caused (round keys) s is = tt
   composed_caused (act step) s is = tt
-  composed_caused (winds end m ms) s is = is
+  composed_caused (winds end ms later) s is = is
 
   keeps_causes : IsKept digest (IsCaused h)
   keeps_causes = record {
@@ -234,7 +226,7 @@ module _ (digest : List ℕ → Id) (h : List Event) where
 
   module _ (call : CallRef) where
     after_act_caused : (who : Who) (step : Flow) (place : ℕ) (told : Told) (given : Reply) → IsServedFor h call place told
-        → WasAskedIn h place (message_of who step).request → told.reply ≡ given → FlowCaused h call (after_act digest who step place told.serve_place given)
+        → WasAskedIn h place (message_of who step).request → told.reply ≡ given → FlowCaused h call (after_reply digest who step place told.serve_place given)
     after_act_caused who (flow.File (file_flow.Finishes chain (op.Create name mode))) place told reply.Fine is was reads = tt
     after_act_caused who (flow.File (file_flow.Finishes chain (op.Stat name))) place told (reply.Stat kind meta) is was reads = tt
     after_act_caused who (flow.Dir (dir_flow.Reserves chain name mode)) place told (reply.Reserved version) is was reads = tt
@@ -247,15 +239,26 @@ module _ (digest : List ℕ → Id) (h : List Event) where
     after_act_caused who (flow.File step) place told given is was reads = fails_caused h call flow.File who (flow.File step) place told given is reads
     after_act_caused who (flow.Dir step) place told given is was reads = fails_caused h call flow.Dir who (flow.Dir step) place told given is reads
 
-    told_act_caused : (who : Who) (step : Flow) (place : ℕ) (told : Option Told) (xs : List Sent) → IsServedIf h call place told
-        → WasAskedIn h place (message_of who step).request → FlowCaused h call (act_turn digest who step (record { place = place; told = told } ∷ xs))
-    told_act_caused who step place None xs is was = tt
-    told_act_caused who step place (Some told) xs is was = after_act_caused who step place told told.reply is was refl
+    -- a step has one Ask
+    act_caused : (who : Who) (step : Flow) (sent : List Sent) → AreServed h call sent → AreAskedFor (WasAskedIn h) (messages_of who step) sent
+        → FlowCaused h call (after_act digest who step sent)
+    act_caused who step sent are asks =
+        act_by (FlowCaused h call) digest who step sent tt
+        (λ x told found as_told.
+        by sent are (subst (λ (ms : List Message). AreAskedFor (WasAskedIn h) ms sent) (messages_are who step) asks) x told found as_told)
+      where
+        one : (y x : Sent) (told : Told) → IsServedIf h call y.place y.told → WasAskedIn h y.place (message_of who step).request → y ≡ x → x.told ≡ Some told
+            → FlowCaused h call (after_reply digest who step x.place told.serve_place told.reply)
+        one y x told is was same as_told =
+            after_act_caused who step x.place told told.reply
+            (subst (λ (known : Option Told). IsServedIf h call x.place known) as_told (subst (λ (z : Sent). IsServedIf h call z.place z.told) same is))
+            (subst (λ (z : Sent). WasAskedIn h z.place (message_of who step).request) same was) refl
 
-    act_caused : (who : Who) (step : Flow) (sent : List Sent) → AreServed h call sent → AreAskedFor (WasAskedIn h) (message_of who step ∷ []) sent
-        → FlowCaused h call (act_turn digest who step sent)
-    act_caused who step [] are asks = tt
-    act_caused who step (x ∷ xs) are asks = told_act_caused who step x.place x.told xs are.0 asks.0
+        by : (xs : List Sent) → AreServed h call xs → AreAskedFor (WasAskedIn h) (message_of who step ∷ []) xs → (x : Sent) (told : Told) → deciding xs ≡ Some x
+            → x.told ≡ Some told → FlowCaused h call (after_reply digest who step x.place told.serve_place told.reply)
+        by [] are asks x told found as_told = absurd cc
+        by (y ∷ []) are asks x told found as_told = let same : y ≡ x = cc in one y x told are.0 asks.0 same as_told
+        by (y ∷ z ∷ xs) are asks x told found as_told = absurd asks.1
 
   -- the turn, once what was told is learned
   over_caused : (stage : Stage) (s : ClientState) → AllCaused h s.results → StageCaused h (call_ref s) stage → AreKnown h (call_ref s) s.known
@@ -268,8 +271,8 @@ module _ (digest : List ℕ → Id) (h : List Event) where
       turned_caused h (turn_at digest t (round keys)) t all now (round_caused h (call_ref s) digest t now)
   over_caused (act step) s all is known are asks =
       turned_caused h (turn_at digest s (act step)) s all known
-      (as_act h (call_ref s) (act_turn digest s.who step s.sent) (act_caused (call_ref s) s.who step s.sent are asks))
-  over_caused (winds end m ms) s all is known are asks = turned_caused h (turn_at digest s (winds end m ms)) s all known is
+      (as_act h (call_ref s) (after_act digest s.who step s.sent) (act_caused (call_ref s) s.who step s.sent are asks))
+  over_caused (winds end ms later) s all is known are asks = turned_caused h (turn_at digest s (winds end ms later)) s all known is
 
 -- ---- an answer more
 
@@ -294,23 +297,16 @@ module _ (h : List Event) (call : CallRef) (ask_place : ℕ) (told : Told) (now 
   all_recorded [] are = tt
   all_recorded (x ∷ xs) are = (one_recorded x.place x.told (eqb x.place ask_place) refl are.0, all_recorded xs are.1)
 
-heard_twice : (given : Reply) → heard (heard given) ≡ heard given
-heard_twice (reply.Listing items) = refl
-heard_twice (reply.Found key access) = refl
-heard_twice (reply.Absent born) = refl
-heard_twice (reply.IsFile born) = refl
-heard_twice other_reply = refl
-
 -- a Serve told what is kept of its answer
 pub kept_served : (h : List Event) (call : CallRef) (place : ℕ) (told : Told) (s : ClientState) → IsServedFor h call place told
     → IsServedFor h call place (told_in s told)
 kept_served h call place told s is =
-    if_both (IsServedFor h call place) (is_lone s) told (record told { reply = heard told.reply }) is
+    if_both (IsServedFor h call place) (is_lone s) told (record told { reply = heard_in s.stage told.reply }) is
     (record {
       number = is.number;
       given = is.given;
       stands = is.stands;
-      hears = is.hears ∙ sym (heard_twice told.reply);
+      hears = keeps_on is.given told.reply (heard_in s.stage told.reply) is.hears (stage_keeps s.stage told.reply);
       posted = is.posted;
       asked = is.asked;
       own = is.own;
@@ -349,7 +345,7 @@ module _ (world : World) (h : List Event) (legal : Legal world h) (number ask_pl
         number = number;
         given = given;
         stands = let newest = itself (suc (length h)) in rw newest refl;
-        hears = refl;
+        hears = inl refl;
         posted = may.posted;
         asked = ap (asked_at ask_place) (before_stays (suc (length h)) (event.Serve number ask_place given) h (omega arith) ∙ before_all (suc (length h)) h (omega arith)) ∙ may.made;
         own = waits.from ∙ ap (λ c. call_ref (client_after world c h)) by_client;

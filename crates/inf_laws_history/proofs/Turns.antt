@@ -1,5 +1,5 @@
 -- What comes of a group, by cases; and the place of the answer that it comes to, if it comes to one.
-use Rattle.std.proofs.Common.{◌≡◌, inl, inr, ℕ, zero, suc, ◌==◌, Bool, true, false, eqb, List, [], ◌∷◌, Option, None, Some, refl, sym, arith, subst}
+use Rattle.std.proofs.Common.{◌≡◌, inl, inr, ℕ, zero, suc, ◌==◌, Bool, true, false, eqb, List, [], ◌∷◌, Option, None, Some, refl, sym, ap, ◌∙◌, arith, subst}
 use Rattle.inf_base.specs.declared.id.Id.{Id}
 use Rattle.std.specs.List.{Contains, list_any}
 use Rattle.std.proofs.lemmas.Bool.{or_left, or_right}
@@ -14,14 +14,15 @@ use Rattle.inf_flow_file.specs.declared.file_flow.FileFlow.TheVariants as file_f
 use Rattle.inf_duty.specs.declared.flow.Flow.TheVariants as flow
 use Rattle.inf_message.specs.declared.turn.Turn.TheVariants as turn
 use Rattle.inf_duty.specs.ClientState.{ClientState, Stage, act, compose, round, winds}
-use Rattle.inf_duty.specs.Flow.{after_act, clean_up}
+use Rattle.inf_duty.specs.Flow.{after_act, after_reply, clean_up}
+use Rattle.inf_duty.proofs.FlowFacts.{act_by, deciding_in}
 use Rattle.inf_duty.specs.declared.course.Course.{Course}
 use Rattle.inf_duty.specs.Course.{flow_at, next_course}
 use Rattle.inf_duty.specs.Group.{next_stage, stage_by}
-use Rattle.inf_duty.specs.Turn.{act_turn, is_lone, known_turn, round_turn, told_in, turn_by}
+use Rattle.inf_duty.specs.Turn.{is_lone, known_turn, round_turn, told_in, turn_by}
 use Rattle.inf_duty.specs.declared.flow.Flow.{Flow}
 use Rattle.inf_duty.proofs.BegunKept.{if_both}
-use Rattle.inf_message.specs.Sent.{Sent, is_wanting}
+use Rattle.inf_message.specs.Sent.{Sent, deciding, is_wanting}
 use Rattle.inf_message.specs.Turn.{again, ends, fails, turn_as}
 use Rattle.inf_message.specs.Who.{Who}
 use Rattle.inf_message.specs.declared.turn.Turn.{Turn}
@@ -52,7 +53,7 @@ weaker_turn A B weaker (turn.WindsUp other_ending more) is = tt
 
 -- nothing is wound up in it
 abbrev pub IsOnward : Stage → Type 0
-IsOnward (winds end m ms) = ⊥
+IsOnward (winds end ms later) = ⊥
 IsOnward other_stage = Unit {0}
 
 -- the same of any group; one that goes on winds nothing up
@@ -118,7 +119,7 @@ fails_at wrap who step place (reply.Refused error) = refl
 fails_at wrap who step place reply.NoMem = tt
 fails_at wrap who step place any_reply = tt
 
-after_act_at : (digest : List ℕ → Id) (who : Who) (step : Flow) (asked place : ℕ) (given : Reply) → TurnOf (IsAt place) (after_act digest who step asked place given)
+pub after_act_at : (digest : List ℕ → Id) (who : Who) (step : Flow) (asked place : ℕ) (given : Reply) → TurnOf (IsAt place) (after_reply digest who step asked place given)
 after_act_at digest who (flow.File (file_flow.Finishes chain (op.Create name mode))) asked place reply.Fine = refl
 after_act_at digest who (flow.File (file_flow.Finishes chain (op.Stat name))) asked place (reply.Stat kind meta) = refl
 after_act_at digest who (flow.Dir (dir_flow.Reserves chain name mode)) asked place (reply.Reserved version) = tt
@@ -131,27 +132,26 @@ after_act_at digest who (flow.Dir (dir_flow.Unlinks chain)) asked place reply.Fi
 after_act_at digest who (flow.File step) asked place given = fails_at flow.File who (flow.File step) place given
 after_act_at digest who (flow.Dir step) asked place given = fails_at flow.Dir who (flow.Dir step) place given
 
-abbrev pub first_told : List Sent → Option Told
-first_told [] = None
-first_told (x ∷ xs) = x.told
+abbrev told_by : Option Sent → Option Told
+told_by None = None
+told_by (Some x) = x.told
 
-abbrev IsAtTold : Option Told → Turn Flow → Type 0
-IsAtTold None t = t ≡ turn.WindsUp ending.Retries []
-IsAtTold (Some told) t = TurnOf (IsAt told.serve_place) t
+-- the answer that decides a step
+abbrev pub deciding_told : List Sent → Option Told
+deciding_told sent = told_by (deciding sent)
 
-told_turn : (digest : List ℕ → Id) (who : Who) (step : Flow) (place : ℕ) (told : Option Told) (xs : List Sent)
-    → IsAtTold told (act_turn digest who step (record { place = place; told = told } ∷ xs))
-told_turn digest who step place None xs = refl
-told_turn digest who step place (Some told) xs = after_act_at digest who step place told.serve_place told.reply
-
-act_turn_is : (digest : List ℕ → Id) (who : Who) (step : Flow) (sent : List Sent) → IsAtTold (first_told sent) (act_turn digest who step sent)
-act_turn_is digest who step [] = refl
-act_turn_is digest who step (x ∷ xs) = told_turn digest who step x.place x.told xs
-
--- what comes of a flow's message has the place of its Serve
-pub act_turn_at : (digest : List ℕ → Id) (who : Who) (step : Flow) (sent : List Sent) (told : Told) → first_told sent ≡ Some told
-    → TurnOf (IsAt told.serve_place) (act_turn digest who step sent)
-act_turn_at digest who step sent told is = subst (λ known. IsAtTold known (act_turn digest who step sent)) is (act_turn_is digest who step sent)
+-- what comes of a step has the place of the Serve that decides it
+pub act_turn_at : (digest : List ℕ → Id) (who : Who) (step : Flow) (sent : List Sent) (told : Told) → deciding_told sent ≡ Some told
+    → TurnOf (IsAt told.serve_place) (after_act digest who step sent)
+act_turn_at digest who step sent told is =
+    act_by (TurnOf (IsAt told.serve_place)) digest who step sent tt
+    (λ x decides found as_told.
+    let same : decides ≡ told = told_same decides (sym (ap told_by found ∙ as_told) ∙ is) in
+    subst (λ (t : Told). TurnOf (IsAt told.serve_place) (after_reply digest who step x.place t.serve_place t.reply)) (sym same)
+    (after_act_at digest who step x.place told.serve_place told.reply))
+  where
+    told_same : (decides : Told) → Some decides ≡ Some told → decides ≡ told
+    told_same decides is = cc
 
 -- ---- the places that a client was told
 
@@ -170,21 +170,16 @@ known_there place known = list_any (λ (k : Known). place == k.place) known
 abbrev pub IsThere : List Sent → Answer → ℕ → Type 0
 IsThere sent given place = told_there place sent ≡ true
 
-at_first : (place at : ℕ) (told : Told) (xs : List Sent) → at ≡ told.serve_place → told_there at (record { place = place; told = Some told } ∷ xs) ≡ true
-at_first place at told xs same =
-    or_left (eqb at told.serve_place) (told_there at xs) (subst (λ p. eqb p told.serve_place ≡ true) (sym same) (itself told.serve_place))
-
-told_turn_there : (digest : List ℕ → Id) (who : Who) (step : Flow) (place : ℕ) (told : Option Told) (xs : List Sent)
-    → TurnOf (IsThere (record { place = place; told = told } ∷ xs)) (act_turn digest who step (record { place = place; told = told } ∷ xs))
-told_turn_there digest who step place None xs = tt
-told_turn_there digest who step place (Some told) xs =
-    weaker_turn (IsAt told.serve_place) (IsThere (record { place = place; told = Some told } ∷ xs)) (λ given at same. at_first place at told xs same)
-    (after_act digest who step place told.serve_place told.reply)
-    (after_act_at digest who step place told.serve_place told.reply)
-
-pub act_turn_there : (digest : List ℕ → Id) (who : Who) (step : Flow) (sent : List Sent) → TurnOf (IsThere sent) (act_turn digest who step sent)
-act_turn_there digest who step [] = tt
-act_turn_there digest who step (x ∷ xs) = told_turn_there digest who step x.place x.told xs
+pub act_turn_there : (digest : List ℕ → Id) (who : Who) (step : Flow) (sent : List Sent) → TurnOf (IsThere sent) (after_act digest who step sent)
+act_turn_there digest who step sent =
+    act_by (TurnOf (IsThere sent)) digest who step sent tt
+    (λ x told found as_told.
+    weaker_turn (IsAt told.serve_place) (IsThere sent)
+    (λ given at same.
+    deciding_in (λ (y : Sent). serve_is at y.told) sent x found
+    (ap (serve_is at) as_told ∙ subst (λ p. eqb p told.serve_place ≡ true) (sym same) (itself told.serve_place)))
+    (after_reply digest who step x.place told.serve_place told.reply)
+    (after_act_at digest who step x.place told.serve_place told.reply))
 
 -- a change in the way was told at its place
 known_at : (known : List Known) (told : Known) → Contains known told → known_there told.place known ≡ true

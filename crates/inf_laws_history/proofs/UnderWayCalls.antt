@@ -47,19 +47,19 @@ holds_at : (digest : List ℕ → Id) (who : Who) (stage : Stage) (phase : Phase
 holds_at digest who compose phase has acts = absurd (acts has)
 holds_at digest who (round keys) phase has acts = absurd (acts has)
 holds_at digest who (act step) phase has acts = flow_holds who step phase has.0 acts
-holds_at digest who (winds ending m ms) phase has acts = refl
+holds_at digest who (winds ending ms later) phase has acts = refl
 
 flows_at : (who : Who) (stage : Stage) → is_free who stage ≡ false → IsInFlow stage
 flows_at who compose holds = absurd cc
 flows_at who (round keys) holds = absurd cc
 flows_at who (act step) holds = tt
-flows_at who (winds ending m ms) holds = tt
+flows_at who (winds ending ms later) holds = tt
 
 under_in : (left : List Call) (stage : Stage) → IsInFlow stage → IsUnder left stage → 0 < length left
 under_in left compose flows under = absurd flows
 under_in left (round keys) flows under = absurd flows
 under_in left (act step) flows under = under
-under_in left (winds ending m ms) flows under = under
+under_in left (winds ending ms later) flows under = under
 
 began_within : (first : Option ℕ) (most place : ℕ) → IfSome first (λ at. at ≤ most) → is_some first ≡ true → most < place → (at : ℕ) × (first ≡ Some at) × (at < place)
 began_within None most place within some less = absurd cc

@@ -126,7 +126,7 @@ module _ (digest : List ℕ → Id) (call : CallRef) (place : ℕ) where
       (λ course old new leads. flow_free s.who course.deed old.chain old.left)
   composed_free s (round keys) = refl
   composed_free s (act flow) = refl
-  composed_free s (winds end m ms) = refl
+  composed_free s (winds end ms later) = refl
 
   composed_met : (s : ClientState) → Met s → Met (record s { stage = composed_stage digest s s.stage })
   composed_met s (inl past) = inl (past_lasts.composing s past)
@@ -142,14 +142,14 @@ module _ (digest : List ℕ → Id) (call : CallRef) (place : ℕ) where
   behind_if s free is (inl holds) = absurd cc
   behind_if s free is (inr behind) = behind
 
-  cleans_up : (s : ClientState) (more : List Message) → IsGoing call place s → (are_none more ≡ false) ⊎ ServedBehind place s.counts
+  cleans_up : (s : ClientState) (more : List (List Message)) → IsGoing call place s → (are_none more ≡ false) ⊎ ServedBehind place s.counts
       → Met (wound (ending.Answers answer.NoMemory None) more s)
   cleans_up s [] going holds = ends_around answer.NoMemory None s going.is going.began (behind_if s true refl holds)
   cleans_up s (m ∷ ms) going holds = inr (record { is = going.is; left = going.left; began = going.began; holds = inl refl })
 
   given_up_going : (s : ClientState) (stage : Stage) → IsGoing call place s → (is_free s.who stage ≡ false) ⊎ ServedBehind place s.counts → Met (given_up_in s stage)
   given_up_going s (act flow) going holds = cleans_up s (clean_up s.who flow) going holds
-  given_up_going s (winds end m ms) going holds = inr going
+  given_up_going s (winds end ms later) going holds = inr going
   given_up_going s compose going holds = ends_around answer.NoMemory None s going.is going.began (behind_if s true refl holds)
   given_up_going s (round keys) going holds = ends_around answer.NoMemory None s going.is going.began (behind_if s true refl holds)
 
@@ -178,7 +178,7 @@ module _ (digest : List ℕ → Id) (call : CallRef) (place : ℕ) where
 
   -- ---- after a group
 
-  wound_met : (end : Ending) (more : List Message) (s : ClientState) → call_ref s ≡ call → 0 < length s.left → BeganBefore place s.counts
+  wound_met : (end : Ending) (more : List (List Message)) (s : ClientState) → call_ref s ≡ call → 0 < length s.left → BeganBefore place s.counts
       → ServedBehind place s.counts → Met (wound end more s)
   wound_met (ending.Answers given at) [] s is left began behind = ends_around given at s is began behind
   wound_met ending.Retries [] s is left began behind = inr (record {
@@ -187,7 +187,7 @@ module _ (digest : List ℕ → Id) (call : CallRef) (place : ℕ) where
     began = record { first = began.first; is = began.is; less = began.less };
     holds = inr (record { last = behind.last; is = behind.is; less = behind.less });
   })
-  wound_met end (m ∷ ms) s is left began behind = inr (record { is = is; left = left; began = began; holds = inl refl })
+  wound_met end (ms ∷ later) s is left began behind = inr (record { is = is; left = left; began = began; holds = inl refl })
 
   turned_met : (t : Turn Stage) (s : ClientState) → call_ref s ≡ call → 0 < length s.left → BeganBefore place s.counts → ServedBehind place s.counts → Met (turned t s)
   turned_met (turn.GoesOn next) s is left began behind = inr (record { is = is; left = left; began = began; holds = inr behind })
@@ -199,7 +199,7 @@ module _ (digest : List ℕ → Id) (call : CallRef) (place : ℕ) where
   over_met (round keys) s is left began behind =
       let t : ClientState = learned (round keys) s in turned_met (turn_at digest t (round keys)) t is left began behind
   over_met (act flow) s is left began behind = turned_met (turn_at digest s (act flow)) s is left began behind
-  over_met (winds end m ms) s is left began behind = turned_met (turn_at digest s (winds end m ms)) s is left began behind
+  over_met (winds end ms later) s is left began behind = turned_met (turn_at digest s (winds end ms later)) s is left began behind
 
   later_one : (last : Option ℕ) (at : ℕ) → place < at → (l : ℕ) × (later_place last at ≡ Some l) × (place < l)
   later_one None at less = (at, refl, less)

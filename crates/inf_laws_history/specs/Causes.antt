@@ -13,6 +13,8 @@ use Rattle.inf_laws_directory.specs.At.{At}
 use Rattle.inf_laws_history.specs.Flight.{InFlight, touches}
 use Rattle.inf_laws_history.specs.Legal.{server_after}
 use Rattle.inf_laws_history.specs.UnderWay.{WasUnderWay}
+use Rattle.inf_duty.specs.After.{client_after}
+use Rattle.inf_duty.specs.ClientState.{ClientState, call_ref}
 use Rattle.inf_duty.specs.World.{World}
 use Rattle.inf_message.specs.declared.call_result.CallResult.{CallResult}
 use Rattle.inf_message.specs.declared.event.Event.{Event}
@@ -34,9 +36,18 @@ pub record HasServe (h : List Event) (at : At) (posted : Posted) (given : Reply)
   pub told : event_at at.serve_place h ≡ Some (event.Serve at.number at.ask_place given)
   pub asked : asked_at at.ask_place (before at.serve_place h) ≡ Some posted
 
--- a server told an Ask of the call of the directory of this identifier and birth: the entry that stands before in the
--- call's chain
-pub record IsBehindEntry (h : List Event) (call : CallRef) (id : Id) (born : ℕ) : Type 0 where
+-- a client has made an Ask in this attempt of this call, counted from 1, and is still in it
+pub record IsInAttempt (s : ClientState) (call : CallRef) (attempt : ℕ) : Type 0 where
+  pub is_call : call_ref s ≡ call
+  pub is_attempt : s.counts.attempts ≡ attempt
+  pub is_begun : s.counts.is_begun ≡ true
+
+-- A server told an Ask of the call of the directory of this identifier and birth: the entry that stands before in the
+-- call's chain. That was in the same attempt as the Serve at this place. Either of the two Serves may stand first: the
+-- lookups of a round are served in any order, and one may be made by a predicted identifier, of which a later round
+-- tells.
+pub record IsBehindEntry (world : World) (h : List Event) (call : CallRef) (place : ℕ) (id : Id)
+    (born : ℕ) : Type 0 where
   pub at : At
   pub posted : Posted
   pub key : Key
@@ -45,6 +56,10 @@ pub record IsBehindEntry (h : List Event) (call : CallRef) (id : Id) (born : ℕ
   pub own : posted.ask.from ≡ call
   pub same_id : access.id ≡ id
   pub same_born : access.born ≡ born
+  -- just before either Serve the client was in the same attempt
+  pub attempt : ℕ
+  pub told_in : IsInAttempt (client_after world call.client (before at.serve_place h)) call attempt
+  pub counts_in : IsInAttempt (client_after world call.client (before place h)) call attempt
 
 -- the call of this result was answered Again, for it met a change of this other call
 pub record IsAgainBecause (world : World) (h : List Event) (results : List CallResult) (result : CallResult)
@@ -58,9 +73,9 @@ pub record IsAgainBecause (world : World) (h : List Event) (results : List CallR
   pub posted : Posted
   pub served : HasServe h at posted (reply.Busy by spot born)
   pub own : posted.ask.from ≡ result.call
-  -- a lookup under a name counts only where the birth told is that of the entry before it
+  -- a lookup under a name counts only where the same attempt was told of its directory, by this birth
   pub behind : (id : Id) (name : List ℕ) → posted.ask.request ≡ request.Lookup (look.At id name)
-      → IsBehindEntry h result.call id born
+      → IsBehindEntry world h result.call at.serve_place id born
   -- the other call is another client's
   pub other : by.client ≢ result.call.client
   -- by its result it was under way

@@ -45,7 +45,7 @@ decided_by_turn s (turn.GoesOn next) = []
 decided_by_turn s (turn.WindsUp end more) = decided_by_end s end
 
 abbrev pub decided_at_stage : (List ℕ → Id) → ClientState → Stage → List Decided
-decided_at_stage digest s (winds end m ms) = []
+decided_at_stage digest s (winds end ms later) = []
 decided_at_stage digest s other_stage = decided_by_turn s (turn_at digest (learned other_stage s) other_stage)
 
 abbrev pub decided_if : (List ℕ → Id) → Bool → ClientState → List Decided

@@ -43,10 +43,11 @@ abbrev pub lifted : Phase → Phase
 lifted (has_made parent name birth made) = has_reserved parent name birth
 lifted other_phase = idle
 
--- the messages lift all that is in hand, one after another
-abbrev pub Lifts : ℕ → Phase → List Message → Type 0
+-- steps of one message each lift all that is in hand, one after another
+abbrev pub Lifts : ℕ → Phase → List (List Message) → Type 0
 Lifts servers phase [] = phase ≡ idle
-Lifts servers phase (m ∷ ms) = IsLiftedBy servers phase m × Lifts servers (lifted phase) ms
+Lifts servers phase ((m ∷ []) ∷ later) = IsLiftedBy servers phase m × Lifts servers (lifted phase) later
+Lifts servers phase other_steps = ⊥
 
 -- ---- stages
 
@@ -69,7 +70,7 @@ abbrev pub HasPhase : (List ℕ → Id) → Who → Stage → Phase → Type 0
 HasPhase digest who compose phase = phase ≡ idle
 HasPhase digest who (round keys) phase = phase ≡ idle
 HasPhase digest who (act step) phase = FlowHas who step phase × HasBirthId digest who step
-HasPhase digest who (winds ending m ms) phase = Lifts who.servers phase (m ∷ ms)
+HasPhase digest who (winds ending ms later) phase = Lifts who.servers phase (ms ∷ later)
 
 -- what a flow that goes on rests on: an earlier message asked whether the caller may write
 abbrev pub FlowMay : Caller → Flow → Type 0

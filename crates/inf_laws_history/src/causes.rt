@@ -15,7 +15,7 @@ use crate::laws::every_legal_history_keeps;
 
 /// Whoever was answered Again met a change of another client's call that was in flight, where the server that replied
 /// so had what was asked for. By its result, the other call was under way. Where a name was looked up, the reply is of
-/// a directory that the call was told of, by its identifier and birth.
+/// a directory that the same attempt was told of, by its identifier and birth.
 pub fn again_names_a_change_in_flight()
     ensures { (world : World) (h : List Event) (results : List CallResult) → Legal world h → Outcome world h results
         → All (λ (result : CallResult). (by : CallRef) → result.answer ≡ answer.Again by

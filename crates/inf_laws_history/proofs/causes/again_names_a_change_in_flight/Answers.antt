@@ -1,4 +1,4 @@
-use Rattle.std.proofs.Common.{◌≡◌, get_or, subst}
+use Rattle.std.proofs.Common.{get_or, subst}
 use Rattle.inf_base.specs.declared.answer.Answer.{Answer}
 use Rattle.inf_laws_history.proofs.BusyCauses.{again_is_because}
 use Rattle.inf_laws_history.proofs.BehindEntries.{behind_entries}
