@@ -17,16 +17,21 @@ use Rattle.inf_duty.specs.Duty.{asked}
 use Rattle.inf_flow_dir.specs.declared.dir_flow.DirFlow.TheVariants as dir_flow
 use Rattle.inf_flow_file.specs.declared.file_flow.FileFlow.TheVariants as file_flow
 use Rattle.inf_duty.specs.declared.flow.Flow.TheVariants as flow
-use Rattle.inf_message.specs.declared.turn.Turn.TheVariants as turn
-use Rattle.inf_duty.specs.ClientState.{Stage, act, compose, round, winds}
-use Rattle.inf_duty.specs.Flow.{clean_up, message_of}
+use Rattle.inf_duty.specs.ClientState.{Stage}
+use Rattle.inf_duty.specs.Flow.{after_act, clean_up, messages_of}
 use Rattle.inf_duty.specs.Group.{next_stage, stage_by}
 use Rattle.inf_duty.specs.declared.course.Course.{Course}
 use Rattle.inf_duty.specs.declared.course.Deed.{Deed}
 use Rattle.inf_duty.specs.declared.course.Deed.TheVariants as deed
 use Rattle.inf_duty.specs.Course.{course_at, course_in, flow_at, next_course, split, text_of}
 use Rattle.inf_duty.specs.declared.flow.Flow.{Flow}
-use Rattle.inf_flow_dir.specs.DirFlow.{after_unlink, forget_in, lives_at, row_of}
+use Rattle.inf_flow_dir.specs.declared.dir_flow.DirFlow.{DirFlow}
+use Rattle.inf_flow_dir.specs.DirFlow.{after as after_dir, after_reply as dir_reply, after_unlink, clean_up as dir_clean_up, forget_in, lives_at, row_of}
+use Rattle.inf_message.specs.declared.reply.Reply.{Reply}
+use Rattle.inf_message.specs.declared.reply.Reply.TheVariants as reply
+use Rattle.inf_message.specs.CleanUp.{one_by_one}
+use Rattle.inf_duty.specs.Keeps.{FlowKeeps, StageFits, TurnFits}
+use Rattle.inf_duty.proofs.KeepsFacts.{either_keeps, fails_fits, keeps_by}
 use Rattle.inf_message.specs.Chain.{last_dir, last_entry, way_to}
 use Rattle.inf_message.specs.Who.{Who, birth_of, last_id, lift, to}
 use Rattle.inf_message.specs.declared.turn.Turn.{Turn}
@@ -58,6 +63,15 @@ abbrev pub AreKnown : ℕ → List Message → Type 0
 AreKnown servers [] = Unit {0}
 AreKnown servers (m ∷ ms) = IsKnownMessage servers m × AreKnown servers ms
 
+-- steps of such messages
+abbrev pub AreKnownSteps : Who → List (List Message) → Type 0
+AreKnownSteps who [] = Unit {0}
+AreKnownSteps who (ms ∷ later) = AreKnown who.servers ms × AreKnownSteps who later
+
+single_known : (who : Who) (ms : List Message) → AreKnown who.servers ms → AreKnownSteps who (one_by_one ms)
+single_known who [] are = tt
+single_known who (m ∷ ms) are = ((are.0, tt), single_known who ms are.1)
+
 -- the server that keeps an identifier is there
 pub known : (who : Who) (id : Id) (asked : Request) → is_built asked ≡ true → HasShortChains asked → IsKnownMessage who.servers (to who id asked)
 known who id asked built short = record { built = built; short_chains = short; there = λ some. omega arith }
@@ -85,15 +99,19 @@ IsKnownFlow (flow.Dir (dir_flow.Seals chain)) = IsShort chain
 IsKnownFlow (flow.Dir (dir_flow.Unlinks chain)) = IsShort chain
 
 module _ (who : Who) where
-  pub flow_known : (step : Flow) → IsKnownFlow step → IsKnownMessage who.servers (message_of who step)
-  flow_known (flow.File (file_flow.Finishes chain with)) is = known who (last_id who chain) (request.Finish chain with) is.1 (one_chain chain is.0)
-  flow_known (flow.Dir (dir_flow.Reserves chain name mode)) is = known who (last_id who chain) (request.Reserve chain name) refl (one_chain chain is)
+  pub flow_known : (step : Flow) → IsKnownFlow step → AreKnown who.servers (messages_of who step)
+  flow_known (flow.File (file_flow.Finishes chain with)) is =
+      (known who (last_id who chain) (request.Finish chain with) is.1 (one_chain chain is.0), tt)
+  flow_known (flow.Dir (dir_flow.Reserves chain name mode)) is =
+      (known who (last_id who chain) (request.Reserve chain name) refl (one_chain chain is), tt)
   flow_known (flow.Dir (dir_flow.Makes chain name mode version id)) is =
-      known who id (request.Make (birth_of who chain name version)) refl no_chain
+      (known who id (request.Make (birth_of who chain name version)) refl no_chain, tt)
   flow_known (flow.Dir (dir_flow.Links chain name mode version dir)) is =
-      known who (last_id who chain) (request.Link chain name dir mode) refl (one_chain chain is)
-  flow_known (flow.Dir (dir_flow.Seals chain)) is = known who (last_id who chain) (request.Seal chain) refl (one_chain chain is)
-  flow_known (flow.Dir (dir_flow.Unlinks chain)) is = known who (last_id who (way_to chain)) (request.Unlink chain) refl (one_chain chain is)
+      (known who (last_id who chain) (request.Link chain name dir mode) refl (one_chain chain is), tt)
+  flow_known (flow.Dir (dir_flow.Seals chain)) is =
+      (known who (last_id who chain) (request.Seal chain) refl (one_chain chain is), tt)
+  flow_known (flow.Dir (dir_flow.Unlinks chain)) is =
+      (known who (last_id who (way_to chain)) (request.Unlink chain) refl (one_chain chain is), tt)
 
   cancel_known : (dir : DirRef) → IsKnownMessage who.servers (lift who dir request.Cancel)
   cancel_known dir = known who dir.id (request.Cancel dir) refl no_chain
@@ -104,13 +122,16 @@ module _ (who : Who) where
   unseal_known : (dir : DirRef) → IsKnownMessage who.servers (lift who dir request.Unseal)
   unseal_known dir = known who dir.id (request.Unseal dir) refl no_chain
 
-  pub clean_up_known : (step : Flow) → AreKnown who.servers (clean_up who step)
-  clean_up_known (flow.File (file_flow.Finishes chain with)) = tt
-  clean_up_known (flow.Dir (dir_flow.Reserves chain name mode)) = tt
-  clean_up_known (flow.Dir (dir_flow.Makes chain name mode version id)) = (cancel_known (last_dir chain), tt)
-  clean_up_known (flow.Dir (dir_flow.Links chain name mode version dir)) = (drop_known dir, (cancel_known (last_dir chain), tt))
-  clean_up_known (flow.Dir (dir_flow.Seals chain)) = tt
-  clean_up_known (flow.Dir (dir_flow.Unlinks chain)) = (unseal_known (last_dir chain), tt)
+  clean_up_known : (step : DirFlow) → AreKnownSteps who (dir_clean_up who step)
+  clean_up_known (dir_flow.Reserves chain name mode) = tt
+  clean_up_known (dir_flow.Makes chain name mode version id) =
+      single_known who (lift who (last_dir chain) request.Cancel ∷ []) (cancel_known (last_dir chain), tt)
+  clean_up_known (dir_flow.Links chain name mode version dir) =
+      single_known who (lift who dir request.Drop ∷ lift who (last_dir chain) request.Cancel ∷ [])
+      (drop_known dir, (cancel_known (last_dir chain), tt))
+  clean_up_known (dir_flow.Seals chain) = tt
+  clean_up_known (dir_flow.Unlinks chain) =
+      single_known who (lift who (last_dir chain) request.Unseal ∷ []) (unseal_known (last_dir chain), tt)
 
   forget_known : (dir : DirRef) (birth : Triple) → AreKnown who.servers (forget_in who dir birth)
   forget_known dir triple.Root = tt
@@ -121,20 +142,40 @@ module _ (who : Who) where
   row_known parent (Some entry) =
       if_both (AreKnown who.servers) (lives_at parent entry.key entry.access.birth) _ _ tt (forget_known (dir_of entry.access) entry.access.birth)
 
-  pub after_unlink_known : (chain : List Entry) → AreKnown who.servers (after_unlink who chain)
-  after_unlink_known chain = (drop_known (last_dir chain), row_known (last_id who (way_to chain)) (last_entry chain))
+  after_unlink_known : (chain : List Entry) → AreKnownSteps who (after_unlink who chain)
+  after_unlink_known chain =
+      single_known who
+      (lift who (last_dir chain) request.Drop ∷ row_of who (last_id who (way_to chain)) (last_entry chain))
+      (drop_known (last_dir chain), row_known (last_id who (way_to chain)) (last_entry chain))
 
--- ---- stages and turns
+  -- ---- what comes of the answers to a step
 
-abbrev pub IsKnownStage : ℕ → Stage → Type 0
-IsKnownStage servers compose = Unit {0}
-IsKnownStage servers (round keys) = Unit {0}
-IsKnownStage servers (act step) = IsKnownFlow step
-IsKnownStage servers (winds ending m ms) = IsKnownMessage servers m × AreKnown servers ms
+  abbrev DirTurnKnown : Turn DirFlow → Type 0
+  DirTurnKnown t = TurnFits DirFlow (λ (step : DirFlow). IsKnownFlow (flow.Dir step)) (AreKnownSteps who) t
 
-abbrev pub IsKnownTurn : ℕ → Turn Stage → Type 0
-IsKnownTurn servers (turn.GoesOn next) = IsKnownStage servers next
-IsKnownTurn servers (turn.WindsUp ending more) = AreKnown servers more
+  module _ (digest : List ℕ → Id) where
+    dir_turns : (step : DirFlow) (ask_place place : ℕ) (given : Reply) → IsKnownFlow (flow.Dir step)
+        → DirTurnKnown (dir_reply digest who step ask_place place given)
+    dir_turns (dir_flow.Reserves chain name mode) ask_place place (reply.Reserved version) is = is
+    dir_turns (dir_flow.Makes chain name mode version id) ask_place place reply.Fine is = is
+    dir_turns (dir_flow.Makes chain name mode version id) ask_place place (reply.Clash kept) is =
+        clean_up_known (dir_flow.Makes chain name mode version id)
+    dir_turns (dir_flow.Links chain name mode version dir) ask_place place reply.Fine is = tt
+    dir_turns (dir_flow.Seals chain) ask_place place reply.Fine is = is
+    dir_turns (dir_flow.Unlinks chain) ask_place place reply.Fine is = after_unlink_known chain
+    dir_turns step ask_place place given is =
+        fails_fits (AreKnownSteps who) DirFlow (λ (step : DirFlow). IsKnownFlow (flow.Dir step)) (dir_clean_up who step)
+        place given (clean_up_known step)
+
+    pub flows_known : FlowKeeps Flow (after_act digest who) (clean_up who) IsKnownFlow (AreKnownSteps who)
+    flows_known =
+        either_keeps (AreKnownSteps who) digest who IsKnownFlow tt
+        (keeps_by DirFlow (after_dir digest who) (dir_reply digest who) (dir_clean_up who)
+        (λ (step : DirFlow). IsKnownFlow (flow.Dir step)) (AreKnownSteps who) (λ step sent. refl) tt dir_turns
+        (λ step is. clean_up_known step))
+
+abbrev pub IsKnownStage : Who → Stage → Type 0
+IsKnownStage who stage = StageFits IsKnownFlow (AreKnownSteps who) stage
 
 -- ---- courses
 
@@ -224,9 +265,9 @@ flow_at_known (deed.Mkdir name mode) chain (next ∷ rest) short = (short, refl)
 flow_at_known deed.Rmdir chain (next ∷ []) short = (short, refl)
 flow_at_known deed.Rmdir chain (next ∷ other ∷ rest) short = (short, refl)
 
-module _ (digest : List ℕ → Id) (servers : ℕ) (who : Who) (told : List Known) where
+module _ (digest : List ℕ → Id) (who : Who) (told : List Known) where
   found_known : (course : Course) (found : Resolved) → length course.looked.old ≤ MOST_PATH_NAMES
-      → resolved digest who.root course.looked told ≡ found → IsKnownStage servers (stage_by course.deed found)
+      → resolved digest who.root course.looked told ≡ found → IsKnownStage who (stage_by course.deed found)
   found_known course (comes.Asks keys) few is = tt
   found_known course (comes.Leads old new) few is =
       flow_at_known course.deed old.chain old.left
@@ -234,6 +275,6 @@ module _ (digest : List ℕ → Id) (servers : ℕ) (who : Who) (told : List Kno
   found_known course (comes.IsBusy by place) few is = tt
   found_known course comes.Lacks few is = tt
 
-  pub next_stage_known : (course : Option Course) → IfKnown course → IsKnownStage servers (next_stage digest who told course)
+  pub next_stage_known : (course : Option Course) → IfKnown course → IsKnownStage who (next_stage digest who told course)
   next_stage_known None few = tt
   next_stage_known (Some course) few = found_known course (resolved digest who.root course.looked told) few refl
