@@ -1,17 +1,22 @@
 -- What a step of a client does, case by case, and what is kept true of it.
-use Rattle.std.proofs.Common.{◌≡◌, ◌≢◌, ℕ, zero, suc, ◌+◌, ◌-◌, ◌<◌, ◌≤◌, Bool, true, false, List, [], ◌∷◌, ◌++◌, length, map, drop, slice_get, Some, refl, sym, ap, subst, ◌∙◌, inl, inr, arith, length-append}
+use Rattle.std.proofs.Common.{◌≡◌, ◌≢◌, ℕ, zero, suc, ◌+◌, ◌-◌, ◌<◌, ◌≤◌, Bool, true, false, List, [], ◌∷◌, ◌++◌, length, map, drop, slice_get, Option, Some, None, refl, sym, ap, subst, ◌∙◌, inl, inr, arith, length-append}
 use Rattle.std.proofs.lemmas.List.{drop-drop, length-drop, length-map}
 use Rattle.std.proofs.lemmas.Option.{slice_get_within}
 use Rattle.inf_base.specs.declared.id.Id.{Id}
 use Rattle.inf_base.specs.declared.call.Call.{Call}
-use Rattle.inf_client.specs.AskLog.{AskLog, asked_first, asked_log}
+use Rattle.inf_base.specs.declared.setup.ClientLine.{ClientLine}
+use Rattle.inf_client.specs.AskLog.{AskLog, asked_first, asked_log, no_asks}
 use Rattle.inf_client.specs.Client.{Client, AsksNext, IsAtRest, Rests, Steps, client_with, asks_left, group_asks, ready_in}
-use Rattle.inf_client.specs.Group.{IsKept, IsReadied, posted_of}
+use Rattle.inf_client.specs.Group.{IsKept, IsReadied, in_outbox, posted_of}
 use Rattle.inf_client.specs.Planned.{planned, planned_from}
 use Rattle.inf_client.specs.Room.{room_between, room_in, room_within}
+use Rattle.inf_client.proofs.GroupFacts.{from_is, posted_at, sends}
 use Rattle.inf_duty.specs.ClientStep.{IsQuiet, is_ask, next_as}
 use Rattle.inf_duty.specs.Duty.{asks, begun, has_ask, next_in, next_of, next_step}
+use Rattle.inf_duty.specs.Messages.{is_winding, post_of}
 use Rattle.inf_duty.specs.Outcome.{all_given_up, may_pass}
+use Rattle.inf_duty.specs.Start.{start, starting}
+use Rattle.inf_duty.specs.World.{World}
 use Rattle.inf_duty.specs.declared.client_step.ClientStep.{ClientStep}
 use Rattle.inf_duty.specs.declared.client_step.ClientStep.TheVariants as step
 use Rattle.inf_duty.specs.ClientState.{ClientState, call_ref, placed}
@@ -77,6 +82,34 @@ rests_given_up digest state now log new told between asking free all stays same 
     })) quiet
     (ap next_step (planned_between digest now.sent now stays) ∙ next)
 
+-- ---- before the first call
+
+pub kept_start : (world : World) (client : ℕ) (s : ClientState) (log : AskLog) (outbox : List (ℕ × Ask)) → s ≡ start world client → log ≡ no_asks
+    → outbox ≡ [] → IsKept s false log false outbox
+kept_start world client s log outbox begins none empty =
+    subst (λ (t : ClientState). IsKept t false log false outbox) (sym begins)
+    (subst (λ (l : AskLog). IsKept (start world client) false l false outbox) (sym none)
+    (subst (λ (posts : List (ℕ × Ask)). IsKept (start world client) false no_asks false posts) (sym empty)
+    (by (slice_get world.setup.clients client))))
+  where
+    by : (line : Option ClientLine) → IsKept (starting world client line) false no_asks false []
+    by None = record {
+      at_rest = tt;
+      in_step = record { ready = refl; first = λ handed. absurd (cc) };
+      here = λ handed. absurd (cc);
+      calls = λ some. absurd (omega arith);
+      posts = refl;
+      room = omega arith;
+    }
+    by (Some line) = record {
+      at_rest = tt;
+      in_step = record { ready = refl; first = λ handed. absurd (cc) };
+      here = λ handed. absurd (cc);
+      calls = λ some. absurd (omega arith);
+      posts = refl;
+      room = omega arith;
+    }
+
 -- ---- the asks that are left
 
 pub asks_length : (s : ClientState) → length (group_asks s) ≡ length (group s.who s.stage)
@@ -122,53 +155,100 @@ left_some : (s : ClientState) (left : List Call) (number : ℕ) (ask : Ask) → 
 left_some s [] number ask is = absurd (cc)
 left_some s (call ∷ left) number ask is = omega arith
 
+-- the next ask of a group that is under way
 module _ (s : ClientState) (log : AskLog) (outbox others : List (ℕ × Ask)) (number : ℕ) (ask : Ask) (kept : IsKept s false log false outbox)
-    (first : outbox ≡ (number, ask) ∷ others) where
-  all_ready : log.ready ≡ posted_ask number ask ∷ map posted_of others
-  all_ready = sym kept.posts ∙ ap (map posted_of) first
+    (inside : s.sent ≢ []) (next : next_step s ≡ asks number ask) (first : slice_get log.ready 0 ≡ Some (posted_ask number ask)) where
+  all_left : log.ready ≡ asks_left s
+  all_left = kept.in_step.ready ∙ ready_inside s.sent s inside
 
-  inside : (s.sent ≢ []) × (ready_in false s.sent s ≡ asks_left s)
-  inside = inside_ready s.sent s (posted_ask number ask) (map posted_of others) (sym kept.in_step.ready ∙ all_ready)
-
-  left_ready : log.ready ≡ asks_left s
-  left_ready = kept.in_step.ready ∙ inside.1
-
-  message_left : LeftAt (λ (m : Message). posted_ask m.number (record { from = call_ref s; caller = s.who.caller; request = m.request }))
-      (group s.who s.stage) (length s.sent) (posted_ask number ask)
-  message_left = left_at _ (group s.who s.stage) (length s.sent) (posted_ask number ask) (map posted_of others) (sym left_ready ∙ all_ready)
-
-  next_inside : next_step s ≡ asks number ask
-  next_inside =
-      next_at s s.left message_left.x (kept.calls (subst (λ (ready : List Posted). 0 < length ready) (sym all_ready) (omega arith))) message_left.at
-      ∙ ap (λ (p : Posted). asks p.number p.ask) message_left.is
-
-  pub asks_inside : (digest : List ℕ → Id) → AsksNext digest number ask (client_with s false log false) (client_with s false log true)
-  asks_inside digest = record {
+  asks_within : (digest : List ℕ → Id) → AsksNext digest number ask (client_with s false log false) (client_with s false log true)
+  asks_within digest = record {
     here = refl;
-    duty = ap next_step (begun_inside digest ask s.sent s inside.0) ∙ next_inside;
-    own = sym (ap (λ (p : Posted). p.ask.from.client) message_left.is);
-    state = sym (begun_inside digest ask s.sent s inside.0);
+    duty = ap next_step (begun_inside digest ask s.sent s inside) ∙ next;
+    own = ap (λ from. from.client) (from_is s number ask next);
+    state = sym (begun_inside digest ask s.sent s inside);
     still_here = refl;
     asks = refl;
-    ready = left_ready;
-    first = ap (λ (ready : List Posted). slice_get ready 0) all_ready;
+    ready = all_left;
+    first = first;
     handed = refl;
   }
 
+  kept_within : map posted_of others ≡ in_outbox (is_winding s.stage) true log.ready → IsKept s false log true others
+  kept_within posts =
+      let sent = sends s number ask next in
+      record {
+        at_rest = tt;
+        in_step = record { ready = all_left; first = λ handed. slice_get_within (group s.who s.stage) (length s.sent) sent.message sent.at };
+        here = λ handed. refl;
+        calls = kept.calls;
+        posts = posts;
+        room = subst (λ (room : ℕ). room ≤ log.room) (inside_room s.sent s inside) kept.room;
+      }
+
+-- what is kept a second time winds no call up
+boxed : (winding : Bool) (ready : List Posted) (first : Posted) (others : List Posted) → in_outbox winding false ready ≡ first ∷ others
+    → (winding ≡ false) × (ready ≡ first ∷ others)
+boxed true ready first others is = absurd (cc)
+boxed false ready first others is = (refl, is)
+
+-- the first ask of the outbox is the next one
+module _ (s : ClientState) (log : AskLog) (outbox others : List (ℕ × Ask)) (number : ℕ) (ask : Ask) (kept : IsKept s false log false outbox)
+    (first : outbox ≡ (number, ask) ∷ others) where
+  popped : (is_winding s.stage ≡ false) × (log.ready ≡ posted_ask number ask ∷ map posted_of others)
+  popped = boxed (is_winding s.stage) log.ready (posted_ask number ask) (map posted_of others) (sym kept.posts ∙ ap (map posted_of) first)
+
+  inside : (s.sent ≢ []) × (ready_in false s.sent s ≡ asks_left s)
+  inside = inside_ready s.sent s (posted_ask number ask) (map posted_of others) (sym kept.in_step.ready ∙ popped.1)
+
+  message_left : LeftAt (λ (m : Message). posted_ask m.number (record { from = call_ref s; caller = s.who.caller; request = m.request }))
+      (group s.who s.stage) (length s.sent) (posted_ask number ask)
+  message_left =
+      left_at _ (group s.who s.stage) (length s.sent) (posted_ask number ask) (map posted_of others)
+      (sym inside.1 ∙ sym kept.in_step.ready ∙ popped.1)
+
+  next_inside : next_step s ≡ asks number ask
+  next_inside =
+      next_at s s.left message_left.x (kept.calls (subst (λ (ready : List Posted). 0 < length ready) (sym popped.1) (omega arith))) message_left.at
+      ∙ ap (λ (p : Posted). asks p.number p.ask) message_left.is
+
+  pub asks_inside : (digest : List ℕ → Id) → AsksNext digest number ask (client_with s false log false) (client_with s false log true)
+  asks_inside digest =
+      asks_within s log outbox others number ask kept inside.0 next_inside (ap (λ (ready : List Posted). slice_get ready 0) popped.1) digest
+
   pub kept_inside : IsKept s false log true others
-  kept_inside = record {
-    at_rest = tt;
-    in_step = record { ready = left_ready; first = λ handed. slice_get_within (group s.who s.stage) (length s.sent) message_left.x message_left.at };
-    here = λ handed. refl;
-    calls = kept.calls;
-    posts = sym (ap (drop 1) all_ready);
-    room = subst (λ (room : ℕ). room ≤ log.room) (inside_room s.sent s inside.0) kept.room;
-  }
+  kept_inside =
+      kept_within s log outbox others number ask kept inside.0 next_inside (ap (λ (ready : List Posted). slice_get ready 0) popped.1)
+      (sym (ap (drop 1) popped.1) ∙ ap (λ winding. in_outbox winding true log.ready) (sym popped.0))
+
+first_left : {A : Type 0} (n : ℕ) (xs : List A) → slice_get (drop n xs) 0 ≡ slice_get xs n
+first_left zero xs = refl
+first_left (suc n) [] = refl
+first_left (suc n) (x ∷ xs) = first_left n xs
+
+-- so is the ask in a step that winds the call up which is made again
+module _ (s : ClientState) (log : AskLog) (outbox : List (ℕ × Ask)) (number : ℕ) (ask : Ask) (kept : IsKept s false log false outbox)
+    (inside : s.sent ≢ []) (at : slice_get (map (post_of s) (group s.who s.stage)) (length s.sent) ≡ Some (number, ask))
+    (next : next_step s ≡ asks number ask) where
+  first_ready : slice_get log.ready 0 ≡ Some (posted_ask number ask)
+  first_ready =
+      ap (λ (ready : List Posted). slice_get ready 0) (kept.in_step.ready ∙ ready_inside s.sent s inside)
+      ∙ first_left (length s.sent) (group_asks s)
+      ∙ posted_at s (length s.sent) number ask at
+
+  pub asks_winding : (digest : List ℕ → Id) → AsksNext digest number ask (client_with s false log false) (client_with s false log true)
+  asks_winding digest = asks_within s log outbox outbox number ask kept inside next first_ready digest
+
+  pub kept_winding : is_winding s.stage ≡ true → IsKept s false log true outbox
+  kept_winding winding =
+      kept_within s log outbox outbox number ask kept inside next first_ready
+      (kept.posts ∙ ap (λ w. in_outbox w false log.ready) winding ∙ sym (ap (λ w. in_outbox w true log.ready) winding))
 
 pub full : (s : ClientState) (gone : Bool) (log : AskLog) (outbox : List (ℕ × Ask)) → IsKept s gone log false outbox → outbox ≡ [] → s.sent ≢ []
-    → length (group s.who s.stage) ≤ length s.sent
-full s gone log outbox kept none inside =
-    let all : asks_left s ≡ [] = sym (ready_inside s.sent s inside) ∙ sym kept.in_step.ready ∙ sym kept.posts ∙ ap (map posted_of) none in
+    → is_winding s.stage ≡ false → length (group s.who s.stage) ≤ length s.sent
+full s gone log outbox kept none inside going =
+    let empty : log.ready ≡ [] = sym (kept.posts ∙ ap (λ w. in_outbox w false log.ready) going) ∙ ap (map posted_of) none in
+    let all : asks_left s ≡ [] = sym (ready_inside s.sent s inside) ∙ sym kept.in_step.ready ∙ empty in
     let left : length (group_asks s) - length s.sent ≡ 0 = sym (length-drop (length s.sent) (group_asks s)) ∙ ap length all in
     let many = asks_length s in
     omega arith
@@ -187,9 +267,6 @@ room_ready s gone log outbox kept between = subst (λ (room : ℕ). room ≤ log
 -- ---- a new group
 
 module _ (s now : ClientState) (number : ℕ) (ask : Ask) (others : List (ℕ × Ask)) (log new : AskLog) (readied : IsReadied number ask others now log new) where
-  ready_first : new.ready ≡ posted_ask number ask ∷ map posted_of others
-  ready_first = readied.ready ∙ sym readied.posts
-
   pub asks_first : (digest : List ℕ → Id) → now ≡ begun digest ask s.sent s → ask.from.client ≡ s.who.client → AsksNext digest number ask (client_with s false log false) (client_with now false new true)
   asks_first digest is own = record {
     here = refl;
@@ -199,7 +276,7 @@ module _ (s now : ClientState) (number : ℕ) (ask : Ask) (others : List (ℕ ×
     still_here = refl;
     asks = readied.asks_same;
     ready = readied.ready ∙ sym (ap (λ (sent : List Sent). drop (length sent) (group_asks now)) readied.between);
-    first = ap (λ (ready : List Posted). slice_get ready 0) ready_first;
+    first = ap (λ (ready : List Posted). slice_get ready 0) readied.ready ∙ readied.first;
     handed = refl;
   }
 
@@ -209,16 +286,22 @@ module _ (s now : ClientState) (number : ℕ) (ask : Ask) (others : List (ℕ ×
     in_step = record {
       ready = readied.ready ∙ sym (ap (λ (sent : List Sent). drop (length sent) (group_asks now)) readied.between);
       first = λ handed.
-          let many = sym (ap length readied.posts) in
+          let some = slice_get_within (group_asks now) 0 (posted_ask number ask) readied.first in
           let same = asks_length now in
           let none : length now.sent ≡ 0 = ap length readied.between in
           omega arith;
     };
     here = λ handed. refl;
     calls = λ some. left_some now now.left number ask readied.next;
-    posts = sym (ap (drop 1) ready_first);
+    posts = readied.posts ∙ sym (ap (in_outbox (is_winding now.stage) true) readied.ready);
     room = readied.room;
   }
+
+-- where nothing is ready, nothing is to be handed out
+pub none_boxed : (winding handed : Bool) → in_outbox winding handed [] ≡ []
+none_boxed true handed = refl
+none_boxed false true = refl
+none_boxed false false = refl
 
 pub kept_gone : (s now : ClientState) (log new : AskLog) (outbox : List (ℕ × Ask)) → IsKept s false log false outbox → outbox ≡ [] → s.sent ≡ []
     → now.sent ≡ [] → has_ask now ≡ false → new ≡ log → room_between now.who now.stage ≤ new.room → IsKept now true new false outbox
@@ -229,7 +312,9 @@ kept_gone s now log new outbox kept none before between unbuilt same room =
       in_step = record { ready = empty ∙ sym (between_in now.sent now between); first = λ handed. absurd (cc) };
       here = λ handed. absurd (cc);
       calls = λ some. (let count : length new.ready ≡ 0 = ap length empty in absurd (omega arith));
-      posts = ap (map posted_of) none ∙ sym empty;
+      posts =
+          ap (map posted_of) none ∙ sym (none_boxed (is_winding now.stage) false)
+          ∙ sym (ap (in_outbox (is_winding now.stage) false) empty);
       room = subst (λ (needed : ℕ). needed ≤ new.room) (sym (ap (λ (sent : List Sent). room_in false sent now) between)) room;
     }
 
@@ -259,6 +344,11 @@ pushed_inside : (sent : List Sent) (x : Sent) → (sent ++ x ∷ []) ≢ []
 pushed_inside [] x = λ none. absurd (cc)
 pushed_inside (y ∷ sent) x = λ none. absurd (cc)
 
+past_first : (winding : Bool) (first : Posted) (others : List Posted)
+    → in_outbox winding true (first ∷ others) ≡ in_outbox winding false others
+past_first true first others = refl
+past_first false first others = refl
+
 pub kept_asked : (place : ℕ) (s : ClientState) (gone : Bool) (log : AskLog) (outbox : List (ℕ × Ask)) → IsKept s gone log true outbox
     → IsKept (placed place s) gone (asked_log place log) false outbox
 kept_asked place s gone log outbox kept =
@@ -275,7 +365,9 @@ kept_asked place s gone log outbox kept =
       in_step = record { ready = after ∙ sym left_after ∙ sym (ready_inside (placed place s).sent (placed place s) inside); first = λ handed. absurd (cc) };
       here = λ handed. absurd (cc);
       calls = λ more. kept.calls (ready_some s gone log outbox kept);
-      posts = kept.posts ∙ ap (drop 1) some.is ∙ sym after;
+      posts =
+          kept.posts ∙ ap (in_outbox (is_winding s.stage) true) some.is ∙ past_first (is_winding s.stage) some.first some.others
+          ∙ sym (ap (in_outbox (is_winding s.stage) false) after);
       room = subst (λ (needed : ℕ). needed ≤ (asked_log place log).room) (sym (inside_room (placed place s).sent (placed place s) inside))
           (subst (λ (room : ℕ). room_within s.stage ≤ room) (sym room_same) kept.room);
     }

@@ -3,6 +3,7 @@ pub mod Merging
 pub mod Telling
 pub mod LogFacts
 pub mod ClientFacts
+pub mod FoundFacts
 pub mod GroupFacts
 pub mod LogTestFacts
 pub mod TestFacts

@@ -36,10 +36,10 @@ given_few s compose = omega arith
 given_few s (round keys) = omega arith
 given_few s (act flow) = by (clean_up s.who flow)
   where
-    by : (messages : List Message) → (wound (ending.Answers answer.NoMemory None) messages s).counts.messages ≤ s.counts.messages
+    by : (steps : List (List Message)) → (wound (ending.Answers answer.NoMemory None) steps s).counts.messages ≤ s.counts.messages
     by [] = omega arith
-    by (m ∷ ms) = omega arith
-given_few s (winds end m ms) = omega arith
+    by (ms ∷ later) = omega arith
+given_few s (winds end ms later) = omega arith
 
 found_few : (digest : List ℕ → Id) (asked : Request) (s : ClientState) → (found_at digest asked s).counts.messages ≤ s.counts.messages
 found_few digest asked s = by (lifts asked) (may_give_up s)

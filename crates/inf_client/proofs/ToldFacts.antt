@@ -6,12 +6,13 @@ use Rattle.std.specs.List.{cons_option, list_all, list_any}
 use Rattle.inf_base.specs.declared.id.Id.{Id}
 use Rattle.inf_client.specs.AskLog.{AskLog, told_log, waiting_asks, waits_at}
 use Rattle.inf_client.specs.Client.{IsAtRest, asks_left, group_asks, ready_in}
-use Rattle.inf_client.specs.Group.{IsKept, not_handed}
+use Rattle.inf_client.specs.Group.{IsKept, in_outbox}
 use Rattle.inf_client.specs.Room.{room_in, room_needed, room_within}
-use Rattle.inf_client.proofs.ClientFacts.{asks_length, between_in, inside_room, ready_inside}
+use Rattle.inf_client.proofs.ClientFacts.{asks_length, between_in, inside_room, none_boxed, ready_inside}
 use Rattle.inf_client.proofs.TurnRoom.{after_between, next_fits}
 use Rattle.inf_duty.specs.ClientState.{ClientState}
 use Rattle.inf_duty.specs.Group.{group}
+use Rattle.inf_duty.specs.Messages.{is_winding}
 use Rattle.inf_duty.specs.Turn.{after_group, after_record, is_complete, recorded, served, settled, told_in}
 use Rattle.inf_message.specs.Sent.{Sent, has_place, is_told, told_at}
 use Rattle.inf_message.specs.declared.ask.Ask.{Ask}
@@ -58,7 +59,7 @@ kept_log s gone log new handed outbox kept ready room = record {
   in_step = record { ready = ready ∙ kept.in_step.ready; first = kept.in_step.first };
   here = kept.here;
   calls = λ some. kept.calls (subst (λ (r : List Posted). 0 < length r) ready some);
-  posts = kept.posts ∙ sym (ap (not_handed handed) ready);
+  posts = kept.posts ∙ sym (ap (in_outbox (is_winding s.stage) handed) ready);
   room = subst (λ (n : ℕ). room_needed handed s ≤ n) (sym room) kept.room;
 }
 
@@ -143,7 +144,9 @@ module _ (digest : List ℕ → Id) (s : ClientState) (gone : Bool) (log : AskLo
         };
         here = kept.here;
         calls = λ some. (let count : length log.ready ≡ 0 = ap length none in absurd (omega arith));
-        posts = kept.posts;
+        posts =
+            kept.posts ∙ ap (in_outbox (is_winding s.stage) handed) none ∙ none_boxed (is_winding s.stage) handed
+            ∙ sym (none_boxed (is_winding next.stage) handed) ∙ sym (ap (in_outbox (is_winding next.stage) handed) none);
         room =
             let within : room_within s.stage ≤ log.room = subst (λ (n : ℕ). n ≤ log.room) (room_inside handed s.sent s inside) kept.room in
             subst (λ (n : ℕ). n ≤ log.room)

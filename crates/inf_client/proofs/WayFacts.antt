@@ -34,10 +34,10 @@ ended_in s compose free = refl
 ended_in s (round keys) free = refl
 ended_in s (act flow) free = by (clean_up s.who flow) free
   where
-    by : (messages : List Message) → are_none messages ≡ true → wound (ending.Answers answer.NoMemory None) messages s ≡ ended answer.NoMemory None s
+    by : (steps : List (List Message)) → are_none steps ≡ true → wound (ending.Answers answer.NoMemory None) steps s ≡ ended answer.NoMemory None s
     by [] free = refl
-    by (m ∷ ms) free = absurd (cc)
-ended_in s (winds end m ms) free = absurd (cc)
+    by (ms ∷ later) free = absurd (cc)
+ended_in s (winds end ms later) free = absurd (cc)
 
 -- a call that is given up, and has nothing to clean up, has ended
 passed_ended : (s : ClientState) → may_pass s ≡ true → given_up s ≡ ended answer.NoMemory None s

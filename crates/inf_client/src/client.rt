@@ -31,7 +31,8 @@ const USUAL_TRIPS: usize = 4;
 pub struct Client {
     state: ClientState,
     log: AskLog,
-    /// The asks of the group that are still to be handed out, each with the server that it is for.
+    /// The asks of the group that are still to be handed out, each with the server that it is for; none of a step that
+    /// winds a call up, whose asks are made again when it is their turn.
     outbox: VecDeque<(u32, Ask)>,
     has_given_up: bool,
     /// Whether an ask was handed out that has no place yet.
@@ -87,6 +88,12 @@ impl Client {
             return ClientStep::Ask(number, ask);
         }
         if !self.state.is_between() {
+            let sent = self.state.sent_size();
+            if self.state.is_winding() && sent < self.state.group_size() {
+                let (number, ask) = self.state.winding_ask(sent);
+                self.is_handed = true;
+                return ClientStep::Ask(number, ask);
+            }
             return self.state.rest();
         }
         if !self.state.has_ask() {

@@ -1,13 +1,13 @@
 //! The groups of Asks that a client is to make: where memory is wanting for one, its call is given up.
 
-ghost use Rattle.std.specs.Prelude.{◌≡◌, ◌≤◌, ◌<◌, true, false, [], length, None, IfOk, IfSome, OnErr};
+ghost use Rattle.std.specs.Prelude.{◌≡◌, ◌≤◌, ◌<◌, true, false, [], length, map, None, IfOk, IfSome, OnErr};
 ghost use Rattle.inf_client.specs.Group.{IsFound, IsPassed, IsReadied, with_asks};
 ghost use Rattle.inf_client.specs.Room.{room_between};
 ghost use Rattle.inf_duty.specs.ClientStep.{is_ask};
 ghost use Rattle.inf_duty.specs.Duty.{begun, given_up, has_ask, next_step};
-ghost use Rattle.inf_duty.specs.Messages.{is_winding};
+ghost use Rattle.inf_duty.specs.Messages.{is_winding, post_of};
 ghost use Rattle.inf_duty.specs.Outcome.{all_given_up};
-ghost use Rattle.inf_duty.specs.Group.{composed};
+ghost use Rattle.inf_duty.specs.Group.{composed, group};
 
 use crate::ask_log::AskLog;
 use inf_base::NoMemory;
@@ -17,7 +17,7 @@ use inf_message::Ask;
 use std::alloc::Global;
 use std::collections::VecDeque;
 
-/// The asks of a group: the first, to the server of this number, and those behind it.
+/// The asks of a group: the first, to the server of this number, and those behind it that took memory.
 #[derive(Drop)]
 pub(crate) struct Group {
     pub(crate) number: u32,
@@ -35,18 +35,32 @@ fn keep_all(log: &mut AskLog, asks: Vec<(u32, Ask)>)
     }
 }
 
-/// The ask that a call is wound up by. Takes no memory.
-#[tactic(auto, using(crate::proofs::GroupFacts::winding_readied, crate::proofs::GroupFacts::winding_room))]
+/// Keeps the asks of the step that winds the call up, in room that was taken. Takes no memory.
+#[tactic(auto, using(crate::proofs::GroupFacts::keeps_room, crate::proofs::GroupFacts::keeps_last))]
+fn keep_step(state: &ClientState, log: &mut AskLog)
+    requires winding { is_winding state.now.stage ≡ true }
+    requires room { length (group state.now.who state.now.stage) ≤ log.old.room }
+    ensures { log.new ≡ with_asks (map (post_of state.now) (group state.now.who state.now.stage)) log.old }
+{
+    for index in 0..state.group_size() {
+        let (number, ask) = state.winding_ask(index);
+        log.keep(number, ask);
+    }
+}
+
+/// The asks of the step that winds the call up. Those behind the first are made again when it is their turn. Takes no
+/// memory.
+#[tactic(auto, using(crate::proofs::GroupFacts::winding_room))]
 fn winding_group(alloc: Global, state: &ClientState, log: &mut AskLog) -> Group
     requires winding { is_winding state.now.stage ≡ true }
     requires between { state.now.sent ≡ [] }
+    requires some { 0 < length (group state.now.who state.now.stage) }
     requires none { log.old.ready ≡ [] }
     requires room { room_between state.now.who state.now.stage ≤ log.old.room }
     ensures { IsReadied result.number result.ask result.others.items state.now log.old log.new }
 {
-    let (number, kept) = state.winding_ask();
-    log.keep(number, kept);
-    let (number, ask) = state.winding_ask();
+    keep_step(state, log);
+    let (number, ask) = state.winding_ask(0);
     Group {
         number,
         ask,
@@ -55,7 +69,7 @@ fn winding_group(alloc: Global, state: &ClientState, log: &mut AskLog) -> Group
 }
 
 /// The asks of the group that the call under way has come to, with room for what may follow it where memory is wanting.
-#[tactic(auto, using(crate::proofs::GroupFacts::whole_readied, crate::proofs::GroupFacts::composed_found, crate::proofs::GroupFacts::composed_goes, crate::proofs::GroupFacts::given_composed))]
+#[tactic(auto, using(crate::proofs::GroupFacts::whole_readied, crate::proofs::FoundFacts::composed_found, crate::proofs::FoundFacts::composed_goes, crate::proofs::FoundFacts::given_composed))]
 fn whole_group<R: IdRule>(
     alloc: Global,
     rule: &R,
@@ -92,7 +106,7 @@ fn whole_group<R: IdRule>(
 
 /// The next group of the call under way; where memory is wanting for it, the clean-up behind the call. None where the
 /// call was given up, and nothing was to be cleaned up.
-#[tactic(auto, using(crate::proofs::GroupFacts::winding_found, crate::proofs::GroupFacts::given_up_found, crate::proofs::GroupFacts::given_room, crate::proofs::GroupFacts::given_between, crate::proofs::GroupFacts::passed))]
+#[tactic(auto, using(crate::proofs::GroupFacts::winding_some, crate::proofs::FoundFacts::given_some, crate::proofs::FoundFacts::winding_found, crate::proofs::FoundFacts::given_up_found, crate::proofs::FoundFacts::given_room, crate::proofs::FoundFacts::given_between, crate::proofs::FoundFacts::passed))]
 fn attempt<R: IdRule>(
     alloc: Global,
     rule: &R,

@@ -49,7 +49,7 @@ any_built : (left : List Call) (next : Stage) → is_some (next_course left) ≡
 any_built left compose some = tt
 any_built left (round keys) some = some
 any_built left (act flow) some = some
-any_built left (winds end m ms) some = some
+any_built left (winds end ms later) some = some
 
 next_built : (digest : List ℕ → Id) (left : List Call) (who : Who) (known : List Known) (course : Option Course)
     → next_course left ≡ course → IsBuilt left (next_stage digest who known course)
@@ -61,12 +61,12 @@ composed_built : (digest : List ℕ → Id) (s : ClientState) (stage : Stage) �
 composed_built digest s compose built = next_built digest s.left s.who s.known (next_course s.left) refl
 composed_built digest s (round keys) built = built
 composed_built digest s (act flow) built = built
-composed_built digest s (winds end m ms) built = built
+composed_built digest s (winds end ms later) built = built
 
-wound_built : (end : Ending) (more : List Message) (s : ClientState) → is_some (next_course s.left) ≡ true → IsBuiltFor (wound end more s)
+wound_built : (end : Ending) (more : List (List Message)) (s : ClientState) → is_some (next_course s.left) ≡ true → IsBuiltFor (wound end more s)
 wound_built (ending.Answers given place) [] s some = tt
 wound_built ending.Retries [] s some = tt
-wound_built end (m ∷ ms) s some = some
+wound_built end (ms ∷ later) s some = some
 
 turned_built : (t : Turn Stage) (s : ClientState) → is_some (next_course s.left) ≡ true → IsBuiltFor (turned t s)
 turned_built (turn.GoesOn next) s some = any_built s.left next some
@@ -79,11 +79,11 @@ over_built digest s (round keys) built =
     let knows = learned (round keys) s in
     turned_built (turn_at digest knows (round keys)) knows built
 over_built digest s (act flow) built = turned_built (turn_at digest s (act flow)) s built
-over_built digest s (winds end m ms) built = turned_built (turn_at digest s (winds end m ms)) s built
+over_built digest s (winds end ms later) built = turned_built (turn_at digest s (winds end ms later)) s built
 
 given_up_built : (s : ClientState) (stage : Stage) → IsBuilt s.left stage → IsBuiltFor s → IsBuiltFor (given_up_in s stage)
 given_up_built s (act flow) built now = wound_built (ending.Answers answer.NoMemory None) (clean_up s.who flow) s built
-given_up_built s (winds end m ms) built now = now
+given_up_built s (winds end ms later) built now = now
 given_up_built s compose built now = tt
 given_up_built s (round keys) built now = tt
 
@@ -114,11 +114,11 @@ built world client (event.Serve number ask_place given ∷ h) =
 
 -- ---- lists of results
 
-true_before : (a b : Bool) → a ≡ true → (a || b) ≡ true
+pub true_before : (a b : Bool) → a ≡ true → (a || b) ≡ true
 true_before true b e = refl
 true_before false b e = absurd (cc)
 
-true_behind : (a b : Bool) → b ≡ true → (a || b) ≡ true
+pub true_behind : (a b : Bool) → b ≡ true → (a || b) ≡ true
 true_behind true b e = refl
 true_behind false b e = e
 
@@ -157,13 +157,13 @@ none_joined xs ys none none_more = list_any-append gave_up xs ys ∙ neither _ _
 
 -- ---- a client that is gone has given up a call
 
-none_wound : (more : List Message) (s : ClientState) → are_none more ≡ true → wound (ending.Answers answer.NoMemory None) more s ≡ ended answer.NoMemory None s
+none_wound : (more : List (List Message)) (s : ClientState) → are_none more ≡ true → wound (ending.Answers answer.NoMemory None) more s ≡ ended answer.NoMemory None s
 none_wound [] s none = refl
-none_wound (m ∷ ms) s none = absurd (cc)
+none_wound (ms ∷ later) s none = absurd (cc)
 
 free_ends : (s : ClientState) (stage : Stage) → is_free s.who stage ≡ true → given_up_in s stage ≡ ended answer.NoMemory None s
 free_ends s (act flow) free = none_wound (clean_up s.who flow) s free
-free_ends s (winds end m ms) free = absurd (cc)
+free_ends s (winds end ms later) free = absurd (cc)
 free_ends s compose free = refl
 free_ends s (round keys) free = refl
 

@@ -22,12 +22,13 @@ use Rattle.inf_flow_file.specs.declared.file_flow.FileFlow.TheVariants as file_f
 use Rattle.inf_duty.specs.declared.flow.Flow.TheVariants as flow
 use Rattle.inf_message.specs.declared.turn.Turn.TheVariants as turn
 use Rattle.inf_duty.specs.ClientState.{ClientState, Stage, act, compose, ended, result_of, round, winds, wound}
-use Rattle.inf_duty.specs.Flow.{clean_up, message_of}
+use Rattle.inf_duty.specs.Flow.{clean_up, messages_of}
+use Rattle.inf_duty.proofs.FlowFacts.{message_of, messages_are}
 use Rattle.inf_duty.specs.Group.{composed, composed_stage, group, next_stage, stage_by}
 use Rattle.inf_duty.specs.declared.course.Course.{Course}
 use Rattle.inf_duty.specs.declared.course.Deed.{Deed}
 use Rattle.inf_duty.specs.Course.{flow_at, next_course}
-use Rattle.inf_duty.specs.Turn.{is_lone, learned, recorded, served, told_in, turn_at, turned}
+use Rattle.inf_duty.specs.Turn.{heard_in, is_lone, learned, recorded, served, told_in, turn_at, turned}
 use Rattle.inf_duty.specs.declared.flow.Flow.{Flow}
 use Rattle.inf_message.specs.Sent.{Sent, is_wanting, told_at, wants_memory}
 use Rattle.inf_message.specs.Who.{Who, lookup_of}
@@ -40,7 +41,7 @@ use Rattle.inf_message.specs.declared.reply.Reply.{Reply}
 use Rattle.inf_message.specs.declared.reply.Reply.TheVariants as reply
 use Rattle.inf_message.specs.declared.request.Request.{Request}
 use Rattle.inf_message.specs.declared.step.Message.{Message}
-use Rattle.inf_message.specs.Heard.{heard}
+use Rattle.inf_message.specs.Heard.{heard, light}
 use Rattle.inf_message.specs.History.{Told, or_told, told_reply}
 use Rattle.inf_resolve.specs.declared.known.Known.{Known}
 use Rattle.inf_resolve.specs.declared.resolved.Resolved.{Resolved}
@@ -66,8 +67,8 @@ pub record ShowsNoWant (s : ClientState) : Type 0 where
 -- ---- by the results
 
 no_want_stage : (s : ClientState) (stage : Stage) → is_no_memory (so_far stage s).answer ≡ false → StageHas IsNoWant stage
-no_want_stage s (winds (ending.Answers given place) m ms) none = none
-no_want_stage s (winds ending.Retries m ms) none = tt
+no_want_stage s (winds (ending.Answers given place) ms later) none = none
+no_want_stage s (winds ending.Retries ms later) none = tt
 no_want_stage s compose none = tt
 no_want_stage s (round keys) none = tt
 no_want_stage s (act step) none = tt
@@ -76,7 +77,7 @@ no_call_left : (stage : Stage) → IsBuilt [] stage → StageHas IsNoWant stage
 no_call_left compose built = tt
 no_call_left (round keys) built = tt
 no_call_left (act step) built = tt
-no_call_left (winds end m ms) built = absurd (cc)
+no_call_left (winds end ms later) built = absurd (cc)
 
 none_left : (s : ClientState) (left : List Call) → IsBuilt left s.stage → HasNotGivenUp (unanswered left s) → StageHas IsNoWant s.stage
 none_left s [] built none = no_call_left s.stage built
@@ -90,8 +91,8 @@ from_results s built none = record {
 
 so_far_none : (s : ClientState) (stage : Stage) → is_wanting s.sent ≡ false → StageHas IsNoWant stage
     → is_no_memory (so_far stage s).answer ≡ false
-so_far_none s (winds (ending.Answers given place) m ms) plain none = none
-so_far_none s (winds ending.Retries m ms) plain none = refl
+so_far_none s (winds (ending.Answers given place) ms later) plain none = none
+so_far_none s (winds ending.Retries ms later) plain none = refl
 so_far_none s compose plain none = refl
 so_far_none s (round keys) plain none = ap (λ b. is_no_memory (come_to b)) plain
 so_far_none s (act step) plain none = refl
@@ -119,10 +120,10 @@ record Wound (end : Ending) (s : ClientState) : Type 0 where
   results : HasNotGivenUp s.results
   has : EndingHas IsNoWant end
 
-before_wound : (end : Ending) (more : List Message) (s : ClientState) → ShowsNoWant (wound end more s) → Wound end s
+before_wound : (end : Ending) (more : List (List Message)) (s : ClientState) → ShowsNoWant (wound end more s) → Wound end s
 before_wound (ending.Answers given place) [] s none = record { results = none_before s.results _ none.results; has = last_none s given place none.results }
 before_wound ending.Retries [] s none = record { results = none.results; has = tt }
-before_wound end (m ∷ ms) s none = record { results = none.results; has = none.stage }
+before_wound end (ms ∷ later) s none = record { results = none.results; has = none.stage }
 
 before_turn : (t : Turn Stage) (s : ClientState) → ShowsNoWant (turned t s) → HasNotGivenUp s.results
 before_turn (turn.GoesOn next) s none = none.results
@@ -136,8 +137,8 @@ before_over digest s (round keys) none =
     let knows = learned (round keys) s in
     (before_turn (turn_at digest knows (round keys)) knows none, tt)
 before_over digest s (act step) none = (before_turn (turn_at digest s (act step)) s none, tt)
-before_over digest s (winds end m ms) none =
-    let before = before_wound end ms s none in
+before_over digest s (winds end ms later) none =
+    let before = before_wound end later s none in
     (before.results, before.has)
 
 pub before_served : (digest : List ℕ → Id) (place : ℕ) (told : Told) (s : ClientState) → ShowsNoWant (served digest place told s) → ShowsNoWant s
@@ -152,7 +153,7 @@ before_served digest place told s =
 before_giving_up : (s : ClientState) (stage : Stage) → ShowsNoWant (given_up_in s stage) → given_up_in s stage ≡ s
 before_giving_up s (act step) none =
     absurd (let want = (before_wound (ending.Answers answer.NoMemory None) (clean_up s.who step) s none).has in cc)
-before_giving_up s (winds end m ms) none = refl
+before_giving_up s (winds end ms later) none = refl
 before_giving_up s compose none = absurd (let want = last_none s answer.NoMemory None none.results in cc)
 before_giving_up s (round keys) none = absurd (let want = last_none s answer.NoMemory None none.results in cc)
 
@@ -160,7 +161,7 @@ before_composed_stage : (digest : List ℕ → Id) (s : ClientState) (stage : St
 before_composed_stage digest s compose none = tt
 before_composed_stage digest s (round keys) none = none
 before_composed_stage digest s (act step) none = none
-before_composed_stage digest s (winds end m ms) none = none
+before_composed_stage digest s (winds end ms later) none = none
 
 before_composed : (digest : List ℕ → Id) (s : ClientState) → ShowsNoWant (composed digest s) → ShowsNoWant s
 before_composed digest s none = record { results = none.results; stage = before_composed_stage digest s s.stage none.stage }
@@ -210,7 +211,7 @@ composed_same : (digest : List ℕ → Id) (s : ClientState) (stage : Stage) (m 
 composed_same digest s compose m found = absurd (cc)
 composed_same digest s (round keys) m found = refl
 composed_same digest s (act step) m found = refl
-composed_same digest s (winds end m ms) at found = refl
+composed_same digest s (winds end ms later) at found = refl
 
 settled : (digest : List ℕ → Id) (s : ClientState) (number : ℕ) (ask : Ask) → next_step s ≡ asks number ask → composed digest s ≡ s
 settled digest s number ask next = ap (λ (stage : Stage). record s { stage = stage }) (composed_same digest s s.stage _ (goes s number ask next).message)
@@ -241,6 +242,14 @@ no_lift who (flow.Dir (dir_flow.Links chain name mode version dir)) = refl
 no_lift who (flow.Dir (dir_flow.Seals chain)) = refl
 no_lift who (flow.Dir (dir_flow.Unlinks chain)) = refl
 
+no_step_lifts : (who : Who) (step : Flow) (m : Message) → slice_get (messages_of who step) 0 ≡ Some m
+    → lifts m.request ≡ false
+no_step_lifts who step m found =
+    let first : slice_get (message_of who step ∷ []) 0 ≡ Some m =
+    ap (λ (ms : List Message). slice_get ms 0) (sym (messages_are who step)) ∙ found in
+    let same : message_of who step ≡ m = cc in
+    subst (λ (n : Message). lifts n.request ≡ false) same (no_lift who step)
+
 no_lookup_lifts : (who : Who) (keys : List LookKey) (index : ℕ) (m : Message) → slice_get (map (lookup_of who) keys) index ≡ Some m → lifts m.request ≡ false
 no_lookup_lifts who [] index m found = absurd (cc)
 no_lookup_lifts who (k ∷ keys) zero m found =
@@ -252,9 +261,7 @@ no_first_lifts : (who : Who) (what : Deed) (comes_so : Resolved) (m : Message)
     → slice_get (group who (stage_by what comes_so)) 0 ≡ Some m → lifts m.request ≡ false
 no_first_lifts who what (comes.Asks keys) m found = no_lookup_lifts who keys 0 m found
 no_first_lifts who what (comes.Leads old new) m found =
-    let step = flow_at what old.chain old.left in
-    let same : message_of who step ≡ m = cc in
-    subst (λ (n : Message). lifts n.request ≡ false) same (no_lift who step)
+    no_step_lifts who (flow_at what old.chain old.left) m found
 no_first_lifts who what (comes.IsBusy by place) m found = absurd (cc)
 no_first_lifts who what comes.Lacks m found = absurd (cc)
 
@@ -273,9 +280,8 @@ finds_composed : (digest : List ℕ → Id) (s : ClientState) (stage : Stage) (m
 finds_composed digest s compose m is found = found_composed digest m.request s (no_next_lifts digest s.who s.known (next_course s.left) m found)
 finds_composed digest s (round keys) m is found = found_composed digest m.request s (no_lookup_lifts s.who keys 0 m found)
 finds_composed digest s (act step) m is found =
-    let same : message_of s.who step ≡ m = cc in
-    found_composed digest m.request s (subst (λ (n : Message). lifts n.request ≡ false) same (no_lift s.who step))
-finds_composed digest s (winds end m ms) n is found =
+    found_composed digest m.request s (no_step_lifts s.who step m found)
+finds_composed digest s (winds end ms later) n is found =
     let same : s ≡ composed digest s = sym (ap (λ (stage : Stage). record s { stage = stage }) (ap (composed_stage digest s) is ∙ sym is)) in
     if_both (λ (t : ClientState). t ≡ composed digest s) (lifts n.request) (if may_give_up s then given_up s else s) (composed digest s)
     (ap (λ b. if b then given_up s else s) (winding_goes s (ap is_winding is)) ∙ same) refl
@@ -311,13 +317,13 @@ no_want = record {
   clash = λ own kept. refl;
 }
 
-after_wound : (end : Ending) (more : List Message) (s : ClientState) → EndingHas IsNoWant end → HasNotGivenUp s.results → ShowsNoWant (wound end more s)
+after_wound : (end : Ending) (more : List (List Message)) (s : ClientState) → EndingHas IsNoWant end → HasNotGivenUp s.results → ShowsNoWant (wound end more s)
 after_wound (ending.Answers given place) [] s none before = record {
   results = none_joined s.results (result_of given place s.counts.last s ∷ []) before (neither (is_no_memory given) false none refl);
   stage = tt;
 }
 after_wound ending.Retries [] s none before = record { results = before; stage = tt }
-after_wound end (m ∷ ms) s none before = record { results = before; stage = none }
+after_wound end (ms ∷ later) s none before = record { results = before; stage = none }
 
 after_turn : (t : Turn Stage) (s : ClientState) → TurnHas IsNoWant t → HasNotGivenUp s.results → ShowsNoWant (turned t s)
 after_turn (turn.GoesOn next) s none before = record { results = before; stage = none }
@@ -333,7 +339,7 @@ after_over digest s (round keys) plain none before =
 after_over digest s (act step) plain none before =
     after_turn (turn_at digest s (act step)) s
     (turn_has digest IsNoWant no_want s (act step) none (λ want. absurd (cc))) before
-after_over digest s (winds end m ms) plain none before = after_turn (turn_at digest s (winds end m ms)) s none before
+after_over digest s (winds end ms later) plain none before = after_turn (turn_at digest s (winds end ms later)) s none before
 
 pub after_served : (digest : List ℕ → Id) (place : ℕ) (told : Told) (s : ClientState)
     → is_wanting (map (told_at place (told_in s told)) s.sent) ≡ false → ShowsNoWant s
@@ -356,12 +362,28 @@ heard_plain place (reply.Listing items) plain = refl
 heard_plain place reply.NoMem plain = absurd (cc)
 heard_plain place any_reply plain = refl
 
+light_plain : (place : ℕ) (given : Reply) → wants_memory (Some (told_reply place given)) ≡ false
+    → wants_memory (Some (told_reply place (light given))) ≡ false
+light_plain place (reply.Found k access) plain = refl
+light_plain place (reply.Clash kept) plain = refl
+light_plain place (reply.Listing items) plain = refl
+light_plain place reply.NoMem plain = absurd (cc)
+light_plain place any_reply plain = refl
+
+kept_plain : (stage : Stage) (place : ℕ) (given : Reply) → wants_memory (Some (told_reply place given)) ≡ false
+    → wants_memory (Some (told_reply place (heard_in stage given))) ≡ false
+kept_plain (round keys) place given plain = heard_plain place given plain
+kept_plain compose place given plain = light_plain place given plain
+kept_plain (act step) place given plain = light_plain place given plain
+kept_plain (winds end ms later) place given plain = light_plain place given plain
+
 -- nor does what is kept of it say so
 pub plain_in : (s : ClientState) (told : Told) → wants_memory (Some told) ≡ false
     → wants_memory (Some (told_in s told)) ≡ false
 plain_in s told plain =
-    if_both (λ (x : Told). wants_memory (Some x) ≡ false) (is_lone s) told (record told { reply = heard told.reply }) plain
-    (heard_plain told.serve_place told.reply plain)
+    if_both (λ (x : Told). wants_memory (Some x) ≡ false) (is_lone s) told
+    (record told { reply = heard_in s.stage told.reply }) plain
+    (kept_plain s.stage told.serve_place told.reply plain)
 
 first_told : (earlier : Option Told) (told : Told) → wants_memory earlier ≡ false → wants_memory (Some told) ≡ false → wants_memory (Some (or_told earlier told)) ≡ false
 first_told None told before now = now

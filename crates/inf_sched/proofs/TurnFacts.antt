@@ -1,5 +1,5 @@
 -- Which answers the turns of a client bring.
-use Rattle.std.proofs.Common.{◌≡◌, ℕ, Bool, true, false, if◌then◌else◌, List, [], ◌∷◌, Option, Some, None, refl, ap}
+use Rattle.std.proofs.Common.{◌≡◌, ℕ, Bool, true, false, if◌then◌else◌, List, [], ◌∷◌, Option, Some, None, refl, sym, ap, subst}
 use Rattle.inf_base.specs.declared.id.Id.{Id}
 use Rattle.inf_base.specs.declared.answer.Answer.{Answer}
 use Rattle.inf_base.specs.declared.answer.Answer.TheVariants as answer
@@ -14,15 +14,16 @@ use Rattle.inf_flow_file.specs.declared.file_flow.FileFlow.TheVariants as file_f
 use Rattle.inf_duty.specs.declared.flow.Flow.TheVariants as flow
 use Rattle.inf_message.specs.declared.turn.Turn.TheVariants as turn
 use Rattle.inf_duty.specs.ClientState.{ClientState, Stage, act, compose, round, winds}
-use Rattle.inf_duty.specs.Flow.{after_act, clean_up}
+use Rattle.inf_duty.specs.Flow.{after_act, after_reply, clean_up}
 use Rattle.inf_duty.specs.Group.{composed_stage, next_stage, stage_by}
 use Rattle.inf_duty.specs.declared.course.Course.{Course}
 use Rattle.inf_duty.specs.declared.course.Deed.{Deed}
 use Rattle.inf_duty.specs.Course.{next_course}
-use Rattle.inf_duty.specs.Turn.{act_turn, known_turn, round_turn, turn_at, turn_by}
+use Rattle.inf_duty.specs.Turn.{known_turn, round_turn, turn_at, turn_by}
+use Rattle.inf_duty.proofs.FlowFacts.{after_is}
 use Rattle.inf_duty.specs.declared.flow.Flow.{Flow}
-use Rattle.inf_message.specs.Sent.{Sent, is_wanting}
-use Rattle.inf_message.specs.Turn.{fails, turn_as}
+use Rattle.inf_message.specs.Sent.{Sent, deciding, deciding_of, is_fine, is_wanting, wants_memory}
+use Rattle.inf_message.specs.Turn.{after_deciding, after_told, fails, turn_as}
 use Rattle.inf_message.specs.Who.{Who, birth_of}
 use Rattle.inf_message.specs.declared.ending.Ending.{Ending}
 use Rattle.inf_message.specs.declared.turn.Turn.{Turn}
@@ -34,6 +35,7 @@ use Rattle.inf_resolve.specs.declared.known.Known.{Known}
 use Rattle.inf_resolve.specs.declared.resolved.Resolved.{Resolved}
 use Rattle.inf_resolve.specs.declared.resolved.Resolved.TheVariants as comes
 use Rattle.inf_resolve.specs.Resolved.{resolved}
+use Rattle.inf_sched.proofs.BuiltFacts.{true_before, true_behind}
 
 -- ---- what the answer is that a call winds up with
 
@@ -42,7 +44,7 @@ EndingHas P (ending.Answers given place) = P given
 EndingHas P ending.Retries = Unit {0}
 
 abbrev pub StageHas : (Answer → Type 0) → Stage → Type 0
-StageHas P (winds end m ms) = EndingHas P end
+StageHas P (winds end ms later) = EndingHas P end
 StageHas P other_stage = Unit {0}
 
 abbrev pub TurnHas : (Answer → Type 0) → Turn Stage → Type 0
@@ -68,7 +70,7 @@ pub composed_has : (digest : List ℕ → Id) (P : Answer → Type 0) (s : Clien
 composed_has digest P s compose has = next_has digest P s.who s.known (next_course s.left)
 composed_has digest P s (round keys) has = has
 composed_has digest P s (act step) has = has
-composed_has digest P s (winds end m ms) has = has
+composed_has digest P s (winds end ms later) has = has
 
 -- so are the answers that a server's reply may bring, but for want of memory
 pub record IsOfReplies (P : Answer → Type 0) : Type 0 where
@@ -77,6 +79,30 @@ pub record IsOfReplies (P : Answer → Type 0) : Type 0 where
   pub refused : (error : Errno) → P (answer.Refused error)
   pub again : (by : CallRef) → P (answer.Again by)
   pub clash : (own kept : Triple) → P (answer.IdClash own kept)
+
+-- ---- where the Ask that decides a group was told of want of memory, the group was
+
+says_so : (told : Told) → told.reply ≡ reply.NoMem → wants_memory (Some told) ≡ true
+says_so told is =
+    ap (λ (given : Reply). wants_memory (Some (record { serve_place = told.serve_place; reply = given }))) is
+
+abbrev wants_of : Option Sent → Bool
+wants_of None = false
+wants_of (Some x) = wants_memory x.told
+
+one_wants : (b : Bool) (x y : Sent) (ys : List Sent)
+    → (wants_memory (deciding_of y ys).told ≡ true → is_wanting (y ∷ ys) ≡ true)
+    → wants_memory (if b then deciding_of y ys else x).told ≡ true → is_wanting (x ∷ y ∷ ys) ≡ true
+one_wants true x y ys later is = true_behind (wants_memory x.told) (is_wanting (y ∷ ys)) (later is)
+one_wants false x y ys later is = true_before (wants_memory x.told) (is_wanting (y ∷ ys)) is
+
+deciding_wants : (x : Sent) (xs : List Sent) → wants_memory (deciding_of x xs).told ≡ true → is_wanting (x ∷ xs) ≡ true
+deciding_wants x [] is = true_before (wants_memory x.told) false is
+deciding_wants x (y ∷ ys) is = one_wants (is_fine x.told) x y ys (deciding_wants y ys) is
+
+decided_wants : (sent : List Sent) → wants_of (deciding sent) ≡ true → is_wanting sent ≡ true
+decided_wants [] is = absurd (cc)
+decided_wants (x ∷ xs) is = deciding_wants x xs is
 
 module _ (digest : List ℕ → Id) (P : Answer → Type 0) (of : IsOfReplies P) where
   -- ---- after a message of a flow
@@ -88,7 +114,7 @@ module _ (digest : List ℕ → Id) (P : Answer → Type 0) (of : IsOfReplies P)
   fails_has wrap who step place any_reply wanting = tt
 
   act_has : (who : Who) (step : Flow) (asked place : ℕ) (given : Reply) → (given ≡ reply.NoMem → P answer.NoMemory)
-      → FlowHas P (after_act digest who step asked place given)
+      → FlowHas P (after_reply digest who step asked place given)
   act_has who (flow.File (file_flow.Finishes chain (op.Create name mode))) asked place reply.Fine wanting = of.done
   act_has who (flow.File (file_flow.Finishes chain (op.Stat name))) asked place (reply.Stat kind meta) wanting = of.stat kind meta
   act_has who (flow.Dir (dir_flow.Reserves chain name mode)) asked place (reply.Reserved version) wanting = tt
@@ -125,25 +151,25 @@ module _ (digest : List ℕ → Id) (P : Answer → Type 0) (of : IsOfReplies P)
 
   -- ---- after any group
 
-  wanted_first : (place serve_place : ℕ) (given : Reply) (xs : List Sent)
-      → (is_wanting (record { place = place; told = Some (record { serve_place = serve_place; reply = given }) } ∷ xs) ≡ true → P answer.NoMemory)
-      → given ≡ reply.NoMem → P answer.NoMemory
-  wanted_first place serve_place given xs wanting is =
-      wanting (ap (λ (r : Reply). is_wanting (record { place = place; told = Some (record { serve_place = serve_place; reply = r }) } ∷ xs)) is)
+  told_has : (who : Who) (step : Flow) (place : ℕ) (told : Option Told) → (wants_memory told ≡ true → P answer.NoMemory)
+      → FlowHas P (after_told (after_reply digest who step) place told)
+  told_has who step place None wanting = tt
+  told_has who step place (Some told) wanting =
+      act_has who step place told.serve_place told.reply (λ is. wanting (says_so told is))
 
-  told_has : (who : Who) (step : Flow) (place : ℕ) (told : Option Told) (xs : List Sent)
-      → (is_wanting (record { place = place; told = told } ∷ xs) ≡ true → P answer.NoMemory)
-      → FlowHas P (act_turn digest who step (record { place = place; told = told } ∷ xs))
-  told_has who step place None xs wanting = tt
-  told_has who step place (Some told) xs wanting =
-      act_has who step place told.serve_place told.reply (wanted_first place told.serve_place told.reply xs wanting)
+  decided_has : (who : Who) (step : Flow) (found : Option Sent) → (wants_of found ≡ true → P answer.NoMemory)
+      → FlowHas P (after_deciding (after_reply digest who step) found)
+  decided_has who step None wanting = tt
+  decided_has who step (Some x) wanting = told_has who step x.place x.told wanting
 
-  flow_has : (who : Who) (step : Flow) (sent : List Sent) → (is_wanting sent ≡ true → P answer.NoMemory) → FlowHas P (act_turn digest who step sent)
-  flow_has who step [] wanting = tt
-  flow_has who step (x ∷ xs) wanting = told_has who step x.place x.told xs wanting
+  flow_has : (who : Who) (step : Flow) (sent : List Sent) → (is_wanting sent ≡ true → P answer.NoMemory)
+      → FlowHas P (after_act digest who step sent)
+  flow_has who step sent wanting =
+      subst (λ (t : Turn Flow). FlowHas P t) (sym (after_is digest who step sent))
+      (decided_has who step (deciding sent) (λ is. wanting (decided_wants sent is)))
 
   pub turn_has : (s : ClientState) (stage : Stage) → StageHas P stage → (is_wanting s.sent ≡ true → P answer.NoMemory) → TurnHas P (turn_at digest s stage)
   turn_has s compose has wanting = tt
   turn_has s (round keys) has wanting = round_has s wanting
   turn_has s (act step) has wanting = flow_has s.who step s.sent wanting
-  turn_has s (winds end m ms) has wanting = has
+  turn_has s (winds end ms later) has wanting = has

@@ -73,8 +73,8 @@ module _ (client : ℕ) (s : ClientState) where
   -- the one under way
   open_if : (stage : Stage) → StageIs IsAnswer stage → (so_far stage s).answer ≡ answer.Unanswered
       → is_open s.sent stage ≡ true
-  open_if (winds (ending.Answers given at) m ms) is e = absurd (is e)
-  open_if (winds ending.Retries m ms) is e = refl
+  open_if (winds (ending.Answers given at) ms later) is e = absurd (is e)
+  open_if (winds ending.Retries ms later) is e = refl
   open_if compose is e = refl
   open_if (round keys) is e = by (is_wanting s.sent) e
     where
@@ -84,8 +84,8 @@ module _ (client : ℕ) (s : ClientState) where
   open_if (act flow) is e = refl
 
   open_so : (stage : Stage) → is_open s.sent stage ≡ true → (so_far stage s).answer ≡ answer.Unanswered
-  open_so (winds (ending.Answers given at) m ms) is = absurd (cc)
-  open_so (winds ending.Retries m ms) is = refl
+  open_so (winds (ending.Answers given at) ms later) is = absurd (cc)
+  open_so (winds ending.Retries ms later) is = refl
   open_so compose is = refl
   open_so (round keys) is = by (is_wanting s.sent) is
     where

@@ -20,7 +20,7 @@ standing_in world scene client = left_by (is_gone scene client) (client_in world
 -- no answer has come to the call under way, nor want of memory
 abbrev pub is_open : List Sent → Stage → Bool
 is_open sent (round keys) = not (is_wanting sent)
-is_open sent (winds (ending.Answers given place) m ms) = false
+is_open sent (winds (ending.Answers given place) ms later) = false
 is_open sent other_stage = true
 
 abbrev pub is_undecided : ClientState → Bool

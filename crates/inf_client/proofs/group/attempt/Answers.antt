@@ -1,6 +1,6 @@
 use Rattle.std.proofs.Common.{◌≡◌, true, false, sym, ap, subst, ◌∙◌, rules}
 use Rattle.inf_client.specs.Group.{IsFound}
-use Rattle.inf_client.proofs.GroupFacts.{given_up_found}
+use Rattle.inf_client.proofs.FoundFacts.{given_up_found}
 use Rattle.inf_duty.specs.Duty.{given_up, next_step}
 use Rattle.inf_duty.specs.Messages.{is_winding}
 use Rattle.inf_duty.specs.ClientState.{ClientState}

@@ -1,7 +1,8 @@
 use Rattle.std.proofs.Common.{◌≡◌, ◌+◌, length, sym, ap, subst, ◌∙◌, rules}
 use Rattle.inf_client.specs.AskLog.{with_room}
 use Rattle.inf_client.specs.Group.{IsFound, with_asks}
-use Rattle.inf_client.proofs.GroupFacts.{composed_found, composed_goes, whole_readied}
+use Rattle.inf_client.proofs.FoundFacts.{composed_found, composed_goes}
+use Rattle.inf_client.proofs.GroupFacts.{whole_readied}
 use Rattle.inf_duty.specs.ClientStep.{is_ask}
 use Rattle.inf_duty.specs.Duty.{next_step}
 use Rattle.inf_duty.specs.Messages.{is_winding}
