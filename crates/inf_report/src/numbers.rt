@@ -19,6 +19,10 @@ fn decimal_digit(digit: u64) -> u8
 pub fn push_number(out: &mut Vec<u8>, number: u64) -> Result<(), NoMemory>
     ensures { OnOk result (out.new.items ≡ out.old.items ++ decimal number) }
 {
+    if number < 10 {
+        out.push(decimal_digit(number))?;
+        return Ok(());
+    }
     // The digits are found from the last to the first.
     let mut digits = [0u8; MOST_DIGITS];
     let mut start = MOST_DIGITS;

@@ -13,8 +13,8 @@ ghost use Rattle.inf_resolve.specs.Walk.{busy_at, halts};
 use crate::keys::{push_key, push_keys_at, push_keys_from};
 use crate::known::{Known, dir_of, told_entry, told_under};
 use crate::resolved::{Resolved, Verdict};
-use crate::walked::{Halt, busy_at, halt_of, walk};
-use inf_base::{CallRef, DirRef, Entry, Id, LookKey, LookKeys, Names, NoMemory, Place};
+use crate::walked::{Halt, Walked, busy_at, halt_of, walk};
+use inf_base::{CallRef, DirRef, Entry, Id, LookKey, LookKeys, Names, NoMemory, Place, TryClone};
 use inf_birth::IdRule;
 use inf_message::Reply;
 use std::alloc::Global;
@@ -117,10 +117,17 @@ impl Looked {
         if !keys.is_empty() {
             return Ok(Resolved::Asks(LookKeys::new(keys)));
         }
-        Ok(Resolved::Leads(
-            walk(alloc, known, root, old_names, old.left)?,
-            walk(alloc, known, root, new_names, new.left)?,
-        ))
+        let first = walk(alloc, known, root, old_names, old.left)?;
+        // Where no name is looked up, both paths have the root alone, in one piece of memory.
+        let second = if old_names.is_empty() && new_names.is_empty() {
+            Walked {
+                chain: first.chain.try_clone(alloc)?,
+                left: Names::new(Vec::new(alloc)),
+            }
+        } else {
+            walk(alloc, known, root, new_names, new.left)?
+        };
+        Ok(Resolved::Leads(first, second))
     }
 }
 

@@ -24,6 +24,7 @@ use inf_report::{ReportFault, write_report};
 use inf_sched::{calls_left_open_are_unanswered, schedule, unanswered_calls_are_left};
 use inf_script::{Script, ScriptRefusal, Why};
 use std::alloc::Global;
+use std::mem::ManuallyDrop;
 
 /// Runs the script that all bytes of the source spell, under its order, and writes the report. A text that is no script
 /// is answered by the line that says why. The statuses are 0 for a report, 2 for a fault of the source, 3 for a refused
@@ -74,7 +75,11 @@ fn run_text<S: Source, K: Sink>(alloc: Global, source: &mut S, sink: &mut K) -> 
     }) }
 {
     match script_of(alloc, source) {
-        Ok(script) => run_script(alloc, &script, sink),
+        Ok(script) => {
+            // The program ends behind this, so the script's memory need not be given back piece by piece.
+            let script = ManuallyDrop::new(script);
+            run_script(alloc, &script, sink)
+        }
         Err(InputFault::Refused(refusal)) => write_refusal(alloc, refusal, sink),
         Err(InputFault::Read) => Status::ReadFault,
         Err(InputFault::NoMemory) => Status::NoMemory,
@@ -94,7 +99,11 @@ fn run_script<K: Sink>(alloc: Global, script: &Script, sink: &mut K) -> Status
     unanswered_calls_are_left();
     calls_left_open_are_unanswered();
     match schedule(alloc, &script.setup, script.order.as_slice()) {
-        Ok(outcome) => write_outcome(alloc, &script.setup, &outcome, sink),
+        Ok(outcome) => {
+            // The outcome lives to the end of the program too.
+            let outcome = ManuallyDrop::new(outcome);
+            write_outcome(alloc, &script.setup, &outcome, sink)
+        }
         Err(NoMemory) => Status::NoMemory,
     }
 }

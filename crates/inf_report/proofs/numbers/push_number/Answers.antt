@@ -1,9 +1,14 @@
-use Rattle.std.proofs.Common.{◌-◌, ◌^◌, ◌<◌, ◌++◌, length, ap, ◌∙◌, arith}
+use Rattle.std.proofs.Common.{◌-◌, ◌^◌, ◌<◌, [], ◌∷◌, ◌++◌, length, sym, ap, ◌∙◌, arith}
 use Rattle.std.proofs.lemmas.Grind.{common_steps}
-use Rattle.std.proofs.lemmas.Fmt.{decimal_nonempty, length-decimal-le}
+use Rattle.std.proofs.lemmas.Fmt.{decimal_digit, decimal_nonempty, length-decimal-le}
 use Rattle.std.proofs.lemmas.List.{length-set}
 use Rattle.inf_report.proofs.DigitFacts.{all-found, decimal-moved, decimal-found, length-decimal-step}
 use Rattle.inf_report.proofs.numbers.push_number.Goals as goal
+
+pub returns-then-number-lt10 : goal.returns-then-number-lt10
+returns-then-number-lt10 c =
+    c.in_ok-push.ensures.items
+    ∙ ap (λ l. c.args.out.now.items ++ l) (ap (λ digit. digit ∷ []) c.decimal_digit.ensures ∙ sym (decimal_digit c.args.number c.if-number-lt10.true))
 
 pub loop-left-init : goal.loop-left-init
 loop-left-init c =
@@ -27,7 +32,7 @@ loop-left-preserved c =
     let some : 0 < length _ = decimal_nonempty left h.small in
     let shorter = length-decimal-step left c.loop-left-test.true h.small in
     record {
-      text = rw c.decimal_digit.ensures (decimal-moved left start c.loop-left.digits _ c.loop-left-test.true h.small (omega (arith, some, h.fits)) (omega (arith, h.within, h.size)) h.text);
+      text = rw c.decimal_digit-in-loop-left.ensures (decimal-moved left start c.loop-left.digits _ c.loop-left-test.true h.small (omega (arith, some, h.fits)) (omega (arith, h.within, h.size)) h.text);
       fits = omega (arith, shorter, h.fits);
       within = omega (arith, h.within);
       small = omega (arith, h.small);
