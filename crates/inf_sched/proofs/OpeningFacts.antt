@@ -1,5 +1,5 @@
 -- How a run begins, and what its calls come to in the end.
-use Rattle.std.proofs.Common.{◌≡◌, ℕ, zero, suc, ◌+◌, ◌<◌, Bool, true, false, nat_lt, ◌||◌, List, [], ◌∷◌, ◌++◌, length, map, slice_get, Some, refl, sym, ap, ap₂, subst, ◌∙◌, arith, rules, length-append}
+use Rattle.std.proofs.Common.{◌≡◌, ℕ, zero, suc, ◌+◌, ◌<◌, ◌≤◌, Bool, true, false, nat_lt, ◌||◌, List, [], ◌∷◌, ◌++◌, length, map, slice_get, Some, refl, sym, ap, ap₂, subst, ◌∙◌, arith, rules, length-append}
 use Rattle.std.specs.List.{flat_map}
 use Rattle.std.proofs.lemmas.List.{map-append}
 use Rattle.std.proofs.lemmas.List.Elements.{All-nil}
@@ -70,10 +70,11 @@ empty_queues fits many queues are = record {
   each = λ index queue at. subst (λ q. IsQueue (fits index) [] q) (sym (are.each index queue at)) (record { finds = λ also. refl; within = All-nil (IsWithin []) });
 }
 
-pub kept_opening : (world : World) (h : List Event) (clients : List Client) (to by : List (List Posting)) → h ≡ [] → AreOpening world (length world.setup.clients) clients
+pub kept_opening : (world : World) (h : List Event) (clients : List Client) (to by : List (List Posting)) → 1 ≤ world.setup.servers → h ≡ [] → AreOpening world (length world.setup.clients) clients
     → AreEmpty (world.setup.servers + 1) to → AreEmpty (length world.setup.clients) by → IsKept world h clients to by
-kept_opening world h clients to by none are queues askers =
+kept_opening world h clients to by some none are queues askers =
     subst (λ g. IsKept world g clients to by) (sym none) (record {
+      some_servers = some;
       legal = tt;
       clients = record {
         count = are.count;

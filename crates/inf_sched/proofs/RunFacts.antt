@@ -22,7 +22,8 @@ use Rattle.inf_message.proofs.ClientLaws.{asks_apart, serve_apart}
 use Rattle.inf_client.specs.Client.{Client, wants_to_ask}
 use Rattle.inf_sched.specs.Moves.{HasNoAsk}
 use Rattle.inf_sched.specs.Scene.{Asks, MakesServe, Scene, can_ask, is_ask, is_gone, is_set, planned}
-use Rattle.inf_sched.specs.Run.{AreClients, AreQueues, Asked, HasGivenUp, HasRested, HasServed, IsClient, IsKept, IsStateOf, Playing, asks_shown, gone_of, scene_of}
+use Rattle.inf_sched.specs.Run.{AreClients, AreQueues, Asked, HasGivenUp, HasRested, HasServed, IsClient, IsKept, IsStateOf, Playing, asks_shown, gone_of, playing, scene_of}
+use Rattle.inf_sched.specs.declared.run.Parts.{Parts}
 use Rattle.inf_sched.specs.Waiting.{IsFrontLeft, IsWaiting, Posting, is_by, is_to, posting}
 use Rattle.inf_sched.proofs.RunQueues.{asked_queues, front_queues, served_queues, set_each, unlike_test}
 
@@ -112,6 +113,7 @@ kept_asked world h after client p clients to by a b q r kept at did at_to at_by 
     let number : p.number ≡ did.number = ap (λ (x : Posting). x.number) is in
     let by_own : client ≡ did.ask.from.client = sym did.own in
     record {
+      some_servers = kept.some_servers;
       legal = did.legal;
       clients = asked_clients world h after client p clients a b kept.clients at did;
       servers =
@@ -133,12 +135,13 @@ pub kept_gave_up : (world : World) (h after : List Event) (client : ℕ) (client
     → IsKept world after (slice_set clients client b) to by
 kept_gave_up world h after client clients to by a b kept at did =
     subst (λ g. IsKept world g (slice_set clients client b) to by) (sym did.same)
-    (record { legal = kept.legal; clients = gave_up_clients world h after client clients a b kept.clients at did; servers = kept.servers; askers = kept.askers })
+    (record { some_servers = kept.some_servers; legal = kept.legal; clients = gave_up_clients world h after client clients a b kept.clients at did; servers = kept.servers; askers = kept.askers })
 
 pub kept_served : (world : World) (h after : List Event) (p : Posting) (clients : List Client) (to by : List (List Posting)) (a b : Client)
     → IsKept world h clients to by → IsWaiting h p → slice_get clients p.client ≡ Some a → HasServed world p h after a b
     → IsKept world after (slice_set clients p.client b) to by
 kept_served world h after p clients to by a b kept waits at did = record {
+  some_servers = kept.some_servers;
   legal = did.legal;
   clients = served_clients world h after p clients a b kept.legal waits kept.clients at did;
   servers = subst (λ g. AreQueues is_to g (world.setup.servers + 1) to) (sym did.joins) (served_queues is_to h (world.setup.servers + 1) p.number p.place did.given to kept.servers);
@@ -148,6 +151,7 @@ kept_served world h after p clients to by a b kept waits at did = record {
 pub kept_front_to : (world : World) (h : List Event) (number : ℕ) (clients : List Client) (to by : List (List Posting)) (q rest : List Posting)
     → IsKept world h clients to by → slice_get to number ≡ Some q → IsFrontLeft h q rest → IsKept world h clients (slice_set to number rest) by
 kept_front_to world h number clients to by q rest kept at left = record {
+  some_servers = kept.some_servers;
   legal = kept.legal;
   clients = kept.clients;
   servers = front_queues is_to h (world.setup.servers + 1) number to q rest kept.servers at left;
@@ -157,6 +161,7 @@ kept_front_to world h number clients to by q rest kept at left = record {
 pub kept_front_by : (world : World) (h : List Event) (client : ℕ) (clients : List Client) (to by : List (List Posting)) (q rest : List Posting)
     → IsKept world h clients to by → slice_get by client ≡ Some q → IsFrontLeft h q rest → IsKept world h clients to (slice_set by client rest)
 kept_front_by world h client clients to by q rest kept at left = record {
+  some_servers = kept.some_servers;
   legal = kept.legal;
   clients = kept.clients;
   servers = kept.servers;
@@ -250,6 +255,20 @@ kept_pushed world h after client p clients to by a b q r s t kept at did at_to a
     subst (λ x. IsKept world after (slice_set clients client b) (slice_set to p.number x) (slice_set by client t)) (sym pushed)
     (subst (λ x. IsKept world after (slice_set clients client b) (slice_set to p.number (q ++ p ∷ [])) (slice_set by client x)) (sym pushed_by)
     (kept_asked world h after client p clients to by a b q r kept at did at_to at_by))
+
+-- ---- parts, and the value of the box that they stand in
+
+-- what the value of the box keeps, the parts keep
+pub kept_behind : {R : Type 0} (digest_of : R → List ℕ → Id) (inner boxed : Parts R) → inner ≡ boxed
+    → IsKept (world_in digest_of boxed.core) boxed.core.history boxed.clients.items boxed.to_server.items boxed.by_client.items
+    → IsKept (world_in digest_of inner.core) inner.core.history inner.clients.items inner.to_server.items inner.by_client.items
+kept_behind digest_of inner boxed same kept =
+    subst (λ (p : Parts _). IsKept (world_in digest_of p.core) p.core.history p.clients.items p.to_server.items p.by_client.items) (sym same) kept
+
+-- the run that the value of the box is, the parts are
+pub seen_behind : {R : Type 0} (inner boxed : Parts R) (run : Playing R) → inner ≡ boxed
+    → playing boxed.core (gone_of boxed.clients.items) ≡ run → playing inner.core (gone_of inner.clients.items) ≡ run
+seen_behind inner boxed run same seen = ap (λ (p : Parts _). playing p.core (gone_of p.clients.items)) same ∙ seen
 
 -- ---- the same in the words of a run
 

@@ -1,5 +1,5 @@
 -- What contracts see of a run, and what it keeps behind that.
-use Rattle.std.specs.Prelude.{◌≡◌, ◌⊎◌, ℕ, zero, suc, ◌+◌, Bool, true, false, List, [], ◌∷◌, ◌++◌, length, map, reverse, slice_get, Some, None}
+use Rattle.std.specs.Prelude.{◌≡◌, ◌⊎◌, ℕ, zero, suc, ◌+◌, ◌≤◌, Bool, true, false, List, [], ◌∷◌, ◌++◌, length, map, reverse, slice_get, Some, None}
 use Rattle.inf_duty.specs.ClientState.{ClientState}
 use Rattle.inf_duty.specs.Start.{start}
 use Rattle.inf_core.specs.Core.{IsSameRun, Running}
@@ -70,6 +70,7 @@ pub record AreQueues (fits : ℕ → Posting → Bool) (h : List Event) (many : 
 
 pub record IsKept (world : World) (h : List Event) (now : List Client)
     (to_server by_client : List (List Posting)) : Type 0 where
+  pub some_servers : 1 ≤ world.setup.servers
   pub legal : Legal world h
   pub clients : AreClients world h now
   pub servers : AreQueues is_to h (world.setup.servers + 1) to_server

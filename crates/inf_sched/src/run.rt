@@ -27,9 +27,15 @@ use inf_message::Trip;
 use std::alloc::Global;
 use std::marker::Model;
 
-/// A run of a script: its core, its clients in their order, and the Asks that wait for each server and of each client.
+/// A run of a script. Its parts stand in a box, so that handing a run on moves no more than a pointer.
 #[derive(Drop)]
 pub struct Run<R: IdRule> {
+    parts: Box<Parts<R>>,
+}
+
+/// The core, the clients in their order, and the Asks that wait for each server and of each client.
+#[derive(Drop)]
+struct Parts<R: IdRule> {
     alloc: Global,
     core: Core<R>,
     clients: Vec<Client>,
@@ -44,10 +50,10 @@ impl<R: IdRule> Model for Run<R> {
 
     ghost Value = { Playing R };
 
-    ghost view = { λ r. playing r.core (gone_of r.clients.items) };
+    ghost view = { λ r. playing r.parts.value.core (gone_of r.parts.value.clients.items) };
 
-    ghost invariant = { λ r. IsKept (world_in R.digest_of r.core) r.core.history r.clients.items
-        r.to_server.items r.by_client.items };
+    ghost invariant = { λ r. IsKept (world_in R.digest_of r.parts.value.core) r.parts.value.core.history
+        r.parts.value.clients.items r.parts.value.to_server.items r.parts.value.by_client.items };
 }
 
 impl<R: IdRule> Run<R> {
@@ -64,12 +70,15 @@ impl<R: IdRule> Run<R> {
         let to_server = open_queues(alloc, setup.servers as usize + 1)?;
         let by_client = open_queues(alloc, setup.clients.len())?;
         let core = Core::new(alloc, setup, rule)?;
-        Ok(Run {
+        let parts = Parts {
             alloc,
             core,
             clients,
             to_server,
             by_client,
+        };
+        Ok(Run {
+            parts: Box::new(alloc, parts)?,
         })
     }
 
@@ -80,44 +89,26 @@ impl<R: IdRule> Run<R> {
             (scene_of self) (scene_of r.0)) }
         ensures same { IfOk result (λ r. IsSameRun self.core r.0.core) }
     {
-        let Run {
-            alloc,
-            mut core,
-            mut clients,
-            mut to_server,
-            mut by_client,
-        } = self;
-        match let_ask(alloc, &mut core, &mut clients[client as usize], client)? {
+        let Run { mut parts } = self;
+        let inner = parts.as_mut();
+        match let_ask(
+            inner.alloc,
+            &mut inner.core,
+            &mut inner.clients[client as usize],
+            client,
+        )? {
             Stepped::Asked(posting) => {
-                to_server[posting.number as usize].push(posting)?;
-                by_client[client as usize].push(posting)?;
-                let run = Run {
-                    alloc,
-                    core,
-                    clients,
-                    to_server,
-                    by_client,
-                };
+                inner.to_server[posting.number as usize].push(posting)?;
+                inner.by_client[client as usize].push(posting)?;
+                let run = Run { parts };
                 Ok((run, true))
             }
             Stepped::GaveUp => {
-                let run = Run {
-                    alloc,
-                    core,
-                    clients,
-                    to_server,
-                    by_client,
-                };
+                let run = Run { parts };
                 Ok((run, true))
             }
             Stepped::Rested => {
-                let run = Run {
-                    alloc,
-                    core,
-                    clients,
-                    to_server,
-                    by_client,
-                };
+                let run = Run { parts };
                 Ok((run, false))
             }
         }
@@ -130,21 +121,14 @@ impl<R: IdRule> Run<R> {
             (scene_of self) (scene_of run)) }
         ensures same { IfOk result (λ run. IsSameRun self.core run.core) }
     {
-        let Run {
-            alloc,
-            mut core,
-            mut clients,
-            to_server,
-            by_client,
-        } = self;
-        serve(&mut core, &mut clients[posting.client as usize], posting)?;
-        Ok(Run {
-            alloc,
-            core,
-            clients,
-            to_server,
-            by_client,
-        })
+        let Run { mut parts } = self;
+        let inner = parts.as_mut();
+        serve(
+            &mut inner.core,
+            &mut inner.clients[posting.client as usize],
+            posting,
+        )?;
+        Ok(Run { parts })
     }
 
     /// The oldest Ask that waits for a server.
@@ -154,7 +138,8 @@ impl<R: IdRule> Run<R> {
         ensures waits { IfSome result (λ p. IsWaiting self.old.core.history p) }
         ensures unchanged { self.new ≡ self.old }
     {
-        self.to_server[number as usize].oldest(&self.core)
+        let inner = self.parts.as_mut();
+        inner.to_server[number as usize].oldest(&inner.core)
     }
 
     /// The oldest Ask of a client that waits for a server.
@@ -164,7 +149,8 @@ impl<R: IdRule> Run<R> {
         ensures waits { IfSome result (λ p. IsWaiting self.old.core.history p) }
         ensures unchanged { self.new ≡ self.old }
     {
-        self.by_client[client as usize].oldest_to(&self.core, number)
+        let inner = self.parts.as_mut();
+        inner.by_client[client as usize].oldest_to(&inner.core, number)
     }
 
     /// The oldest Ask of a client that waits.
@@ -174,7 +160,8 @@ impl<R: IdRule> Run<R> {
         ensures waits { IfSome result (λ p. IsWaiting self.old.core.history p) }
         ensures unchanged { self.new ≡ self.old }
     {
-        self.by_client[client as usize].oldest(&self.core)
+        let inner = self.parts.as_mut();
+        inner.by_client[client as usize].oldest(&inner.core)
     }
 
     /// Whether the client's call of this number has ended.
@@ -183,7 +170,7 @@ impl<R: IdRule> Run<R> {
         ensures { result ≡ has_ended (world_in R.digest_of self.now.core) client number
             (scene_of self.now) }
     {
-        let found = &self.clients[client as usize];
+        let found = &self.parts.clients[client as usize];
         found.has_given_up() || number < found.number()
     }
 
@@ -192,7 +179,7 @@ impl<R: IdRule> Run<R> {
         requires there { client < length self.now.core.setup.clients }
         ensures { result ≡ is_gone (scene_of self.now) client }
     {
-        self.clients[client as usize].has_given_up()
+        self.parts.clients[client as usize].has_given_up()
     }
 
     /// The number of the client's call under way, or of the next one where none is.
@@ -201,7 +188,7 @@ impl<R: IdRule> Run<R> {
         requires here { is_gone (scene_of self.now) client ≡ false }
         ensures { result ≡ number_in (world_in R.digest_of self.now.core) (scene_of self.now) client }
     {
-        self.clients[client as usize].number()
+        self.parts.clients[client as usize].number()
     }
 
     /// How many calls the client has left.
@@ -210,7 +197,7 @@ impl<R: IdRule> Run<R> {
         requires here { is_gone (scene_of self.now) client ≡ false }
         ensures { result ≡ calls_left (world_in R.digest_of self.now.core) (scene_of self.now) client }
     {
-        self.clients[client as usize].calls_left()
+        self.parts.clients[client as usize].calls_left()
     }
 
     /// Whether the client has a call left.
@@ -229,14 +216,14 @@ impl<R: IdRule> Run<R> {
         requires there { client < length self.now.core.setup.clients }
         ensures { result.now ≡ reverse (trips_of client self.now.core.history) }
     {
-        self.clients[client as usize].trips()
+        self.parts.clients[client as usize].trips()
     }
 
     pub fn client_count(&self) -> u32
         requires { length self.now.core.setup.clients ≤ MOST_CLIENTS }
         ensures { result ≡ length self.now.core.setup.clients }
     {
-        self.clients.len() as u32
+        self.parts.clients.len() as u32
     }
 
     #[tactic(auto, using(crate::proofs::OpeningFacts::results_same))]
@@ -247,12 +234,13 @@ impl<R: IdRule> Run<R> {
             ≡ results_in (world_in R.digest_of self.core) (scene_of self)) }
         ensures legal { IfOk result (λ outcome. Legal (world_in R.digest_of self.core) (reverse outcome.history)) }
     {
-        let Run {
+        let Run { parts } = self;
+        let Parts {
             alloc,
             core,
             clients,
             ..
-        } = self;
+        } = Box::into_inner(parts);
         let results = all_results(alloc, clients)?;
         Ok(Outcome {
             history: core.into_history(),

@@ -8,4 +8,4 @@ use Rattle.inf_sched.proofs.run.Run.into_outcome.Goals as goal
 pub returns-clause-results : goal.returns-clause-results
 returns-clause-results g c =
     subst (λ (v : Playing _). c.new.result ≡ results_in (world_in g.R.IdRule.digest_of v.core) (scene_of v)) c.self.view_is
-    (search rules ∙ results_same (world_in g.R.IdRule.digest_of c.self.inside.core) c.self.inside.core.history c.self.inside.clients.items c.self.invariant.clients)
+    (search rules ∙ results_same (world_in g.R.IdRule.digest_of c.self.inside.parts.value.core) c.self.inside.parts.value.core.history c.self.inside.parts.value.clients.items c.self.invariant.clients)
