@@ -7,6 +7,7 @@ use crate::errno::Errno;
 use crate::file::FileMeta;
 use crate::item::{Items, Kind};
 use crate::memory::{NoMemory, TryClone};
+use crate::shared::Shared;
 use crate::triple::Triple;
 use std::alloc::Global;
 
@@ -20,7 +21,7 @@ pub enum Answer {
     /// A change of this other call was in flight, and touches this call.
     Again(CallRef),
     /// Two different triples have one digest: the call's own, and the one that the server keeps.
-    IdClash(Triple, Triple),
+    IdClash(Shared<Triple>, Shared<Triple>),
     NoMemory,
     /// The order of events ended before the call was decided.
     Unanswered,

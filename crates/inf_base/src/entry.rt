@@ -10,11 +10,12 @@ use crate::sequence::Sequence;
 use crate::shared::Shared;
 use std::alloc::Global;
 
-/// An access object as it was told under its key.
-#[derive(Debug, PartialEq, Eq, Drop)]
+/// An access object as it was told under its key. Both are shared with the reply that told them, and with the other
+/// chains that hold the entry.
+#[derive(Debug, PartialEq, Drop)]
 pub struct Entry {
-    pub key: Key,
-    pub access: Access,
+    pub key: Shared<Key>,
+    pub access: Shared<Access>,
     /// The place of the Serve that told it.
     pub stamp: Place,
 }

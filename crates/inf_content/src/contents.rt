@@ -17,7 +17,7 @@ use crate::object::{Object, seal_left};
 use crate::seen::Seen;
 use crate::slots::Slots;
 use inf_base::{
-    Access, CallRef, Caller, DirRef, FileMeta, Id, Items, Name, NoMemory, Place, Triple,
+    Access, CallRef, Caller, DirRef, FileMeta, Id, Items, Name, NoMemory, Place, Shared, Triple,
 };
 use std::alloc::Global;
 use std::collections::BTreeMap;
@@ -303,7 +303,7 @@ impl Contents {
     pub fn make(
         &mut self,
         id: Id,
-        triple: Triple,
+        triple: Shared<Triple>,
         born: Place,
         by: CallRef,
     ) -> Result<Made, NoMemory>

@@ -6,14 +6,14 @@ ghost use Rattle.inf_content.specs.Contents.{bearer_or, is_call, made_beside, se
 
 use crate::made::Made;
 use crate::slots::Slots;
-use inf_base::{CallRef, NoMemory, Place, Triple, TryClone};
+use inf_base::{CallRef, NoMemory, Place, Shared, Triple, TryClone};
 use std::alloc::Global;
 
 /// A content object, without its identifier.
 #[derive(Drop)]
 pub(crate) struct Object {
     pub(crate) born: Place,
-    pub(crate) triple: Triple,
+    pub(crate) triple: Shared<Triple>,
     pub(crate) maker: CallRef,
     pub(crate) seal: Option<CallRef>,
     pub(crate) slots: Slots,
@@ -25,7 +25,7 @@ impl Object {
         ensures { IfOk result (λ made.
             made ≡ made_beside triple.now self.now.triple (bearer_or self.now.maker self.now.seal)) }
     {
-        if self.triple == *triple {
+        if *self.triple == *triple {
             return Ok(Made::Bearer(bearer_or(self.maker, self.seal)));
         }
         Ok(Made::Clash(self.triple.try_clone(alloc)?))

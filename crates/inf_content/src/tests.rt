@@ -1,7 +1,9 @@
 //! Each call once where it does its work, and at its other answers.
 
 use super::*;
-use inf_base::{Access, CallRef, DirRef, FileMeta, Id, Kind, Name, NoMemory, Place, Triple};
+use inf_base::{
+    Access, CallRef, DirRef, FileMeta, Id, Kind, Name, NoMemory, Place, Shared, Triple,
+};
 use std::alloc::Global;
 use std::test::Fail;
 
@@ -55,15 +57,15 @@ fn access(alloc: Global) -> Result<Access, NoMemory> {
 }
 
 /// What comes of making a directory of the root's triple.
-fn is_new(contents: &mut Contents, id: Id, born: Place) -> Result<bool, NoMemory> {
-    let made = contents.make(id, Triple::Root, born, CALL)?;
+fn is_new(contents: &mut Contents, alloc: Global, id: Id, born: Place) -> Result<bool, NoMemory> {
+    let made = contents.make(id, Shared::new(alloc, Triple::Root)?, born, CALL)?;
     Ok(matches!(made, Made::New))
 }
 
 /// The contents with `DIR` alone.
 fn with_dir(alloc: Global) -> Result<Contents, NoMemory> {
     let mut contents = Contents::new(alloc);
-    is_new(&mut contents, LOW, 3)?;
+    is_new(&mut contents, alloc, LOW, 3)?;
     Ok(contents)
 }
 
@@ -77,19 +79,28 @@ fn with_file(alloc: Global) -> Result<Contents, NoMemory> {
 #[test]
 fn makes(rt: HostRuntime) -> Result<(), Fail> {
     let mut contents = with_dir(rt.alloc())?;
-    assert!(rt; is_new(&mut contents, HIGH, 4)?);
-    assert!(rt; !is_new(&mut contents, LOW, 9)?);
+    assert!(rt; is_new(&mut contents, rt.alloc(), HIGH, 4)?);
+    assert!(rt; !is_new(&mut contents, rt.alloc(), LOW, 9)?);
     assert_eq!(rt; contents.born(&LOW), Some(3));
     Ok(())
+}
+
+/// Whether another triple is there, which is the root's.
+fn is_root(made: &Made) -> bool {
+    match made {
+        Made::Clash(kept) => **kept == Triple::Root,
+        _ => false,
+    }
 }
 
 #[test]
 fn makes_none_beside_another(rt: HostRuntime) -> Result<(), Fail> {
     let mut contents = with_dir(rt.alloc())?;
     contents.seal(&DIR, OTHER);
-    let beside = contents.make(LOW, access(rt.alloc())?.birth, 9, OTHER)?;
-    assert!(rt; matches!(beside, Made::Clash(Triple::Root)));
-    let again = contents.make(LOW, Triple::Root, 9, CALL)?;
+    let birth = Shared::new(rt.alloc(), access(rt.alloc())?.birth)?;
+    let beside = contents.make(LOW, birth, 9, OTHER)?;
+    assert!(rt; is_root(&beside));
+    let again = contents.make(LOW, Shared::new(rt.alloc(), Triple::Root)?, 9, CALL)?;
     assert!(rt;
         matches!(
             again,

@@ -10,7 +10,7 @@ ghost use Rattle.inf_server.specs.State.{root_access};
 use super::*;
 use inf_base::{
     Access, Call, CallRef, Caller, Calls, Chain, ClientLine, Clients, Entry, Errno, Id, Key,
-    LookKey, Name, NoMemory, Place, Sequence, Setup, Text, Triple,
+    LookKey, Name, NoMemory, Place, Sequence, Setup, Shared, Text, Triple,
 };
 use inf_birth::IdRule;
 use inf_message::{Ask, Event, Op, Reply, Request};
@@ -96,8 +96,8 @@ fn chain(alloc: Global, stamp: Place) -> Result<Chain, NoMemory>
 {
     let mut entries = Vec::new(alloc);
     entries.push(Entry {
-        key: Key::Top,
-        access: root(),
+        key: Shared::new(alloc, Key::Top)?,
+        access: Shared::new(alloc, root())?,
         stamp,
     })?;
     Chain::new(alloc, Sequence::new(entries))
@@ -195,8 +195,8 @@ fn run(alloc: Global) -> Result<Vec<Event>, NoMemory> {
         events.push(asked(client, request))?;
     }
     for ask_place in 1..3 {
-        let key = Key::Top;
-        let access = root();
+        let key = Shared::new(alloc, Key::Top)?;
+        let access = Shared::new(alloc, root())?;
         events.push(served(ask_place, Reply::Found { key, access }))?;
     }
     events.push(asked(0, create_f(alloc)?))?;

@@ -1,5 +1,7 @@
 -- Where a reply is not the one that is hoped for, a step fails.
-use Rattle.std.proofs.Common.{◌≡◌, ℕ, List, ap, refl, sym, ◌∙◌}
+use Rattle.std.proofs.Common.{◌≡◌, ℕ, List, Result, Ok, Err, ap, refl, sym, ◌∙◌}
+use Rattle.std.specs.Prelude.{IfOk}
+use Rattle.inf_base.specs.declared.memory.NoMemory.{NoMemory}
 use Rattle.inf_base.specs.declared.directory.DirRef.{DirRef}
 use Rattle.inf_base.specs.declared.entry.Entry.{Entry}
 use Rattle.inf_base.specs.declared.id.Id.{Id}
@@ -36,3 +38,13 @@ unless_unlinked digest who chain asked place given other = refl
 pub at_step : (digest : List ℕ → Id) (who : Who) (flow now : DirFlow) (asked place : ℕ) (given : Reply) (turn : Turn DirFlow)
     → flow ≡ now → turn ≡ after_reply digest who now asked place given → turn ≡ after_reply digest who flow asked place given
 at_step digest who flow now asked place given turn is as_now = as_now ∙ ap (λ (f : DirFlow). after_reply digest who f asked place given) (sym is)
+
+-- the same of a turn that memory may be wanting for, at a clash
+pub at_clash : (digest : List ℕ → Id) (who : Who) (flow : DirFlow) (chain : List Entry) (name : List ℕ) (mode version : ℕ) (id : Id) (asked place : ℕ) (given : Reply) (kept : Triple)
+    (found : Result (Turn DirFlow) NoMemory) → flow ≡ step.Makes chain name mode version id → given ≡ reply.Clash kept
+    → IfOk found (λ (turn : Turn DirFlow). (by : List ℕ → Id) (m at : ℕ) (other : Id) → turn ≡ after_reply by who (step.Makes chain name m version other) at place (reply.Clash kept))
+    → IfOk found (λ (turn : Turn DirFlow). turn ≡ after_reply digest who flow asked place given)
+at_clash digest who flow chain name mode version id asked place given kept (Ok turn) is same comes =
+    at_step digest who flow (step.Makes chain name mode version id) asked place given turn is
+    (comes digest mode asked id ∙ ap (after_reply digest who (step.Makes chain name mode version id) asked place) (sym same))
+at_clash digest who flow chain name mode version id asked place given kept (Err error) is same comes = tt

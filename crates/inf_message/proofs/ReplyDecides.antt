@@ -13,7 +13,7 @@ use Rattle.inf_base.proofs.Decides.{different, access_decides, call_decides, err
 use Rattle.inf_message.specs.declared.reply.Reply.{Reply}
 use Rattle.inf_message.specs.declared.reply.Reply.TheVariants as reply
 use Rattle.inf_message.specs.declared.reply.Spot.{Spot}
-use Rattle.inf_message.specs.Heard.{light}
+use Rattle.inf_message.specs.Heard.{heard, light}
 use Rattle.inf_message.specs.contracts.reply.ReplyPartialEq.TheImpl as reply_eq
 use Rattle.inf_message.specs.contracts.reply.SpotPartialEq.TheImpl as spot_eq
 
@@ -119,3 +119,9 @@ light_same (reply.Found key access) found clash listing = absurd (found key acce
 light_same (reply.Clash kept) found clash listing = absurd (clash kept refl)
 light_same (reply.Listing items) found clash listing = absurd (listing items refl)
 light_same given found clash listing = refl
+
+pub light_heard : (given : Reply) → ((key : Key) (access : Access) → given ≡ reply.Found key access → ⊥)
+    → ((kept : Triple) → given ≡ reply.Clash kept → ⊥) → light given ≡ heard given
+light_heard (reply.Found key access) found clash = absurd (found key access refl)
+light_heard (reply.Clash kept) found clash = absurd (clash kept refl)
+light_heard given found clash = refl

@@ -1,10 +1,10 @@
 //! What a server answers.
 
 ghost use Rattle.std.specs.Prelude.{◌≡◌, ◌↔◌, IfOk, IsTrue};
-ghost use Rattle.inf_message.specs.Heard.{light};
+ghost use Rattle.inf_message.specs.Heard.{heard, light};
 
 use inf_base::{
-    Access, CallRef, Errno, FileMeta, Items, Key, Kind, NoMemory, Place, Triple, TryClone,
+    Access, CallRef, Errno, FileMeta, Items, Key, Kind, NoMemory, Place, Shared, Triple, TryClone,
 };
 use std::alloc::Global;
 
@@ -24,8 +24,8 @@ pub enum Spot {
 #[derive(Debug, PartialEq, Drop)]
 pub enum Reply {
     Found {
-        key: Key,
-        access: Access,
+        key: Shared<Key>,
+        access: Shared<Access>,
     },
     Absent {
         born: Place,
@@ -47,7 +47,7 @@ pub enum Reply {
     /// The version of the directory to come.
     Reserved(u64),
     Held(FileMeta),
-    Clash(Triple),
+    Clash(Shared<Triple>),
     Fine,
     Refused(Errno),
     Stat {
@@ -64,6 +64,22 @@ impl Reply {
         ensures { IsTrue result ↔ (self.now ≡ other.now) }
     {
         self == other
+    }
+
+    /// What a client keeps of the reply to a lookup: an equal copy. Of a listing nothing is kept, since no lookup asks
+    /// for one.
+    #[tactic(auto, using(crate::proofs::ReplyDecides::light_heard))]
+    pub fn heard(&self, alloc: Global) -> Result<Self, NoMemory>
+        ensures { IfOk result (λ copy. copy ≡ heard self.now) }
+    {
+        Ok(match self {
+            Reply::Found { key, access } => Reply::Found {
+                key: key.try_clone(alloc)?,
+                access: access.try_clone(alloc)?,
+            },
+            Reply::Clash(triple) => Reply::Clash(triple.try_clone(alloc)?),
+            _ => self.light(),
+        })
     }
 
     /// What is kept of it without taking memory.

@@ -5,7 +5,8 @@ ghost use Rattle.std.specs.Prelude.{◌≡◌, ◌↔◌, IfOk, IsTrue};
 use crate::aim::{Aim, What};
 use crate::op::Op;
 use inf_base::{
-    Chain, DirRef, FileMeta, Home, Id, Key, LookKey, Name, NoMemory, Place, Triple, TryClone,
+    Chain, DirRef, FileMeta, Home, Id, Key, LookKey, Name, NoMemory, Place, Shared, Triple,
+    TryClone,
 };
 use std::alloc::Global;
 
@@ -27,7 +28,7 @@ pub enum Request {
     },
     /// Makes the content of a new directory.
     Make {
-        triple: Triple,
+        triple: Shared<Triple>,
     },
     /// Puts the new directory under the name that was kept.
     Link {

@@ -3,7 +3,7 @@
 use super::*;
 use inf_base::{
     Access, CallRef, Caller, Chain, DirRef, Entry, Errno, FileMeta, Home, Id, Item, Items, Key,
-    Kind, LookKey, Name, NoMemory, Place, Sequence, Triple, TryClone,
+    Kind, LookKey, Name, NoMemory, Place, Sequence, Shared, Triple, TryClone,
 };
 use std::alloc::Global;
 use std::test::Fail;
@@ -33,6 +33,10 @@ fn triple(alloc: Global, version: u64) -> Result<Triple, NoMemory> {
     })
 }
 
+fn birth(alloc: Global, version: u64) -> Result<Shared<Triple>, NoMemory> {
+    Shared::new(alloc, triple(alloc, version)?)
+}
+
 fn access(alloc: Global) -> Result<Access, NoMemory> {
     Ok(Access {
         id: ID,
@@ -48,8 +52,8 @@ fn access(alloc: Global) -> Result<Access, NoMemory> {
 fn chain(alloc: Global, stamp: Place) -> Result<Chain, NoMemory> {
     let mut entries = Vec::new(alloc);
     entries.push(Entry {
-        key: Key::Top,
-        access: access(alloc)?,
+        key: Shared::new(alloc, Key::Top)?,
+        access: Shared::new(alloc, access(alloc)?)?,
         stamp,
     })?;
     Chain::new(alloc, Sequence::new(entries))
@@ -118,7 +122,7 @@ fn bare(alloc: Global, kind: u8) -> Result<Request, NoMemory> {
             name: name(alloc)?,
         }),
         1 => Request::Make {
-            triple: triple(alloc, 1)?,
+            triple: birth(alloc, 1)?,
         },
         2 => Request::Cancel { dir: dir(3) },
         3 => Request::Drop { dir: dir(3) },
@@ -149,8 +153,8 @@ fn bare(alloc: Global, kind: u8) -> Result<Request, NoMemory> {
 fn reply(alloc: Global, kind: u8) -> Result<Reply, NoMemory> {
     Ok(match kind {
         0 => Reply::Found {
-            key: Key::Top,
-            access: access(alloc)?,
+            key: Shared::new(alloc, Key::Top)?,
+            access: Shared::new(alloc, access(alloc)?)?,
         },
         1 => Reply::Absent { born: 3 },
         2 => Reply::IsFile { born: 3 },
@@ -169,7 +173,7 @@ fn reply(alloc: Global, kind: u8) -> Result<Reply, NoMemory> {
         8 => Reply::NoMem,
         9 => Reply::Reserved(2),
         10 => Reply::Held(META),
-        11 => Reply::Clash(triple(alloc, 2)?),
+        11 => Reply::Clash(birth(alloc, 2)?),
         12 => Reply::Fine,
         13 => Reply::Refused(Errno::ENOENT),
         14 => Reply::Stat {
@@ -249,7 +253,7 @@ fn numbered(alloc: Global, kind: u8, number: u64) -> Result<Request, NoMemory> {
             chain: chain(alloc, number)?,
         },
         2 => Request::Make {
-            triple: triple(alloc, number)?,
+            triple: birth(alloc, number)?,
         },
         _ => Request::Admit {
             dir: dir(3),

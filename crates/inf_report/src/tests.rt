@@ -6,8 +6,8 @@ use crate::report::write_report;
 use crate::requests::push_request;
 use inf_base::{
     Access, Answer, Call, CallRef, Caller, Calls, Chain, ClientLine, Clients, DirRef, Entry, Errno,
-    FileMeta, Home, Id, Item, Items, Key, Kind, LookKey, Name, Place, Sequence, Setup, Text,
-    Triple,
+    FileMeta, Home, Id, Item, Items, Key, Kind, LookKey, Name, Place, Sequence, Setup, Shared,
+    Text, Triple,
 };
 use inf_io::MemSink;
 use inf_message::{Aim, Ask, CallResult, Event, Op, Reply, Request, Spot, What};
@@ -208,15 +208,16 @@ fn triple(alloc: Global) -> Result<Triple, Fail> {
     })
 }
 
-fn access(alloc: Global, birth: Triple) -> Result<Access, Fail> {
-    Ok(Access {
+fn access(alloc: Global, birth: Triple) -> Result<Shared<Access>, Fail> {
+    let access = Access {
         id: ID,
         born: 3,
         mode: 0o755,
         owner: 7,
         group: 8,
         birth,
-    })
+    };
+    Ok(Shared::new(alloc, access)?)
 }
 
 /// A chain of two entries with these stamps.
@@ -224,7 +225,7 @@ fn chain(alloc: Global, first: Place, second: Place) -> Result<Chain, Fail> {
     let mut entries = Vec::new(alloc);
     for stamp in [first, second] {
         entries.push(Entry {
-            key: Key::Top,
+            key: Shared::new(alloc, Key::Top)?,
             access: access(alloc, Triple::Root)?,
             stamp,
         })?;
@@ -294,7 +295,7 @@ fn bare(alloc: Global, kind: usize) -> Result<Request, Fail> {
             name: name(alloc)?,
         }),
         1 => Request::Make {
-            triple: triple(alloc)?,
+            triple: Shared::new(alloc, triple(alloc)?)?,
         },
         2 => Request::Forget {
             parent: ID,
@@ -324,7 +325,7 @@ const BARE: [&[u8]; 6] = [
 fn reply(alloc: Global, kind: usize) -> Result<Reply, Fail> {
     Ok(match kind {
         0 => Reply::Found {
-            key: Key::Top,
+            key: Shared::new(alloc, Key::Top)?,
             access: access(alloc, triple(alloc)?)?,
         },
         1 => Reply::Absent { born: 0 },

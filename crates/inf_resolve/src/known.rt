@@ -7,7 +7,9 @@ ghost use Rattle.inf_base.specs.declared.key.LookKey.TheVariants as look;
 ghost use Rattle.inf_base.specs.Same.{dir_of as the_dir};
 ghost use Rattle.inf_resolve.specs.Known.{busy_behind, entry_behind, is_same_key, links_to, told_at, told_entry, told_under};
 
-use inf_base::{Access, CallRef, DirRef, Entry, Id, Key, LookKey, Name, NoMemory, Place, TryClone};
+use inf_base::{
+    Access, CallRef, DirRef, Entry, Id, Key, LookKey, Name, NoMemory, Place, Shared, TryClone,
+};
 use inf_message::Reply;
 use std::alloc::Global;
 
@@ -105,11 +107,11 @@ pub(crate) fn entry_behind(
     }
 }
 
-/// An access object as it was told.
+/// An access object as it was told; the reply shares it.
 pub(crate) fn told_entry(
     alloc: Global,
-    key: &Key,
-    access: &Access,
+    key: &Shared<Key>,
+    access: &Shared<Access>,
     place: Place,
 ) -> Result<Entry, NoMemory>
     ensures { IfOk result (λ entry. entry ≡ told_entry key.now access.now place) }

@@ -1,7 +1,9 @@
 //! Small attempts, from their first round on.
 
 use super::*;
-use inf_base::{Access, CallRef, DirRef, Id, Key, LookKey, Name, Names, NoMemory, Place, Triple};
+use inf_base::{
+    Access, CallRef, DirRef, Id, Key, LookKey, Name, Names, NoMemory, Place, Shared, Triple,
+};
 use inf_birth::{ShaRule, identify};
 use inf_message::{Reply, Spot};
 use std::alloc::Global;
@@ -32,41 +34,33 @@ fn first_of(alloc: Global, parent: Id, letter: u8) -> Result<Id, NoMemory> {
     )
 }
 
-fn access(id: Id, born: Place) -> Access {
-    Access {
+fn found(alloc: Global, key: Key, id: Id, born: Place) -> Result<Reply, NoMemory> {
+    let access = Access {
         id,
         born,
         mode: 0o755,
         owner: 0,
         group: 0,
         birth: Triple::Root,
-    }
-}
-
-fn told_root(root: Id) -> Known {
-    let key = LookKey::Top;
-    let reply = Reply::Found {
-        key: Key::Top,
-        access: access(root, 0),
     };
-    Known {
-        key,
-        reply,
-        place: 4,
-    }
+    Ok(Reply::Found {
+        key: Shared::new(alloc, key)?,
+        access: Shared::new(alloc, access)?,
+    })
 }
 
-fn told(
-    alloc: Global,
-    dir: DirRef,
-    letter: u8,
-    found: Id,
-    place: Place,
-) -> Result<Known, NoMemory> {
+fn told_root(alloc: Global, root: Id) -> Result<Known, NoMemory> {
+    Ok(Known {
+        key: LookKey::Top,
+        reply: found(alloc, Key::Top, root, 0)?,
+        place: 4,
+    })
+}
+
+fn told(alloc: Global, dir: DirRef, letter: u8, id: Id, place: Place) -> Result<Known, NoMemory> {
     let name = Name::from_slice(alloc, &[letter])?;
-    let key = Key::At { dir, name };
-    let access = access(found, 7);
-    replied(alloc, dir.id, letter, Reply::Found { key, access }, place)
+    let reply = found(alloc, Key::At { dir, name }, id, 7)?;
+    replied(alloc, dir.id, letter, reply, place)
 }
 
 fn replied(
@@ -115,7 +109,7 @@ fn two_names(rt: HostRuntime) -> Result<(), Fail> {
     ] {
         let dir = DirRef { id: root, born: 0 };
         let known = [
-            told_root(root),
+            told_root(alloc, root)?,
             told(alloc, dir, b'a', first, 5)?,
             replied(alloc, first, b'b', reply, 6)?,
         ];

@@ -2,7 +2,7 @@
 
 ghost use Rattle.std.specs.Prelude.{◌≡◌};
 
-use inf_base::{CallRef, Errno, Place, Triple};
+use inf_base::{CallRef, Errno, Place, Shared, Triple};
 use inf_message::{Reply, Spot};
 
 /// Why a check does not let a request through.
@@ -18,7 +18,7 @@ pub enum Refusal {
     /// Another call's change is in the way, at this spot of the directory born then.
     Busy(CallRef, Spot, Place),
     /// The identifier is that of the directory of this triple.
-    Clash(Triple),
+    Clash(Shared<Triple>),
 }
 
 impl Refusal {

@@ -23,7 +23,7 @@ mod removals;
 use crate::checks::{dir_of, have_entries, no_directory, unless_taken, unsealed};
 use crate::refusal::Refusal;
 use inf_base::{
-    CallRef, Chain, DirRef, Entry, Id, Key, LookKey, Name, NoMemory, Place, Setup, Triple,
+    CallRef, Chain, DirRef, Entry, Id, Key, LookKey, Name, NoMemory, Place, Setup, Shared, Triple,
     server_of,
 };
 use inf_birth::{IdRule, identify};
@@ -75,7 +75,7 @@ impl<R: IdRule> Server<R> {
         let mut contents = Contents::new(alloc);
         let mut root = None;
         if number == server_of(&id, setup.servers) {
-            contents.make(id, Triple::Root, 0, NOBODY)?;
+            contents.make(id, Shared::new(alloc, Triple::Root)?, 0, NOBODY)?;
             root = Some(DirRef { id, born: 0 });
         }
         Ok(Server {
@@ -113,10 +113,7 @@ impl<R: IdRule> Server<R> {
         ensures same { IsSameServer self.old self.new }
     {
         match &ask.request {
-            Request::Lookup(LookKey::Top) => Ok(Reply::Found {
-                key: Key::Top,
-                access: self.lookup_top()?,
-            }),
+            Request::Lookup(LookKey::Top) => self.lookup_top(),
             Request::Lookup(LookKey::At { dir, name }) => self.lookup_at(dir, name),
             Request::Finish { chain, op } => self.finish(ask, chain, op),
             Request::Reserve { chain, name } => self.reserve(ask, chain, name),

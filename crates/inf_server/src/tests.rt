@@ -12,7 +12,7 @@ mod removals;
 use super::*;
 use inf_base::{
     Access, CallRef, Caller, Chain, Clients, DirRef, Entry, Errno, FileMeta, Id, Key, Kind,
-    LookKey, Name, NoMemory, Sequence, Setup, Triple,
+    LookKey, Name, NoMemory, Sequence, Setup, Shared, Triple,
 };
 use inf_birth::ShaRule;
 use inf_message::{Ask, Op, Reply, Request, Spot};
@@ -228,7 +228,7 @@ fn request(alloc: Global, step: Step) -> Result<Request, NoMemory>
             name: name(alloc, letter)?,
         },
         Step::Make(parent, letter, version) => Request::Make {
-            triple: birth(alloc, parent, letter, version)?,
+            triple: Shared::new(alloc, birth(alloc, parent, letter, version)?)?,
         },
         Step::Link(way) => Request::Link {
             chain: chain(alloc, way)?,
@@ -288,14 +288,14 @@ fn chain(alloc: Global, way: Way) -> Result<Chain, NoMemory>
     let mut entries = Vec::new(alloc);
     let (first, second) = directories(way);
     if let Some((dir, mode)) = first {
-        entries.push(entry(Key::Top, dir, mode))?;
+        entries.push(entry(alloc, Key::Top, dir, mode)?)?;
     }
     if let Some(dir) = second {
         let key = Key::At {
             dir: dir_of(Dir::Top),
             name: name(alloc, b'a')?,
         };
-        entries.push(entry(key, dir, 0))?;
+        entries.push(entry(alloc, key, dir, 0)?)?;
     }
     Chain::new(alloc, Sequence::new(entries))
 }
@@ -313,12 +313,13 @@ fn directories(way: Way) -> (Option<(Dir, u16)>, Option<Dir>) {
 }
 
 /// User 0's directory of this mode, as it was told under the key.
-fn entry(key: Key, dir: Dir, mode: u16) -> Entry {
-    Entry {
-        key,
-        access: access(dir, mode, Triple::Root),
+fn entry(alloc: Global, key: Key, dir: Dir, mode: u16) -> Result<Entry, NoMemory> {
+    let access = access(dir, mode, Triple::Root);
+    Ok(Entry {
+        key: Shared::new(alloc, key)?,
+        access: Shared::new(alloc, access)?,
         stamp: 2,
-    }
+    })
 }
 
 /// The access object of user 0's directory.
@@ -350,9 +351,9 @@ fn reply(alloc: Global, want: Want) -> Result<Reply, NoMemory> {
         Want::Denied(error) => Reply::Refused(error),
         Want::File(user) => stat(Kind::File, 0o640, user),
         Want::Folder(user) => stat(Kind::Dir, 0o750, user),
-        Want::FoundTop => found_root(),
+        Want::FoundTop => found_root(alloc)?,
         Want::FoundA => found_a(alloc)?,
-        Want::ClashOfE => Reply::Clash(birth(alloc, Dir::ShortTop, b'e', 1)?),
+        Want::ClashOfE => clash_of_e(alloc)?,
     })
 }
 
@@ -377,11 +378,8 @@ fn stat(kind: Kind, mode: u16, owner: u32) -> Reply {
 }
 
 /// The root's access object, as its server tells it.
-fn found_root() -> Reply {
-    Reply::Found {
-        key: Key::Top,
-        access: access(Dir::Top, 0o755, Triple::Root),
-    }
+fn found_root(alloc: Global) -> Result<Reply, NoMemory> {
+    found(alloc, Key::Top, access(Dir::Top, 0o755, Triple::Root))
 }
 
 /// The access object of `a`, which user 7 made in the root.
@@ -395,5 +393,17 @@ fn found_a(alloc: Global) -> Result<Reply, NoMemory> {
         group: 10,
         ..access(Dir::A, 0o750, birth(alloc, Dir::Top, b'a', 0)?)
     };
-    Ok(Reply::Found { key, access })
+    found(alloc, key, access)
+}
+
+fn found(alloc: Global, key: Key, access: Access) -> Result<Reply, NoMemory> {
+    Ok(Reply::Found {
+        key: Shared::new(alloc, key)?,
+        access: Shared::new(alloc, access)?,
+    })
+}
+
+fn clash_of_e(alloc: Global) -> Result<Reply, NoMemory> {
+    let kept = birth(alloc, Dir::ShortTop, b'e', 1)?;
+    Ok(Reply::Clash(Shared::new(alloc, kept)?))
 }

@@ -7,7 +7,7 @@ ghost use Rattle.inf_message.specs.Who.{Who as Whom, birth_of, last_id, to};
 ghost use Rattle.inf_flow_dir.specs.DirFlow.{group, message_of};
 
 use super::DirFlow;
-use inf_base::{Chain, DirRef, Id, Name, NoMemory, Triple, TryClone};
+use inf_base::{Chain, DirRef, Id, Name, NoMemory, Shared, Triple, TryClone};
 use inf_message::{Message, Request, Who, way_to};
 use std::alloc::Global;
 
@@ -92,7 +92,9 @@ fn make(
     };
     Ok(Message {
         number: who.server(id),
-        request: Request::Make { triple },
+        request: Request::Make {
+            triple: Shared::new(alloc, triple)?,
+        },
     })
 }
 

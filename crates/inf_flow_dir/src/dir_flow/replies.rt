@@ -1,39 +1,43 @@
 //! What comes of the replies to the messages of a flow.
 
-ghost use Rattle.std.specs.Prelude.{◌≡◌, ℕ, List, true, false, is_some};
+ghost use Rattle.std.specs.Prelude.{◌≡◌, ℕ, List, IfOk};
 ghost use Rattle.inf_base.specs.declared.id.Id.{Id};
 ghost use Rattle.inf_message.specs.declared.reply.Reply.TheVariants as reply;
-ghost use Rattle.inf_message.specs.Turn.{goes_on};
 ghost use Rattle.inf_message.specs.Who.{Who as Whom};
 ghost use Rattle.inf_flow_dir.specs.declared.dir_flow.DirFlow.TheVariants as step;
 ghost use Rattle.inf_flow_dir.specs.DirFlow.{after_reply};
 
 use super::DirFlow;
 use super::cleaning::{after_unlink, cancel, drops, unseal};
-use inf_base::{Answer, Chain, DirRef, Name, Place, Triple};
+use inf_base::{Answer, Chain, DirRef, Name, NoMemory, Place, Shared, Triple, TryClone};
 use inf_birth::{IdRule, identity_of};
-use inf_message::{CleanUps, Ending, NameRoom, Reply, Turn, Who, done, failed};
+use inf_message::{CleanUps, Ending, Reply, Turn, Who, done, failed};
+use std::alloc::Global;
 
 impl DirFlow {
-    /// What comes of the reply that decides the group. The room is for the triple that a clash names, and is
-    /// used up by that alone.
+    /// What comes of the reply that decides the group. Only a clash takes memory, for the two triples of its answer.
     pub fn next<R: IdRule>(
         self,
+        alloc: Global,
         rule: &R,
         who: &Who,
         ask_place: Place,
         serve_place: Place,
         reply: &Reply,
-        room: &mut Option<NameRoom>,
-    ) -> Turn<DirFlow>
-        requires room { is_some room.old ≡ true }
-        ensures turn { result ≡ after_reply (R.digest_of rule.now) who.now self ask_place serve_place reply.now }
-        ensures room { goes_on result ≡ true → is_some room.new ≡ true }
+    ) -> Result<Turn<DirFlow>, NoMemory>
+        ensures { IfOk result (λ turn.
+            turn ≡ after_reply (R.digest_of rule.now) who.now self ask_place serve_place reply.now) }
     {
         match self {
-            DirFlow::Reserves { chain, name, mode } => {
-                after_reserve(rule, who, chain, name, mode, serve_place, reply)
-            }
+            DirFlow::Reserves { chain, name, mode } => Ok(after_reserve(
+                rule,
+                who,
+                chain,
+                name,
+                mode,
+                serve_place,
+                reply,
+            )),
             DirFlow::Makes {
                 chain,
                 name,
@@ -41,7 +45,7 @@ impl DirFlow {
                 version,
                 id,
             } => match reply {
-                Reply::Fine => Turn::GoesOn(DirFlow::Links {
+                Reply::Fine => Ok(Turn::GoesOn(DirFlow::Links {
                     chain,
                     name,
                     mode,
@@ -50,17 +54,19 @@ impl DirFlow {
                         id,
                         born: ask_place,
                     },
-                }),
-                Reply::Clash(kept) => clash(who, chain, name, version, kept, serve_place, room),
-                _ => failed(
+                })),
+                Reply::Clash(kept) => clash(alloc, who, chain, name, version, kept, serve_place),
+                _ => Ok(failed(
                     CleanUps::one(cancel(who, chain.as_slice())),
                     serve_place,
                     reply,
-                ),
+                )),
             },
-            DirFlow::Links { chain, dir, .. } => after_link(who, chain, dir, serve_place, reply),
-            DirFlow::Seals(chain) => after_seal(chain, serve_place, reply),
-            DirFlow::Unlinks(chain) => after_unlinking(who, chain, serve_place, reply),
+            DirFlow::Links { chain, dir, .. } => {
+                Ok(after_link(who, chain, dir, serve_place, reply))
+            }
+            DirFlow::Seals(chain) => Ok(after_seal(chain, serve_place, reply)),
+            DirFlow::Unlinks(chain) => Ok(after_unlinking(who, chain, serve_place, reply)),
         }
     }
 }
@@ -94,30 +100,25 @@ fn after_reserve<R: IdRule>(
 
 /// Another triple has the same digest: the answer names both, and the name that was kept is given back.
 fn clash(
+    alloc: Global,
     who: &Who,
     chain: Chain,
     name: Name,
     version: u64,
-    kept: &Triple,
+    kept: &Shared<Triple>,
     place: Place,
-    room: &mut Option<NameRoom>,
-) -> Turn<DirFlow>
-    requires room { is_some room.old ≡ true }
-    ensures turn { (digest : List ℕ → Id) (mode asked : ℕ) (id : Id) → result
-        ≡ after_reply digest who.now (step.Makes chain name mode version id) asked place (reply.Clash kept.now) }
-    ensures over { goes_on result ≡ false }
+) -> Result<Turn<DirFlow>, NoMemory>
+    ensures { IfOk result (λ turn. (digest : List ℕ → Id) (mode asked : ℕ) (id : Id) → turn
+        ≡ after_reply digest who.now (step.Makes chain name mode version id) asked place (reply.Clash kept.now)) }
 {
-    let Some(room) = room.take() else {
-        unreachable!();
-    };
     let clean_ups = CleanUps::one(cancel(who, chain.as_slice()));
     let own = Triple::Of {
         parent: who.last_id(chain.as_slice()),
         name,
         version,
     };
-    let answer = Answer::IdClash(own, room.triple(kept));
-    Turn::WindsUp(Ending::Answers(answer, Some(place)), clean_ups)
+    let answer = Answer::IdClash(Shared::new(alloc, own)?, kept.try_clone(alloc)?);
+    Ok(Turn::WindsUp(Ending::Answers(answer, Some(place)), clean_ups))
 }
 
 fn after_link(who: &Who, chain: Chain, dir: DirRef, place: Place, reply: &Reply) -> Turn<DirFlow>

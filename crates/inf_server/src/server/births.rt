@@ -15,7 +15,7 @@ use super::Server;
 use crate::checks::{dir_of, is_missing, last_of, search, write};
 use crate::refusal::Refusal;
 use inf_base::{
-    Access, CallRef, Caller, Chain, DirRef, Errno, Name, NoMemory, Place, Triple, TryClone,
+    Access, CallRef, Caller, Chain, DirRef, Errno, Name, NoMemory, Place, Shared, Triple, TryClone,
 };
 use inf_birth::{IdRule, identify};
 use inf_content::Made;
@@ -94,7 +94,7 @@ impl<R: IdRule> Server<R> {
         &mut self,
         ask_place: Place,
         ask: &Ask,
-        triple: &Triple,
+        triple: &Shared<Triple>,
     ) -> Result<Reply, Refusal>
         ensures done { IfOk result (λ given. Gives self.old.state
             (make (site_of R.digest_of self.old) self.old.state ask_place ask.now triple.now) given self.new.state) }

@@ -11,31 +11,35 @@ ghost use Rattle.inf_server.specs.Server.{site_of};
 
 use super::Server;
 use crate::refusal::Refusal;
-use inf_base::{Access, CallRef, DirRef, Id, Key, Name, NoMemory, Place, Triple, TryClone};
+use inf_base::{Access, CallRef, DirRef, Id, Key, Name, NoMemory, Place, Shared, Triple, TryClone};
 use inf_birth::IdRule;
 use inf_content::Seen;
 use inf_message::{Reply, Spot};
+use std::alloc::Global;
 
 impl<R: IdRule> Server<R> {
     /// The root's access object.
-    pub(super) fn lookup_top(&self) -> Result<Access, Refusal>
-        ensures found { IfOk result (λ access.
-            lookup_top (site_of R.digest_of self.now) self.now.state
-            ≡ done (reply.Found key.Top access) self.now.state) }
+    pub(super) fn lookup_top(&self) -> Result<Reply, Refusal>
+        ensures done { IfOk result (λ given. Gives self.now.state
+            (lookup_top (site_of R.digest_of self.now) self.now.state) given self.now.state) }
         ensures refused { IfErr result (λ refusal.
             lookup_top (site_of R.digest_of self.now) self.now.state ≡ Err (reply_of refusal)) }
     {
         let Some(root) = self.root else {
             return Err(Refusal::Other);
         };
-        Ok(Access {
+        let access = Access {
             id: root.id,
             born: root.born,
             mode: 0o755,
             owner: 0,
             group: 0,
             birth: Triple::Root,
-        })
+        };
+        match told(self.alloc, Key::Top, access) {
+            Ok(reply) => Ok(reply),
+            Err(NoMemory) => Ok(Reply::NoMem),
+        }
     }
 
     /// The access object under a name of the directory of this identifier.
@@ -82,8 +86,18 @@ impl<R: IdRule> Server<R> {
             dir,
             name: name.try_clone(self.alloc)?,
         };
-        Ok(Reply::Found { key, access })
+        told(self.alloc, key, access)
     }
+}
+
+/// What a lookup is told of a directory, shared by all that keep it.
+fn told(alloc: Global, key: Key, access: Access) -> Result<Reply, NoMemory>
+    ensures { IfOk result (λ given. given ≡ reply.Found key access) }
+{
+    Ok(Reply::Found {
+        key: Shared::new(alloc, key)?,
+        access: Shared::new(alloc, access)?,
+    })
 }
 
 /// A lookup is told nothing of what is held, whoever holds it.
