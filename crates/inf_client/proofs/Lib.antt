@@ -8,5 +8,6 @@ pub mod GroupFacts
 pub mod LogTestFacts
 pub mod TestFacts
 pub mod ToldFacts
+pub mod LostFacts
 pub mod TurnRoom
 pub mod WayFacts

@@ -71,12 +71,12 @@ told_inside : (place : ℕ) (told : Told) (sent : List Sent) → sent ≢ [] →
 told_inside place told [] inside = absurd (inside refl)
 told_inside place told (x ∷ sent) inside = λ none. absurd (cc)
 
-still_here : (s : ClientState) (gone : Bool) → IsAtRest s gone → s.sent ≢ [] → gone ≡ false
+pub still_here : (s : ClientState) (gone : Bool) → IsAtRest s gone → s.sent ≢ [] → gone ≡ false
 still_here s true rest inside = absurd (inside rest.0)
 still_here s false rest inside = refl
 
 -- within a group
-ready_within : (handed : Bool) (sent : List Sent) (s : ClientState) → sent ≢ [] → ready_in handed sent s ≡ asks_left s
+pub ready_within : (handed : Bool) (sent : List Sent) (s : ClientState) → sent ≢ [] → ready_in handed sent s ≡ asks_left s
 ready_within true sent s inside = refl
 ready_within false sent s inside = ready_inside sent s inside
 

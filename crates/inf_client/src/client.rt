@@ -1,6 +1,6 @@
 //! A client of a run, which makes one call after another.
 
-ghost use Rattle.std.specs.Prelude.{◌≡◌, ◌+◌, ◌<◌, ◌≤◌, ◌^◌, true, false, length, IfOk};
+ghost use Rattle.std.specs.Prelude.{◌≡◌, ◌+◌, ◌<◌, ◌≤◌, ◌^◌, true, false, length, IfOk, OnOk};
 ghost use Rattle.inf_base.specs.declared.limits.TheConstants.{MOST_CALLS};
 ghost use Rattle.inf_base.specs.Setup.{call_count};
 ghost use Rattle.inf_client.specs.AskLog.{IsLater, asked_log, no_asks, told_log};
@@ -26,7 +26,7 @@ use std::marker::Model;
 /// lookups, and a message or two.
 const USUAL_TRIPS: usize = 4;
 
-/// A client of a run. What it is told takes no memory, nor does what winds a call up.
+/// A client of a run. What winds a call up takes no memory.
 #[derive(Drop)]
 pub struct Client {
     state: ClientState,
@@ -131,16 +131,25 @@ impl Client {
         self.is_handed = false;
     }
 
-    /// The Ask at a place was served.
-    #[tactic(auto, using(crate::proofs::ToldFacts::kept_told))]
-    pub fn told<R: IdRule>(&mut self, rule: &R, ask_place: Place, serve_place: Place, reply: Reply)
-        ensures { self.new
+    /// The Ask at a place was served. A client that lacks memory for what it is told cannot go on: the run is over.
+    #[tactic(auto, using(crate::proofs::ToldFacts::kept_told, crate::proofs::LostFacts::kept_lost))]
+    pub fn told<R: IdRule>(
+        &mut self,
+        alloc: Global,
+        rule: &R,
+        ask_place: Place,
+        serve_place: Place,
+        reply: Reply,
+    ) -> Result<(), NoMemory>
+        ensures { OnOk result (self.new
             ≡ client_with
             (served (R.digest_of rule.now) ask_place (told_reply serve_place reply) self.old.state)
-            self.old.gone (told_log ask_place (told_reply serve_place reply) self.old.log) self.old.handed }
+            self.old.gone (told_log ask_place (told_reply serve_place reply) self.old.log) self.old.handed) }
     {
-        self.state.told(rule, ask_place, serve_place, &reply);
+        self.state
+            .told(alloc, rule, ask_place, serve_place, &reply)?;
         answer(&mut self.log, ask_place, serve_place, reply);
+        Ok(())
     }
 
     /// Its own Asks that were answered, each with its answer and both places, in the order of asking.

@@ -108,10 +108,11 @@ fn waits(client: &mut Client, alloc: Global) -> bool
     }
 }
 
-fn answer_all(client: &mut Client) {
-    client.told(&WHOLE, 3, 4, Reply::Other);
-    client.told(&WHOLE, 1, 5, Reply::Other);
-    client.told(&WHOLE, 2, 6, Reply::Other);
+fn answer_all(client: &mut Client, alloc: Global) -> Result<(), NoMemory> {
+    client.told(alloc, &WHOLE, 3, 4, Reply::Other)?;
+    client.told(alloc, &WHOLE, 1, 5, Reply::Other)?;
+    client.told(alloc, &WHOLE, 2, 6, Reply::Other)?;
+    Ok(())
 }
 
 #[test]
@@ -119,7 +120,7 @@ fn a_round_is_answered_in_another_order(rt: HostRuntime) -> Result<(), Fail> {
     let mut client = open(rt.alloc())?;
     assert!(rt; asks_in_order(&mut client, rt.alloc())?);
     assert!(rt; waits(&mut client, rt.alloc()));
-    answer_all(&mut client);
+    answer_all(&mut client, rt.alloc())?;
     assert!(rt; are_trips(client.trips(), &[(0, 1, 5), (0, 2, 6), (1, 3, 4)]));
     Ok(())
 }
@@ -135,7 +136,7 @@ fn is_one_wanting(results: &[CallResult]) -> bool {
 fn an_unfinished_round_wants_memory(rt: HostRuntime) -> Result<(), Fail> {
     let mut client = open(rt.alloc())?;
     assert!(rt; asks_in_order(&mut client, rt.alloc())?);
-    client.told(&WHOLE, 1, 4, Reply::NoMem);
+    client.told(rt.alloc(), &WHOLE, 1, 4, Reply::NoMem)?;
     let results = client.into_results();
     assert!(rt; is_one_wanting(results.as_slice()));
     Ok(())

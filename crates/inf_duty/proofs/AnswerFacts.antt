@@ -1,24 +1,14 @@
--- One answer that comes in, as code keeps it: for the Ask at hand, and for the one message of a group.
-use Rattle.std.proofs.Common.{◌≡◌, ℕ, Bool, false, ◌∷◌, IsTrue, ◌↔◌, arith, ◌+◌, ◌<◌, true, List, [], length, get_or, refl, sym, ap, ◌∙◌, subst}
-use Rattle.std.proofs.Math.ListN.{set}
+-- The answer to the one message of a group, as code takes it.
+use Rattle.std.proofs.Common.{◌≡◌, ℕ, Bool, false, ◌∷◌, IsTrue, ◌↔◌, arith, ◌<◌, true, List, [], length, refl, ap, ◌∙◌}
 use Rattle.inf_duty.specs.Messages.{has_one_message}
 use Rattle.inf_duty.specs.Tally.{with_serve}
-use Rattle.inf_duty.specs.ClientState.{ClientState, Counts, Stage, compose, one_if}
+use Rattle.inf_duty.specs.ClientState.{ClientState, Counts, Stage, compose}
 use Rattle.inf_duty.specs.Turn.{recorded, served, turn_at, turned}
-use Rattle.inf_message.specs.Sent.{Sent, has_place, is_told, told_at}
+use Rattle.inf_message.specs.Sent.{has_place}
 use Rattle.inf_message.specs.declared.turn.Turn.{Turn}
 use Rattle.inf_base.specs.declared.id.Id.{Id}
 use Rattle.inf_message.specs.History.{Told}
-use Rattle.inf_duty.proofs.RecordFacts.{HasKept, keeps_more}
 use Rattle.inf_duty.proofs.TurnFacts.{alone_ends}
-
-pub keeps_answer : (place : ℕ) (told : Told) (before now : List Sent) (rooms_before rooms next_rooms : ℕ) (i : ℕ) (x y : Sent) → HasKept place told before now rooms_before rooms i
-    → i < length before → x ≡ get_or now i x → y ≡ told_at place told x → next_rooms + one_if (is_told y) ≡ rooms + one_if (is_told x)
-    → HasKept place told before (set now i y) rooms_before next_rooms (i + 1)
-keeps_answer place told before now rooms_before rooms next_rooms i x y kept within is answered took =
-    subst (λ (w : Sent). HasKept place told before (set now i w) rooms_before next_rooms (i + 1)) (sym answered)
-    (keeps_more place told before now rooms_before rooms next_rooms i x kept within is
-    (subst (λ (w : Sent). next_rooms + one_if (is_told w) ≡ rooms + one_if (is_told x)) answered took))
 
 -- the client between its two parts: the turn is taken, the Serve counted, and what follows is still to come
 pub ends_alone : (digest : List ℕ → Id) (s taken : ClientState) (counts : Counts) (t : Turn Stage) (place : ℕ) (told : Told)

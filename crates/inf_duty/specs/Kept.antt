@@ -1,5 +1,5 @@
 -- What is kept true of a client in code, and words for what its parts do.
-use Rattle.std.specs.Prelude.{◌≡◌, ℕ, ◌+◌, ◌<◌, ◌≤◌, not, Bool, true, false, List, [], ◌∷◌, length, filter, Option, Some, None, is_some, Result, Ok, Err, IfSome}
+use Rattle.std.specs.Prelude.{◌≡◌, ℕ, ◌+◌, ◌<◌, ◌≤◌, not, true, List, [], ◌∷◌, length, Option, Some, None, is_some, Result, Ok, Err, IfSome}
 use Rattle.inf_base.specs.declared.answer.Answer.{Answer}
 use Rattle.inf_base.specs.declared.call.Call.{Call}
 use Rattle.inf_base.specs.declared.call.Call.TheVariants as call
@@ -16,7 +16,7 @@ use Rattle.inf_duty.specs.Course.{next_course}
 use Rattle.inf_message.specs.declared.step.Message.{Message}
 use Rattle.inf_message.specs.declared.turn.Turn.{Turn}
 use Rattle.inf_message.specs.declared.turn.Turn.TheVariants as turn
-use Rattle.inf_message.specs.Sent.{Sent, is_told}
+use Rattle.inf_message.specs.Sent.{Sent}
 use Rattle.inf_duty.specs.Messages.{has_one_message, is_winding}
 use Rattle.inf_duty.specs.Standing.{stage_of}
 use Rattle.inf_message.specs.Who.{Who}
@@ -65,15 +65,6 @@ abbrev pub CourseFits : List Call → Standing → Option Course → Type 0
 CourseFits left (standing.Round keys) course = (is_some course ≡ true) × (course ≡ next_course left)
 CourseFits left other course = IfSome course (λ (c : Course). next_course left ≡ Some c)
 
-abbrev pub told_count : List Sent → ℕ
-told_count sent = length (filter is_told sent)
-
--- room for each answer to a round; what is kept of another takes none
-abbrev pub RoomsFit : Standing → ℕ → List Sent → Type 0
-RoomsFit (standing.Round keys) rooms sent =
-    (length keys ≤ rooms + told_count sent) × (length sent ≤ rooms + told_count sent)
-RoomsFit other rooms sent = Unit {0}
-
 -- the answer to an Ask that is alone in its group is kept nowhere: it ends the group
 pub record IsOpenAlone (who : Who) (stage : Stage) (sent : List Sent) : Type 0 where
   pub untold : (x : Sent) → sent ≡ x ∷ [] → has_one_message who stage ≡ true → x.told ≡ None
@@ -101,23 +92,14 @@ abbrev pub KnownFits : Standing → ℕ → ℕ → Type 0
 KnownFits (standing.Round keys) known capacity = known + length keys ≤ capacity
 KnownFits other known capacity = Unit {0}
 
--- a flow is under way or to come, one of whose replies may name a clash
-abbrev pub may_clash : Standing → Bool
-may_clash (standing.Round keys) = true
-may_clash (standing.Act flow) = true
-may_clash other = false
-
 pub record IsKept (who : Who) (number : ℕ) (left : List Call) (stands : Standing) (course : Option Course)
-    (known : List Known) (most_known : ℕ) (sent : List Sent) (capacity rooms : ℕ) (has_room : Bool)
-    (results most_results : ℕ) : Type 0 where
+    (known : List Known) (most_known : ℕ) (sent : List Sent) (capacity results most_results : ℕ) : Type 0 where
   -- the numbers of the calls that are left fit
   pub numbered : number + length left ≤ MOST_CALLS + 1
   pub is_of : IsOf left stands
   pub course_fits : CourseFits left stands course
   pub undecided : IsUndecided left known
   pub known_fits : KnownFits stands (length known) most_known
-  pub rooms_fit : RoomsFit stands rooms sent
-  pub clash_fits : may_clash stands ≡ true → has_room ≡ true
   pub alone : IsOpenAlone who (stage_of stands) sent
   -- the Asks of a group take no memory: those of a step are at most one for each server
   pub some_servers : 1 ≤ who.servers

@@ -1,5 +1,5 @@
 -- What comes of the answers to a group.
-use Rattle.std.specs.Prelude.{ℕ, ◌==◌, ◌&&◌, nat_lt, Bool, true, false, if◌then◌else◌, List, [], ◌∷◌, ◌++◌, length, map, Option, Some, None}
+use Rattle.std.specs.Prelude.{◌≡◌, ◌⊎◌, ℕ, ◌<◌, ◌==◌, ◌&&◌, nat_lt, Bool, true, false, if◌then◌else◌, List, [], ◌∷◌, ◌++◌, length, map, Option, Some, None}
 use Rattle.std.specs.List.{list_all}
 use Rattle.inf_base.specs.declared.answer.Answer.TheVariants as answer
 use Rattle.inf_base.specs.declared.id.Id.{Id}
@@ -111,3 +111,19 @@ told_in s told = if is_lone s then told else record told { reply = heard_in s.st
 abbrev pub served : (List ℕ → Id) → ℕ → Told → ClientState → ClientState
 served digest ask_place told s =
     if has_place ask_place s.sent then after_record digest (recorded ask_place (told_in s told) s) else s
+
+-- ---- where memory is wanting for what a client is told
+
+-- it stands where it stood; of the answer it kept nothing, or what a lookup was told
+pub record StandsStill (old new : ClientState) : Type 0 where
+  pub size : length new.sent ≡ length old.sent
+  pub same : new ≡ record old { sent = new.sent }
+
+-- its group was over, and it stands at the beginning of an attempt
+pub record StandsAtFirst (old new : ClientState) : Type 0 where
+  pub some : 0 < length old.sent
+  pub over : length old.sent ≡ length (group old.who old.stage)
+  pub same : new ≡ record old { stage = compose; sent = []; counts = new.counts }
+
+abbrev pub IsLost : ClientState → ClientState → Type 0
+IsLost old new = StandsStill old new ⊎ StandsAtFirst old new

@@ -26,7 +26,7 @@ fn follow<R: IdRule>(
 {
     state.asked(alloc, rule, own.ask_place, &own.ask)?;
     if let Some((serve_place, reply)) = &own.told {
-        state.told(rule, own.ask_place, *serve_place, reply);
+        state.told(alloc, rule, own.ask_place, *serve_place, reply)?;
     }
     Ok(())
 }

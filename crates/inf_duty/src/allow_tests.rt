@@ -7,7 +7,7 @@ ghost use Rattle.inf_base.specs.declared.limits.TheConstants.{MOST_CALLS};
 use super::*;
 use inf_base::{
     Access, Call, CallRef, Caller, Calls, Chain, ClientLine, Clients, Entry, Key, LookKey, Name,
-    NoMemory, Place, Sequence, Setup, Text, Triple,
+    NoMemory, Place, Sequence, Setup, Shared, Text, Triple,
 };
 use inf_birth::{IdRule, ShaRule};
 use inf_message::{Ask, Op, Reply, Request};
@@ -95,8 +95,8 @@ fn op(alloc: Global, call: u32) -> Result<Op, NoMemory> {
 fn chain(alloc: Global, stamp: Place) -> Result<Chain, NoMemory> {
     let mut entries = Vec::new(alloc);
     entries.push(Entry {
-        key: Key::Top,
-        access: access(),
+        key: Shared::new(alloc, Key::Top)?,
+        access: Shared::new(alloc, access())?,
         stamp,
     })?;
     Chain::new(alloc, Sequence::new(entries))
@@ -131,20 +131,20 @@ fn own(
     })
 }
 
-fn found() -> Reply {
-    Reply::Found {
-        key: Key::Top,
-        access: access(),
-    }
+fn found(alloc: Global) -> Result<Reply, NoMemory> {
+    Ok(Reply::Found {
+        key: Shared::new(alloc, Key::Top)?,
+        access: Shared::new(alloc, access())?,
+    })
 }
 
 /// The file is made, and looked up again.
 fn run(alloc: Global) -> Result<Vec<OwnAsk>, NoMemory> {
     let mut run = Vec::new(alloc);
     for (asked, ask_place, told) in [
-        (Asked::LooksUp(1, 0), 1, (2, found())),
+        (Asked::LooksUp(1, 0), 1, (2, found(alloc)?)),
         (Asked::Finishes(1, 2), 3, (4, Reply::Fine)),
-        (Asked::LooksUp(2, 0), 5, (6, found())),
+        (Asked::LooksUp(2, 0), 5, (6, found(alloc)?)),
     ] {
         run.push(own(alloc, asked, ask_place, Some(told))?)?;
     }

@@ -19,14 +19,13 @@ use crate::standing::Standing;
 use crate::tally::Tally;
 use inf_base::{Answer, Call, CallRef, Caller, ClientLine, NoMemory, Place, Setup, TryClone};
 use inf_birth::IdRule;
-use inf_message::{CallResult, NameRoom, ReplyRoom, Sending, Who};
+use inf_message::{CallResult, Sending, Who};
 use inf_resolve::Known;
 use std::alloc::Global;
 use std::collections::VecDeque;
 use std::marker::Model;
 
-/// A client of a script, which asks for one call after another. Its answers take no memory: what they need was made
-/// ready before the Asks.
+/// A client of a script, which asks for one call after another.
 #[derive(Drop)]
 pub struct ClientState {
     who: Who,
@@ -37,16 +36,12 @@ pub struct ClientState {
     course: Option<Course>,
     known: Vec<Known>,
     sent: Vec<Sending>,
-    /// For the answers that are still to come.
-    rooms: Vec<ReplyRoom>,
-    /// For the triple that a clash names.
-    clash_room: Option<NameRoom>,
     counts: Tally,
     results: Vec<CallResult>,
 }
 
 impl Model for ClientState {
-    ghost use Rattle.std.specs.Prelude.{is_some, vec_len, vec_capacity};
+    ghost use Rattle.std.specs.Prelude.{vec_len, vec_capacity};
     ghost use Rattle.inf_duty.specs.Kept.{IsKept};
     ghost use Rattle.inf_duty.specs.Standing.{stage_of};
     ghost use Rattle.inf_duty.specs.ClientState.{ClientState};
@@ -65,8 +60,7 @@ impl Model for ClientState {
     } };
 
     ghost invariant = { λ c. IsKept c.who c.number c.left.items c.stands c.course c.known.items (vec_capacity c.known)
-        c.sent.items (vec_capacity c.sent) (vec_len c.rooms) (is_some c.clash_room) (vec_len c.results)
-        (vec_capacity c.results) };
+        c.sent.items (vec_capacity c.sent) (vec_len c.results) (vec_capacity c.results) };
 }
 
 impl ClientState {
@@ -109,8 +103,6 @@ impl ClientState {
             course: None,
             known: Vec::new(alloc),
             sent,
-            rooms: Vec::new(alloc),
-            clash_room: None,
             counts: Tally::new(),
             results,
         })

@@ -1,15 +1,14 @@
 //! A flow under way: its messages one after another, and what is cleaned up where one does not succeed.
 
-ghost use Rattle.std.specs.Prelude.{◌≡◌, true, is_some, length, slice_get, IfOk};
+ghost use Rattle.std.specs.Prelude.{◌≡◌, length, slice_get, IfOk};
 ghost use Rattle.inf_duty.specs.Flow.{after_act, after_reply, clean_up, messages_of};
-ghost use Rattle.inf_message.specs.Turn.{goes_on};
 ghost use Rattle.inf_message.specs.Who.{Who as Whom};
 
 use inf_base::{NoMemory, Place};
 use inf_birth::IdRule;
 use inf_flow_dir::DirFlow;
 use inf_flow_file::FileFlow;
-use inf_message::{CleanUps, Message, NameRoom, Reply, Sending, Turn, Who, again, deciding};
+use inf_message::{CleanUps, Message, Reply, Sending, Turn, Who, again, deciding};
 use std::alloc::Global;
 
 /// The step of a call that is next, or waited for, by the kind of its flow.
@@ -55,29 +54,30 @@ impl Flow {
         }
     }
 
-    /// What comes of the reply that decides the step. The room is for the triple that a clash names.
+    /// What comes of the reply that decides the step.
     pub fn next<R: IdRule>(
         self,
+        alloc: Global,
         rule: &R,
         who: &Who,
         ask_place: Place,
         serve_place: Place,
         reply: &Reply,
-        room: &mut Option<NameRoom>,
-    ) -> Turn<Flow>
-        requires room { is_some room.old ≡ true }
-        ensures turn { result ≡ after_reply (R.digest_of rule.now) who.now self ask_place serve_place reply.now }
-        ensures room { goes_on result ≡ true → is_some room.new ≡ true }
+    ) -> Result<Turn<Flow>, NoMemory>
+        ensures { IfOk result (λ turn.
+            turn ≡ after_reply (R.digest_of rule.now) who.now self ask_place serve_place reply.now) }
     {
         match self {
             Flow::File(step) => match step.next(serve_place, reply) {
-                Turn::GoesOn(next) => Turn::GoesOn(Flow::File(next)),
-                Turn::WindsUp(ending, more) => Turn::WindsUp(ending, more),
+                Turn::GoesOn(next) => Ok(Turn::GoesOn(Flow::File(next))),
+                Turn::WindsUp(ending, more) => Ok(Turn::WindsUp(ending, more)),
             },
-            Flow::Dir(step) => match step.next(rule, who, ask_place, serve_place, reply, room) {
-                Turn::GoesOn(next) => Turn::GoesOn(Flow::Dir(next)),
-                Turn::WindsUp(ending, more) => Turn::WindsUp(ending, more),
-            },
+            Flow::Dir(step) => {
+                match step.next(alloc, rule, who, ask_place, serve_place, reply)? {
+                    Turn::GoesOn(next) => Ok(Turn::GoesOn(Flow::Dir(next))),
+                    Turn::WindsUp(ending, more) => Ok(Turn::WindsUp(ending, more)),
+                }
+            }
         }
     }
 
@@ -85,23 +85,21 @@ impl Flow {
     #[tactic(auto, using(crate::proofs::FlowFacts::after_decided, crate::proofs::FlowFacts::after_untold, crate::proofs::FlowFacts::after_none))]
     pub fn after<R: IdRule>(
         self,
+        alloc: Global,
         rule: &R,
         who: &Who,
         sent: &[Sending],
-        room: &mut Option<NameRoom>,
-    ) -> Turn<Flow>
-        requires room { is_some room.old ≡ true }
-        ensures turn { result ≡ after_act (R.digest_of rule.now) who.now self sent.now }
-        ensures room { goes_on result ≡ true → is_some room.new ≡ true }
+    ) -> Result<Turn<Flow>, NoMemory>
+        ensures { IfOk result (λ turn. turn ≡ after_act (R.digest_of rule.now) who.now self sent.now) }
     {
         let Some(sending) = deciding(sent) else {
-            return again();
+            return Ok(again());
         };
         match sending.told() {
-            None => again(),
+            None => Ok(again()),
             Some(told) => {
                 let (place, reply) = (told.serve_place(), told.reply());
-                self.next(rule, who, sending.place(), place, reply, room)
+                self.next(alloc, rule, who, sending.place(), place, reply)
             }
         }
     }

@@ -124,6 +124,7 @@ impl<R: IdRule> Run<R> {
         let Run { mut parts } = self;
         let inner = parts.as_mut();
         serve(
+            inner.alloc,
             &mut inner.core,
             &mut inner.clients[posting.client as usize],
             posting,

@@ -11,10 +11,12 @@ use inf_base::NoMemory;
 use inf_birth::IdRule;
 use inf_client::Client;
 use inf_core::Core;
+use std::alloc::Global;
 
-#[tactic(auto, using(crate::proofs::ServeFacts::waiting_asked, crate::proofs::ServeFacts::has_served))]
 /// The server of an Ask that waits serves it, and the client that made it is told.
+#[tactic(auto, using(crate::proofs::ServeFacts::waiting_asked, crate::proofs::ServeFacts::has_served))]
 pub fn serve<R: IdRule>(
+    alloc: Global,
     core: &mut Core<R>,
     client: &mut Client,
     posting: Posting,
@@ -28,6 +30,6 @@ pub fn serve<R: IdRule>(
 {
     let rule = core.rule();
     let (place, reply) = core.serve(posting.place)?;
-    client.told(&rule, posting.place, place, reply);
+    client.told(alloc, &rule, posting.place, place, reply)?;
     Ok(())
 }

@@ -12,7 +12,6 @@ use super::ClientState;
 use crate::course::Course;
 use crate::flow::Flow;
 use crate::group::{is_compose, is_round};
-use crate::recording::{make_clash_room, make_rooms};
 use crate::standing::Standing;
 use inf_base::{LookKeys, NoMemory, Place};
 use inf_birth::IdRule;
@@ -49,8 +48,8 @@ impl ClientState {
         }
     }
 
-    /// A round of these keys is next, whose Asks and answers take no memory then.
-    fn open_round(&mut self, alloc: Global, keys: LookKeys, course: Course) -> Result<(), NoMemory>
+    /// A round of these keys is next, whose Asks and answers find room then.
+    fn open_round(&mut self, keys: LookKeys, course: Course) -> Result<(), NoMemory>
         requires between { self.old.sent ≡ [] }
         requires stage { is_compose self.old.stage ≡ true }
         requires course { next_course self.old.left ≡ Some course }
@@ -58,8 +57,6 @@ impl ClientState {
         ensures ok { OnOk result (self.new ≡ record self.old { stage = round keys }) }
         ensures err { OnErr result (self.new ≡ self.old) }
     {
-        make_rooms(alloc, &mut self.rooms, keys.len())?;
-        make_clash_room(alloc, &mut self.clash_room)?;
         self.known.reserve(keys.len())?;
         self.sent.reserve(keys.len())?;
         self.course = Some(course);
@@ -67,17 +64,14 @@ impl ClientState {
         Ok(())
     }
 
-    /// The first step of a flow is next, whose answers take no memory then.
-    fn open_flow(&mut self, alloc: Global, flow: Flow) -> Result<(), NoMemory>
+    /// The first step of a flow is next.
+    fn open_flow(&mut self, flow: Flow)
         requires between { self.old.sent ≡ [] }
         requires stage { is_compose self.old.stage ≡ true }
         requires course { is_some (next_course self.old.left) ≡ true }
-        ensures ok { OnOk result (self.new ≡ record self.old { stage = act flow }) }
-        ensures err { OnErr result (self.new ≡ self.old) }
+        ensures { self.new ≡ record self.old { stage = act flow } }
     {
-        make_clash_room(alloc, &mut self.clash_room)?;
         self.stands = Standing::Act(flow);
-        Ok(())
     }
 
     /// What is asked for next is settled, where nothing is yet.
@@ -99,11 +93,12 @@ impl ClientState {
             .looked
             .resolve(alloc, rule, &root, self.known.as_slice())?
         {
-            Resolved::Asks(keys) => self.open_round(alloc, keys, course),
-            Resolved::Leads(old, _) => self.open_flow(alloc, course.deed.begin(old)),
+            Resolved::Asks(keys) => self.open_round(keys, course)?,
+            Resolved::Leads(old, _) => self.open_flow(course.deed.begin(old)),
             Resolved::IsBusy(_, _) => unreachable!(),
             Resolved::Lacks => unreachable!(),
         }
+        Ok(())
     }
 
     /// Gives up the calls before the one of this number, up to one that may not be given up, or that cleans up first.
@@ -165,12 +160,11 @@ impl ClientState {
 
     /// An Ask more, which may take memory.
     #[tactic(auto, using(crate::proofs::RecordFacts::open_placed))]
-    fn place(&mut self, alloc: Global, place: Place) -> Result<(), NoMemory>
+    fn place(&mut self, place: Place) -> Result<(), NoMemory>
         requires { self.old.counts.messages + 1 < 2 ^ 64 }
         ensures { OnOk result (self.new ≡ placed place self.old) }
     {
         let begins_round = is_round(&self.stands) && self.sent.is_empty();
-        make_rooms(alloc, &mut self.rooms, self.sent.len() + 1)?;
         self.sent.push(Sending::new(place))?;
         self.counts.count_ask(place, begins_round);
         Ok(())
@@ -189,6 +183,6 @@ impl ClientState {
         ensures { OnOk result (self.new ≡ asked (R.digest_of rule.now) place ask.now self.old) }
     {
         self.begin(alloc, rule, ask)?;
-        self.place(alloc, place)
+        self.place(place)
     }
 }

@@ -1,16 +1,16 @@
 //! What a client makes of what it is told.
 
-ghost use Rattle.std.specs.Prelude.{ℕ, List, ◌≡◌, ◌==◌, ◌&&◌, ◌<◌, [], true, false, length, is_some};
+ghost use Rattle.std.specs.Prelude.{ℕ, List, ◌≡◌, ◌==◌, ◌&&◌, ◌<◌, [], true, false, length, is_some, IfOk, OnOk, OnErr};
 ghost use Rattle.inf_base.specs.declared.id.Id.{Id};
 ghost use Rattle.inf_duty.specs.Messages.{has_one_message};
 ghost use Rattle.inf_message.specs.declared.turn.Turn.TheVariants as turn;
 ghost use Rattle.inf_duty.specs.ClientState.{act, begins_again, compose, finished, is_round, wound};
 ghost use Rattle.inf_duty.specs.Course.{next_course};
-ghost use Rattle.inf_duty.specs.Turn.{is_complete, is_lone, recorded, served, settled, turn_at, turned};
+ghost use Rattle.inf_duty.specs.Turn.{IsLost, StandsAtFirst, StandsStill, is_complete, is_lone, recorded, served, settled, turn_at, turned};
 ghost use Rattle.inf_duty.specs.Kept.{AreFew, WindsFew};
 ghost use Rattle.inf_message.specs.Heard.{heard, light};
 ghost use Rattle.inf_message.specs.Sent.{has_place};
-ghost use Rattle.inf_message.specs.Turn.{goes_on, turn_as};
+ghost use Rattle.inf_message.specs.Turn.{turn_as};
 ghost use Rattle.inf_message.specs.History.{told_reply};
 
 use super::ClientState;
@@ -19,10 +19,11 @@ use crate::group::is_round;
 use crate::learning::{learn, verdict};
 use crate::recording::{record_answer, record_light};
 use crate::standing::Standing;
-use inf_base::{Answer, Place};
+use inf_base::{Answer, NoMemory, Place};
 use inf_birth::IdRule;
-use inf_message::{CleanUps, Ending, NameRoom, Reply, Turn, are_told, has_place, is_one_wanting};
+use inf_message::{CleanUps, Ending, Reply, Turn, are_told, has_place, is_one_wanting};
 use inf_resolve::Verdict;
+use std::alloc::Global;
 use std::mem;
 
 impl ClientState {
@@ -63,31 +64,23 @@ impl ClientState {
     }
 
     /// The next step of the attempt.
-    fn go_on(&mut self, flow: Flow, room: Option<NameRoom>)
+    fn go_on(&mut self, flow: Flow)
         requires call { is_some (next_course self.old.left) ≡ true }
-        requires room { is_some room ≡ true }
         ensures { self.new ≡ turned (turn.GoesOn (act flow)) self.old }
     {
         self.stands = Standing::Act(flow);
-        self.clash_room = room;
         self.sent.clear();
     }
 
-    /// What comes of a turn, with the room that it has left for the triple of a clash.
-    fn follow(&mut self, turn: Turn<Flow>, room: Option<NameRoom>)
+    /// What comes of a turn.
+    fn follow(&mut self, turn: Turn<Flow>)
         requires call { is_some (next_course self.old.left) ≡ true }
-        requires room { goes_on turn ≡ true → is_some room ≡ true }
         requires few { WindsFew self.old.who.servers turn }
         ensures { self.new ≡ turned (turn_as act turn) self.old }
     {
         match turn {
-            Turn::GoesOn(flow) => self.go_on(flow, room),
-            Turn::WindsUp(ending, more) => {
-                if room.is_some() {
-                    self.clash_room = room;
-                }
-                self.wind(ending, more);
-            }
+            Turn::GoesOn(flow) => self.go_on(flow),
+            Turn::WindsUp(ending, more) => self.wind(ending, more),
         }
     }
 
@@ -95,32 +88,30 @@ impl ClientState {
     #[tactic(auto, using(crate::proofs::TurnFacts::alone_turn, crate::proofs::FewFacts::reply_few))]
     fn take_answer<R: IdRule>(
         &mut self,
+        alloc: Global,
         rule: &R,
         ask_place: Place,
         serve_place: Place,
         reply: &Reply,
-    ) -> (Turn<Flow>, Option<NameRoom>)
+    ) -> Result<Turn<Flow>, NoMemory>
         requires alone { length self.old.sent ≡ 1 }
         requires here { has_place ask_place self.old.sent ≡ true }
         requires stage { has_one_message self.old.who self.old.stage ≡ true }
-        ensures few { WindsFew self.old.who.servers result.0 }
-        ensures turn { turn_as act result.0
+        ensures few { IfOk result (λ turn. WindsFew self.old.who.servers turn) }
+        ensures turn { IfOk result (λ turn. turn_as act turn
             ≡ turn_at (R.digest_of rule.now) (recorded ask_place (told_reply serve_place reply.now) self.old)
-            self.old.stage }
-        ensures room { goes_on result.0 ≡ true → is_some result.1 ≡ true }
+            self.old.stage) }
         ensures after { self.new ≡ record self.old { stage = compose; sent = [] } }
         ensures call { is_some (next_course self.old.left) ≡ true }
     {
         self.sent.clear();
-        let mut room = self.clash_room.take();
-        let turn = match mem::replace(&mut self.stands, Standing::Compose) {
+        match mem::replace(&mut self.stands, Standing::Compose) {
             Standing::Act(flow) => {
-                flow.next(rule, &self.who, ask_place, serve_place, reply, &mut room)
+                flow.next(alloc, rule, &self.who, ask_place, serve_place, reply)
             }
-            Standing::Winds(ending, _, rest) => Turn::WindsUp(ending, rest),
+            Standing::Winds(ending, _, rest) => Ok(Turn::WindsUp(ending, rest)),
             _ => unreachable!(),
-        };
-        (turn, room)
+        }
     }
 
     /// Whether a group of one message, and no round, waits for its answer.
@@ -137,18 +128,21 @@ impl ClientState {
     }
 
     /// Keeps the answer of a lookup.
-    fn record_lookup(&mut self, ask_place: Place, serve_place: Place, reply: &Reply)
+    fn record_lookup(
+        &mut self,
+        alloc: Global,
+        ask_place: Place,
+        serve_place: Place,
+        reply: &Reply,
+    ) -> Result<(), NoMemory>
         requires { is_round self.old.stage ≡ true }
-        ensures { self.new ≡ recorded ask_place (told_reply serve_place (heard reply.now)) self.old }
+        ensures ok { OnOk result (
+            self.new ≡ recorded ask_place (told_reply serve_place (heard reply.now)) self.old) }
+        ensures err { OnErr result (StandsStill self.old self.new) }
     {
+        record_answer(alloc, &mut self.sent, ask_place, serve_place, reply)?;
         self.counts.count_serve(serve_place);
-        record_answer(
-            &mut self.sent,
-            &mut self.rooms,
-            ask_place,
-            serve_place,
-            reply,
-        );
+        Ok(())
     }
 
     /// Keeps the answer of a message that was sent with others.
@@ -165,20 +159,23 @@ impl ClientState {
     #[tactic(auto, using(crate::proofs::TurnFacts::alone_ends))]
     fn end_alone<R: IdRule>(
         &mut self,
+        alloc: Global,
         rule: &R,
         ask_place: Place,
         serve_place: Place,
         reply: &Reply,
-    )
+    ) -> Result<(), NoMemory>
         requires alone { length self.old.sent ≡ 1 }
         requires here { has_place ask_place self.old.sent ≡ true }
         requires stage { has_one_message self.old.who self.old.stage ≡ true }
-        ensures { self.new
-            ≡ served (R.digest_of rule.now) ask_place (told_reply serve_place reply.now) self.old }
+        ensures ok { OnOk result (self.new
+            ≡ served (R.digest_of rule.now) ask_place (told_reply serve_place reply.now) self.old) }
+        ensures err { OnErr result (StandsAtFirst self.old self.new) }
     {
-        let (turn, room) = self.take_answer(rule, ask_place, serve_place, reply);
+        let turn = self.take_answer(alloc, rule, ask_place, serve_place, reply)?;
         self.counts.count_serve(serve_place);
-        self.follow(turn, room);
+        self.follow(turn);
+        Ok(())
     }
 
     /// A round that is over joins what is known; or want of memory, or a change in the way, ends the call.
@@ -211,60 +208,70 @@ impl ClientState {
 
     /// What comes of the answers to several messages that are no round.
     #[tactic(auto, using(crate::proofs::TurnFacts::over_is_settled, crate::proofs::FewFacts::act_few))]
-    fn take_answers<R: IdRule>(&mut self, rule: &R) -> (Turn<Flow>, Option<NameRoom>)
+    fn take_answers<R: IdRule>(&mut self, alloc: Global, rule: &R) -> Result<Turn<Flow>, NoMemory>
         requires some { 0 < length self.old.sent }
         requires complete { is_complete self.old ≡ true }
         requires stage { is_round self.old.stage ≡ false }
-        ensures turn { turn_as act result.0 ≡ turn_at (R.digest_of rule.now) self.old self.old.stage }
-        ensures few { WindsFew self.old.who.servers result.0 }
-        ensures room { goes_on result.0 ≡ true → is_some result.1 ≡ true }
+        ensures turn { IfOk result (λ turn. turn_as act turn ≡ turn_at (R.digest_of rule.now) self.old self.old.stage) }
+        ensures few { IfOk result (λ turn. WindsFew self.old.who.servers turn) }
         ensures after { self.new ≡ record self.old { stage = compose; sent = [] } }
         ensures call { is_some (next_course self.old.left) ≡ true }
     {
-        let mut room = self.clash_room.take();
         let turn = match mem::replace(&mut self.stands, Standing::Compose) {
-            Standing::Act(flow) => flow.after(rule, &self.who, self.sent.as_slice(), &mut room),
-            Standing::Winds(ending, _, rest) => Turn::WindsUp(ending, rest),
+            Standing::Act(flow) => flow.after(alloc, rule, &self.who, self.sent.as_slice()),
+            Standing::Winds(ending, _, rest) => Ok(Turn::WindsUp(ending, rest)),
             _ => unreachable!(),
         };
         self.sent.clear();
-        (turn, room)
+        turn
     }
 
     /// The answers to several messages that are no round end the group.
-    fn end_step<R: IdRule>(&mut self, rule: &R)
+    fn end_step<R: IdRule>(&mut self, alloc: Global, rule: &R) -> Result<(), NoMemory>
         requires some { 0 < length self.old.sent }
         requires complete { is_complete self.old ≡ true }
         requires stage { is_round self.old.stage ≡ false }
-        ensures { self.new ≡ settled (R.digest_of rule.now) true self.old }
+        ensures ok { OnOk result (self.new ≡ settled (R.digest_of rule.now) true self.old) }
+        ensures err { OnErr result (StandsAtFirst self.old self.new) }
     {
-        let (turn, room) = self.take_answers(rule);
-        self.follow(turn, room);
+        let turn = self.take_answers(alloc, rule)?;
+        self.follow(turn);
+        Ok(())
     }
 
-    /// The Ask at a place was served. Only an Ask of the present group is waited for.
+    /// The Ask at a place was served. Only an Ask of the present group is waited for. A client that lacks memory for
+    /// what it is told cannot go on.
     #[tactic(auto, using(crate::proofs::TurnFacts::some_sent, crate::proofs::TurnFacts::lookup_told, crate::proofs::TurnFacts::other_told))]
-    pub fn told<R: IdRule>(&mut self, rule: &R, ask_place: Place, serve_place: Place, reply: &Reply)
-        ensures { self.new
-            ≡ served (R.digest_of rule.now) ask_place (told_reply serve_place reply.now) self.old }
+    pub fn told<R: IdRule>(
+        &mut self,
+        alloc: Global,
+        rule: &R,
+        ask_place: Place,
+        serve_place: Place,
+        reply: &Reply,
+    ) -> Result<(), NoMemory>
+        ensures ok { OnOk result (self.new
+            ≡ served (R.digest_of rule.now) ask_place (told_reply serve_place reply.now) self.old) }
+        ensures err { OnErr result (IsLost self.old self.new) }
     {
         if !has_place(self.sent.as_slice(), ask_place) {
-            return;
+            return Ok(());
         }
         if is_round(&self.stands) {
-            self.record_lookup(ask_place, serve_place, reply);
+            self.record_lookup(alloc, ask_place, serve_place, reply)?;
             if self.is_complete() {
                 self.end_round();
             }
-            return;
+            return Ok(());
         }
         if self.is_alone() {
-            self.end_alone(rule, ask_place, serve_place, reply);
-            return;
+            self.end_alone(alloc, rule, ask_place, serve_place, reply)?;
+            return Ok(());
         }
         self.record_other(ask_place, serve_place, reply);
         if self.is_complete() {
-            self.end_step(rule);
+            self.end_step(alloc, rule)?;
         }
+        Ok(())
     }
 }

@@ -5,10 +5,10 @@ use Rattle.inf_message.specs.Turn.{turn_as}
 use Rattle.inf_duty.proofs.AnswerFacts.{ends_alone}
 use Rattle.inf_duty.proofs.client_state.ClientState.end_alone.Goals as goal
 
-pub returns : goal.returns
-returns g c =
+pub returns-clause-ok : goal.returns-clause-ok
+returns-clause-ok g c =
     c.follow.ensures
     ∙ ends_alone (g.R.IdRule.digest_of c.args.rule.now) c.args.self.now _ c.count_serve.new.self
-    (turn_as act c.take_answer-turn.result.0)
+    (turn_as act c.in_ok-turn.turn)
     c.args.ask_place (told_reply c.args.serve_place c.args.reply.now) c.requires.alone c.requires.here c.requires.stage
-    c.take_answer-turn.ensures.turn (c.self.view_is ∙ c.take_answer-turn.ensures.after) c.count_serve.ensures
+    c.in_ok-turn.ensures.turn (c.self.view_is ∙ c.take_answer.ensures.after) c.count_serve.ensures

@@ -1,7 +1,6 @@
-use Rattle.std.proofs.Common.{length, ap, ◌∙◌}
-use Rattle.std.proofs.lemmas.List.{length-map}
+use Rattle.std.proofs.Common.{ap, ◌∙◌}
 use Rattle.inf_duty.specs.ClientState.{ClientState, is_round}
-use Rattle.inf_duty.proofs.RecordFacts.{fits_recorded, open_round}
+use Rattle.inf_duty.proofs.RecordFacts.{open_round}
 use Rattle.inf_duty.specs.Standing.{stage_of}
 use Rattle.inf_duty.proofs.client_state.ClientState.record_lookup.Goals as goal
 
@@ -14,9 +13,6 @@ invariant_of-self c =
       course_fits = kept.course_fits;
       undecided = kept.undecided;
       known_fits = kept.known_fits;
-      rooms_fit = fits_recorded c.self.inside.stands _ _ _ _ (ap length c.record_answer.ensures.told ∙ length-map _ _) c.record_answer.ensures.rooms
-          kept.rooms_fit;
-      clash_fits = kept.clash_fits;
       alone = open_round c.self.inside.who (stage_of c.self.inside.stands) _ (ap (λ (s : ClientState). is_round s.stage) c.self.view_is ∙ c.requires);
       some_servers = kept.some_servers;
       steps_fit = kept.steps_fit;
