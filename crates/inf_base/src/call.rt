@@ -4,6 +4,7 @@ ghost use Rattle.std.specs.Prelude.{◌≡◌, IfOk};
 
 use crate::memory::{NoMemory, TryClone};
 use crate::sequence::Sequence;
+use crate::shared::Shared;
 use crate::text::Text;
 use std::alloc::Global;
 
@@ -21,8 +22,9 @@ pub enum Call {
     Rename { old: Text, new: Text },
 }
 
-/// The calls of a client, in the order in which it makes them.
-pub type Calls = Sequence<Call>;
+/// The calls of a client, in the order in which it makes them. The script that tells them and the client that makes
+/// them share them.
+pub type Calls = Shared<Sequence<Call>>;
 
 impl TryClone for Call {
     fn try_clone(&self, alloc: Global) -> Result<Self, NoMemory> {

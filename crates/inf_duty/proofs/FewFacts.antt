@@ -1,7 +1,6 @@
 -- Each step that winds a call up has a message at most for each server.
-use Rattle.std.proofs.Common.{ℕ, ◌≤◌, List, [], ◌∷◌, length, Option, Some, None, refl, sym, subst, arith}
+use Rattle.std.proofs.Common.{ℕ, ◌≤◌, List, [], ◌∷◌, length, Some, refl, subst, arith}
 use Rattle.inf_base.specs.declared.id.Id.{Id}
-use Rattle.inf_message.specs.declared.op.Op.TheVariants as op
 use Rattle.inf_message.specs.declared.reply.Reply.{Reply}
 use Rattle.inf_message.specs.declared.reply.Reply.TheVariants as reply
 use Rattle.inf_message.specs.declared.request.Request.TheVariants as request
@@ -10,16 +9,11 @@ use Rattle.inf_message.specs.declared.turn.Turn.{Turn}
 use Rattle.inf_message.specs.declared.turn.Turn.TheVariants as turn
 use Rattle.inf_message.specs.Chain.{last_dir, last_entry, way_to}
 use Rattle.inf_message.specs.CleanUp.{one_by_one}
-use Rattle.inf_message.specs.History.{Told}
-use Rattle.inf_message.specs.Sent.{Sent, deciding}
-use Rattle.inf_message.specs.Turn.{after_deciding, fails, turn_as}
+use Rattle.inf_message.specs.Sent.{Sent}
 use Rattle.inf_message.specs.Who.{Who, last_id, lift}
 use Rattle.inf_flow_dir.specs.declared.dir_flow.DirFlow.{DirFlow}
 use Rattle.inf_flow_dir.specs.declared.dir_flow.DirFlow.TheVariants as dir_flow
 use Rattle.inf_flow_dir.specs.DirFlow.{after as after_dir, after_reply as dir_reply, clean_up as dir_clean_up, row_of}
-use Rattle.inf_flow_file.specs.declared.file_flow.FileFlow.{FileFlow}
-use Rattle.inf_flow_file.specs.declared.file_flow.FileFlow.TheVariants as file_flow
-use Rattle.inf_flow_file.specs.FileFlow.{after_reply as file_reply}
 use Rattle.inf_duty.specs.declared.flow.Flow.{Flow}
 use Rattle.inf_duty.specs.declared.flow.Flow.TheVariants as flow
 use Rattle.inf_duty.specs.declared.standing.Standing.{Standing}

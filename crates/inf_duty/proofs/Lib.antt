@@ -6,6 +6,7 @@ pub mod CourseFacts
 pub mod FewFacts
 pub mod FlowFacts
 pub mod KeepsFacts
+pub mod LeftFacts
 pub mod OwnFacts
 pub mod PostFacts
 pub mod RecordFacts

@@ -1,19 +1,34 @@
 -- The messages of a group, and the asks that send them, by their index.
-use Rattle.std.proofs.Common.{◌≡◌, ℕ, zero, suc, ◌+◌, ◌<◌, List, [], ◌∷◌, ◌++◌, length, map, take, slice_get, Some, None, refl, sym, ap, ◌∙◌, arith}
+use Rattle.std.proofs.Common.{◌≡◌, ℕ, zero, suc, ◌+◌, ◌<◌, ◌≤◌, List, [], ◌∷◌, ◌++◌, length, map, drop, take, slice_get, Some, None, refl, sym, ap, ◌∙◌, arith}
 
-pub posts_more : {A B : Type 0} (f : A → B) (xs : List A) (i : ℕ) (x : A) → slice_get xs i ≡ Some x
-    → map f (take i xs) ++ f x ∷ [] ≡ map f (take (i + 1) xs)
-posts_more f [] i x at = absurd cc
-posts_more f (y ∷ xs) zero x at = let same : y ≡ x = cc in ap (λ z. f z ∷ []) (sym same)
-posts_more f (y ∷ xs) (suc i) x at =
+-- what stands behind the first, up to an index
+take_more : {A : Type 0} (xs : List A) (i : ℕ) (x : A) → slice_get xs i ≡ Some x → take i xs ++ x ∷ [] ≡ take (i + 1) xs
+take_more [] i x at = absurd cc
+take_more (y ∷ xs) zero x at = let same : y ≡ x = cc in ap (λ z. z ∷ []) (sym same)
+take_more (y ∷ xs) (suc i) x at =
     let later : suc (i + 1) ≡ suc i + 1 = omega arith in
-    ap (λ zs. f y ∷ zs) (posts_more f xs i x at) ∙ ap (λ (n : ℕ). map f (take n (y ∷ xs))) later
+    ap (λ zs. y ∷ zs) (take_more xs i x at) ∙ ap (λ (n : ℕ). take n (y ∷ xs)) later
 
-pub posts_all : {A B : Type 0} (f : A → B) (xs : List A) (i : ℕ) → i ≡ length xs → map f (take i xs) ≡ map f xs
-posts_all f [] zero all = refl
-posts_all f [] (suc i) all = refl
-posts_all f (y ∷ xs) zero all = absurd (omega (arith, all))
-posts_all f (y ∷ xs) (suc i) all = ap (λ zs. f y ∷ zs) (posts_all f xs i (omega (arith, all)))
+pub none_behind : {A : Type 0} (xs : List A) → [] ≡ drop 1 (take 1 xs)
+none_behind [] = refl
+none_behind (x ∷ xs) = refl
+
+pub behind_more : {A : Type 0} (xs : List A) (i : ℕ) (x : A) → 1 ≤ i → slice_get xs i ≡ Some x
+    → drop 1 (take i xs) ++ x ∷ [] ≡ drop 1 (take (i + 1) xs)
+behind_more [] i x some at = absurd cc
+behind_more (y ∷ xs) zero x some at = absurd (omega (arith, some))
+behind_more (y ∷ xs) (suc i) x some at =
+    let later : suc (i + 1) ≡ suc i + 1 = omega arith in
+    take_more xs i x at ∙ ap (λ (n : ℕ). drop 1 (take n (y ∷ xs))) later
+
+pub behind_all : {A : Type 0} (xs : List A) (i : ℕ) → i ≡ length xs → drop 1 (take i xs) ≡ drop 1 xs
+behind_all xs i all = ap (drop 1) (take_all xs i all)
+  where
+    take_all : {A : Type 0} (xs : List A) (i : ℕ) → i ≡ length xs → take i xs ≡ xs
+    take_all [] zero all = refl
+    take_all [] (suc i) all = refl
+    take_all (y ∷ xs) zero all = absurd (omega (arith, all))
+    take_all (y ∷ xs) (suc i) all = ap (λ zs. y ∷ zs) (take_all xs i (omega (arith, all)))
 
 pub there_is : {A : Type 0} (xs : List A) (i : ℕ) → i < length xs → slice_get xs i ≡ None → ⊥
 there_is [] i within none = omega (arith, within)

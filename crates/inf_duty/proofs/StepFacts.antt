@@ -8,7 +8,7 @@ use Rattle.inf_base.specs.declared.call.Call.{Call}
 use Rattle.inf_base.specs.declared.key.LookKey.{LookKey}
 use Rattle.inf_duty.specs.ClientStep.{is_ask}
 use Rattle.inf_duty.specs.Duty.{asks, has_ask, has_message, is_over, next_in, next_of, next_step, waits}
-use Rattle.inf_duty.specs.Kept.{IsOf, IsUndecided}
+use Rattle.inf_duty.specs.Kept.{CourseFits, IsOf, IsUndecided}
 use Rattle.inf_duty.specs.Messages.{are_none, is_compose, post_of}
 use Rattle.inf_duty.specs.Standing.{stage_of}
 use Rattle.inf_duty.specs.declared.standing.Standing.{Standing}
@@ -78,6 +78,23 @@ composed_there digest s compose undecided built some none = (course_asks digest 
 composed_there digest s (round keys) undecided built some none = some_first (group s.who (round keys)) some none
 composed_there digest s (act flow) undecided built some none = some_first (group s.who (act flow)) some none
 composed_there digest s (winds ending ms later) undecided built some none = some_first (group s.who (winds ending ms later)) some none
+
+-- what is settled is settled for a call that is built
+pub course_there : (left : List Call) (stands : Standing) → IsOf left stands → is_compose (stage_of stands) ≡ false → is_some (next_course left) ≡ true
+course_there left standing.Compose of settled = absurd (cc)
+course_there left (standing.Round keys) of settled = of.0
+course_there left (standing.Act flow) of settled = of
+course_there left (standing.Winds ending first rest) of settled = of
+
+pub course_ready : (left : List Call) (stands : Standing) (course : Option Course) → CourseFits left stands course → is_some course ≡ true
+    → is_some (next_course left) ≡ true
+course_ready left standing.Compose None fits some = absurd (cc)
+course_ready left standing.Compose (Some course) fits some = ap is_some fits
+course_ready left (standing.Round keys) course fits some = ap is_some (sym fits.1) ∙ some
+course_ready left (standing.Act flow) None fits some = absurd (cc)
+course_ready left (standing.Act flow) (Some course) fits some = ap is_some fits
+course_ready left (standing.Winds ending first rest) None fits some = absurd (cc)
+course_ready left (standing.Winds ending first rest) (Some course) fits some = ap is_some fits
 
 -- where there is an ask to make between two groups, it is the next step
 pub asks_there : (digest : List ℕ → Id) (s : ClientState) → IsUndecided s.left s.known → s.sent ≡ [] → has_ask s ≡ true → is_ask (next_step (composed digest s)) ≡ true

@@ -1,9 +1,11 @@
 -- What comes of the answers to a group.
-use Rattle.std.proofs.Common.{◌≡◌, ℕ, ◌<◌, ◌&&◌, ◌||◌, if◌then◌else◌, eqb, Bool, true, false, cond, not, List, [], ◌∷◌, length, map, None, Some, refl, sym, ap, ◌∙◌, subst, arith}
+use Rattle.std.proofs.Common.{◌≡◌, ℕ, ◌<◌, ◌&&◌, ◌||◌, if◌then◌else◌, eqb, Bool, true, false, cond, not, List, [], ◌∷◌, ◌++◌, length, map, Option, None, Some, is_some, refl, sym, ap, ◌∙◌, subst, arith}
 use Rattle.std.proofs.lemmas.Bool.Decides.{nat_tests}
 use Rattle.std.proofs.lemmas.List.{length-map}
 use Rattle.std.specs.List.{list_all}
+use Rattle.inf_base.specs.declared.answer.Answer.TheVariants as answer
 use Rattle.inf_base.specs.declared.id.Id.{Id}
+use Rattle.inf_base.specs.declared.key.LookKey.{LookKey}
 use Rattle.inf_duty.specs.Kept.{IsOpenAlone}
 use Rattle.inf_duty.proofs.FlowFacts.{after_is}
 use Rattle.inf_duty.specs.Messages.{has_one_message}
@@ -13,15 +15,23 @@ use Rattle.inf_message.specs.declared.turn.Turn.TheVariants as turn
 use Rattle.inf_duty.specs.ClientState.{ClientState, Stage, act, compose, is_round, round, winds}
 use Rattle.inf_duty.specs.Flow.{after_act, after_reply}
 use Rattle.inf_duty.specs.Group.{group}
-use Rattle.inf_duty.specs.Turn.{after_record, heard_in, is_complete, is_lone, learned, recorded, served, settled, told_in, turn_at, turned}
+use Rattle.inf_duty.specs.Course.{next_course}
+use Rattle.inf_duty.specs.Turn.{after_group, after_record, heard_in, is_complete, is_lone, known_turn, learned, recorded, round_turn, served, settled, told_by, told_in, turn_at, turn_by, turned}
+use Rattle.inf_duty.specs.declared.course.Course.{Course}
 use Rattle.inf_duty.specs.declared.flow.Flow.{Flow}
 use Rattle.inf_message.specs.declared.reply.Reply.{Reply}
 use Rattle.inf_message.specs.Heard.{heard, light}
-use Rattle.inf_message.specs.Sent.{Sent, deciding, has_place, is_told, told_at}
-use Rattle.inf_message.specs.Turn.{after_deciding}
+use Rattle.inf_message.specs.Sent.{Sent, deciding, has_place, is_told, is_wanting, told_at}
+use Rattle.inf_message.specs.Turn.{after_deciding, again, ends}
 use Rattle.inf_message.specs.Who.{Who}
 use Rattle.inf_message.specs.declared.turn.Turn.{Turn}
 use Rattle.inf_message.specs.History.{Told, or_told}
+use Rattle.inf_resolve.specs.declared.known.Known.{Known}
+use Rattle.inf_resolve.specs.declared.resolved.Resolved.{Resolved}
+use Rattle.inf_resolve.specs.declared.resolved.Resolved.TheVariants as comes
+use Rattle.inf_resolve.specs.declared.resolved.Verdict.{Verdict}
+use Rattle.inf_resolve.specs.declared.resolved.Verdict.TheVariants as verdict
+use Rattle.inf_resolve.specs.Resolved.{resolved, verdict_of}
 
 -- what a turn leaves does not rest on the group that is over
 pub turned_afresh : (t : Turn Stage) (s : ClientState) (x y : Stage) (xs ys : List Sent)
@@ -137,6 +147,35 @@ over_is_settled s complete some between =
 pub some_sent : (place : ℕ) (sent : List Sent) → has_place place sent ≡ true → 0 < length sent
 some_sent place [] here = absurd (cc)
 some_sent place (x ∷ sent) here = omega arith
+
+-- what comes of a round that is over, by the verdict on what is known then
+abbrev pub turn_of : Verdict → Turn Stage
+turn_of verdict.GoesOn = turn.GoesOn compose
+turn_of (verdict.IsBusy by place) = ends (answer.Again by) place
+turn_of verdict.Lacks = again
+
+turn_is : (r : Resolved) → turn_by r ≡ turn_of (verdict_of r)
+turn_is (comes.Asks keys) = refl
+turn_is (comes.Leads old names) = refl
+turn_is (comes.IsBusy by place) = refl
+turn_is comes.Lacks = refl
+
+course_turn : (digest : List ℕ → Id) (who : Who) (known : List Known) (course : Option Course) (v : Verdict) → is_some course ≡ true
+    → ((d : List ℕ → Id) (root : Id) (way : Course) → course ≡ Some way → v ≡ verdict_of (resolved d root way.looked known))
+    → known_turn digest who known course ≡ turn_of v
+course_turn digest who known None v some tells = absurd cc
+course_turn digest who known (Some way) v some tells = turn_is (resolved digest who.root way.looked known) ∙ ap turn_of (sym (tells digest who.root way refl))
+
+pub round_over : (digest : List ℕ → Id) (s : ClientState) (keys : List LookKey) (known : List Known) (course : Option Course) (v : Verdict) → s.stage ≡ round keys
+    → is_wanting s.sent ≡ false → known ≡ s.known ++ told_by keys s.sent → is_some course ≡ true → course ≡ next_course s.left
+    → ((d : List ℕ → Id) (root : Id) (way : Course) → course ≡ Some way → v ≡ verdict_of (resolved d root way.looked known))
+    → after_group digest s ≡ turned (turn_of v) (record s { known = known })
+round_over digest s keys known course v at calm is some fits tells =
+    ap (λ (x : Stage). turned (turn_at digest (learned x s) x) (learned x s)) at
+    ∙ ap (λ (ks : List Known). turned (round_turn digest (record s { known = ks })) (record s { known = ks })) (sym is)
+    ∙ ap (λ b. turned (if b then turn.WindsUp (ending.Answers answer.NoMemory None) [] else known_turn digest s.who known (next_course s.left)) (record s { known = known })) calm
+    ∙ ap (λ (c : Option Course). turned (known_turn digest s.who known c) (record s { known = known })) (sym fits)
+    ∙ ap (λ (t : Turn Stage). turned t (record s { known = known })) (course_turn digest s.who known course v some tells)
 
 -- ---- answers that are kept
 

@@ -40,7 +40,7 @@ fn line(alloc: Global) -> Result<ClientLine, NoMemory>
     Ok(ClientLine {
         name: Name::from_slice(alloc, b"a")?,
         caller: ROOT_USER,
-        calls: Calls::new(calls),
+        calls: Calls::new(alloc, Sequence::new(calls))?,
     })
 }
 

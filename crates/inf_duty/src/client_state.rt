@@ -14,15 +14,17 @@ mod asking;
 mod step;
 mod turning;
 
+use crate::calls_left::CallsLeft;
 use crate::course::Course;
 use crate::standing::Standing;
 use crate::tally::Tally;
-use inf_base::{Answer, Call, CallRef, Caller, ClientLine, NoMemory, Place, Setup, TryClone};
+use inf_base::{
+    Answer, Call, CallRef, Caller, Calls, ClientLine, NoMemory, Place, Sequence, Setup, TryClone,
+};
 use inf_birth::IdRule;
 use inf_message::{CallResult, Sending, Who};
 use inf_resolve::Known;
 use std::alloc::Global;
-use std::collections::VecDeque;
 use std::marker::Model;
 
 /// A client of a script, which asks for one call after another.
@@ -30,7 +32,7 @@ use std::marker::Model;
 pub struct ClientState {
     who: Who,
     number: u32,
-    left: VecDeque<Call>,
+    left: CallsLeft,
     stands: Standing,
     /// The course of the call under way, once it was made ready.
     course: Option<Course>,
@@ -51,7 +53,7 @@ impl Model for ClientState {
     ghost view = { λ c. record {
       who = c.who;
       number = c.number;
-      left = c.left.items;
+      left = c.left;
       stage = stage_of c.stands;
       known = c.known.items;
       sent = c.sent.items;
@@ -59,7 +61,7 @@ impl Model for ClientState {
       results = c.results.items;
     } };
 
-    ghost invariant = { λ c. IsKept c.who c.number c.left.items c.stands c.course c.known.items (vec_capacity c.known)
+    ghost invariant = { λ c. IsKept c.who c.number c.left c.stands c.course c.known.items (vec_capacity c.known)
         c.sent.items (vec_capacity c.sent) (vec_len c.results) (vec_capacity c.results) };
 }
 
@@ -82,23 +84,26 @@ impl ClientState {
             Some(line) => ClientState::idle(
                 alloc,
                 Who::new(client, line.caller, setup.servers, root),
-                line.calls.as_slice(),
+                line.calls.try_clone(alloc)?,
             ),
-            None => ClientState::idle(alloc, Who::new(client, NOBODY, setup.servers, root), &[]),
+            None => ClientState::idle(
+                alloc,
+                Who::new(client, NOBODY, setup.servers, root),
+                Calls::new(alloc, Sequence::new(Vec::new(alloc)))?,
+            ),
         }
     }
 
-    fn idle(alloc: Global, who: Who, calls: &[Call]) -> Result<Self, NoMemory>
-        requires { length calls.now ≤ MOST_CALLS }
-        ensures { IfOk result (λ made. made ≡ idle who calls.now) }
+    fn idle(alloc: Global, who: Who, calls: Calls) -> Result<Self, NoMemory>
+        requires { length calls ≤ MOST_CALLS }
+        ensures { IfOk result (λ made. made ≡ idle who calls) }
     {
-        let left = copied(alloc, calls)?;
         let sent = Vec::with_capacity(alloc, who.servers() as usize)?;
         let results = Vec::with_capacity(alloc, calls.len())?;
         Ok(ClientState {
             who,
             number: 1,
-            left,
+            left: CallsLeft::new(calls),
             stands: Standing::Compose,
             course: None,
             known: Vec::new(alloc),
@@ -128,13 +133,14 @@ impl ClientState {
     }
 
     /// The call under way ends with this answer, and the next one is under way.
+    #[tactic(auto, using(crate::proofs::LeftFacts::one_less))]
     fn end(&mut self, answer: Answer, place: Option<Place>)
         requires { 0 < length self.old.left }
         ensures { self.new ≡ ended answer place self.old }
     {
         let result = self.result_of(answer, place);
         self.results.push_reserved(result);
-        let _ = self.left.pop_front();
+        self.left.pass();
         self.number += 1;
         self.stands = Standing::Compose;
         self.course = None;
@@ -155,7 +161,7 @@ impl ClientState {
     fn first_call(&self) -> Option<&Call>
         ensures { option_copied result ≡ slice_get self.now.left 0 }
     {
-        self.left.get(0)
+        self.left.first()
     }
 
     /// Whether it has asked for nothing of its group.
@@ -180,14 +186,4 @@ fn line_of(setup: &Setup, client: u32) -> Option<&ClientLine>
     ensures { option_copied result ≡ slice_get setup.now.clients client }
 {
     setup.clients.as_slice().get(client as usize)
-}
-
-fn copied(alloc: Global, calls: &[Call]) -> Result<VecDeque<Call>, NoMemory>
-    ensures { IfOk result (λ left. left.items ≡ calls.now) }
-{
-    let mut left = VecDeque::new(alloc);
-    for call in calls {
-        left.push_back(call.try_clone(alloc)?)?;
-    }
-    Ok(left)
 }

@@ -5,6 +5,7 @@
 mod allow;
 #[cfg(test)]
 mod allow_tests;
+mod calls_left;
 mod client_state;
 mod client_step;
 mod course;

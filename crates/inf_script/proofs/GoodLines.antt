@@ -1,5 +1,5 @@
 -- A line of the settings, of a client or of a call leaves what was read good.
-use Rattle.std.proofs.Common.{◌≡◌, ℕ, zero, suc, ◌+◌, ◌≤◌, ◌<◌, Bool, true, false, ◌&&◌, ◌||◌, cond, nat_eq, nat_lt, codes, if◌then◌else◌, List, [], ◌∷◌, ◌++◌, length, Option, Some, None, is_some, is_none, IfSome, Result, Ok, Err, IfOk, All, refl, sym, ◌∙◌, subst, arith}
+use Rattle.std.proofs.Common.{◌≡◌, ℕ, zero, suc, ◌≤◌, ◌<◌, Bool, true, false, ◌&&◌, ◌||◌, cond, nat_eq, nat_lt, codes, if◌then◌else◌, List, [], ◌∷◌, ◌++◌, length, Option, Some, None, is_some, is_none, IfSome, Result, Ok, Err, IfOk, All, refl, sym, ◌∙◌, subst, arith}
 use Rattle.std.specs.List.{list_all, list_any, IsDistinct, AllByRecursion, position_or_len}
 use Rattle.std.specs.Str.{bytes_eq}
 use Rattle.std.proofs.lemmas.Bool.{eqb-true, ltb-true, leb-true}
@@ -23,12 +23,10 @@ use Rattle.inf_script.specs.declared.section.Section.TheVariants as section
 use Rattle.inf_script.specs.declared.draft.Draft.{Draft}
 use Rattle.inf_script.specs.Paths.{names_within}
 use Rattle.inf_script.specs.Names.{mode_of, number_within}
-use Rattle.inf_script.specs.Cuts.{behind}
 use Rattle.inf_script.specs.Draft.{rank, may_stand, servers_of, digest_bytes_of, place_of}
 use Rattle.inf_script.specs.Settings.{no_more, version, first_line, servers_end, servers_number, servers_line, digest_bytes_end, digest_bytes_number, digest_bytes_line}
 use Rattle.inf_script.specs.ClientLine.{new_client, with_client, client_end, client_group, client_user, client_name, client_line}
 use Rattle.inf_script.specs.CallLine.{path_alone, mode_behind, path_and_mode, mkdir_call, create_call, rmdir_call, stat_call, call_kind, calling, with_call, call_of, call_client, call_line}
-use Rattle.inf_script.specs.Reading.{reading}
 use Rattle.inf_script.specs.Built.{HasNames, IsBuiltCall, IsBuiltClient, IsBuilt}
 use Rattle.inf_script.proofs.NameFacts.{and_both, and_left, and_right, if_both, if_read, mode_of-is_mode, number_within-good}
 use Rattle.inf_script.proofs.PathFacts.{has_names}

@@ -49,13 +49,12 @@ keys_with {A} key keys lines clients name made same seen unknown =
     let missed : list_any (λ (k : Vec ℕ A). bytes_eq key.items k.items) keys ≡ false = none_at _ keys (ap (λ (n : List ℕ). position (λ (k : Vec ℕ A). bytes_eq n k.items) keys) made ∙ found_place name keys lines clients same seen ∙ unknown) in
     rw missed (map-append (λ (k : Vec ℕ A). k.items) keys (key ∷ []) ∙ rw (same, seen, made) refl)
 
--- a write of the calls behind a write that took them out
-pub calling-set : (place : ℕ) (call : Call) (xs : List ClientLine) (first second : ClientLine) (left made : List Call) → place < length xs
-    → first ≡ get_or xs place first → second ≡ get_or (set xs place (record { name = first.name; caller = first.caller; calls = left })) place second → made ≡ first.calls ++ call ∷ []
-    → set (set xs place (record { name = first.name; caller = first.caller; calls = left })) place (record { name = second.name; caller = second.caller; calls = made }) ≡ calling place call xs
-calling-set place call [] first second left made within at_first at_second grown = absurd (omega arith)
-calling-set zero call (x ∷ xs) first second left made within at_first at_second grown = rw (grown, at_second, at_first) refl
-calling-set (suc place) call (x ∷ xs) first second left made within at_first at_second grown = ap (λ (rest : List ClientLine). x ∷ rest) (calling-set place call xs first second left made (omega arith) at_first at_second grown)
+-- a write of the client's line with one call more
+pub calling-set : (place : ℕ) (call : Call) (xs : List ClientLine) (first grown : ClientLine) → place < length xs
+    → first ≡ get_or xs place first → grown ≡ record first { calls = first.calls ++ call ∷ [] } → set xs place grown ≡ calling place call xs
+calling-set place call [] first grown within at is = absurd (omega arith)
+calling-set zero call (x ∷ xs) first grown within at is = rw (is, at) refl
+calling-set (suc place) call (x ∷ xs) first grown within at is = ap (λ (rest : List ClientLine). x ∷ rest) (calling-set place call xs first grown (omega arith) at is)
 
 pub names_of-calling : (place : ℕ) (call : Call) (xs : List ClientLine) → names_of (calling place call xs) ≡ names_of xs
 names_of-calling place call [] = refl

@@ -106,14 +106,14 @@ fn call_kind(alloc: Global, words: Words<'_>) -> Result<Call, LineFault>
     Err(BAD_WORD)
 }
 
-fn with_call(alloc: Global, draft: Draft, client: u32, call: Call) -> Result<Draft, LineFault>
+fn with_call(draft: Draft, client: u32, call: Call) -> Result<Draft, LineFault>
     requires { client < length draft.clients }
     ensures { Gives line_cause result (with_call draft client (Ok call)) }
 {
     if draft.clients.call_count() >= MOST_CALLS {
         return Err(TOO_MANY);
     }
-    let clients = draft.clients.calling(alloc, client, call)?;
+    let clients = draft.clients.calling(client, call)?;
     Ok(Draft {
         reached: Section::Calls,
         servers: draft.servers,
@@ -133,7 +133,7 @@ fn call_client(alloc: Global, draft: Draft, words: Words<'_>) -> Result<Draft, L
         return Err(UNKNOWN_CLIENT);
     };
     let call = call_kind(alloc, words)?;
-    with_call(alloc, draft, client, call)
+    with_call(draft, client, call)
 }
 
 /// `call NAME mkdir PATH MODE`, `call NAME create PATH MODE`, `call NAME rmdir PATH` or `call NAME stat PATH`.

@@ -1,11 +1,11 @@
 //! What was read of a script so far.
 
-ghost use Rattle.std.specs.Prelude.{◌≡◌, ◌<◌};
+ghost use Rattle.std.specs.Prelude.{◌≡◌, IfOk};
 ghost use Rattle.inf_script.specs.Draft.{start, servers_of, digest_bytes_of};
 
 use crate::client_table::ClientTable;
 use crate::section::Section;
-use inf_base::MOST_DIGEST_BYTES;
+use inf_base::{MOST_DIGEST_BYTES, NoMemory};
 use inf_order::Moves;
 use std::alloc::Global;
 
@@ -24,16 +24,16 @@ pub struct Draft {
 
 impl Draft {
     /// Nothing was read yet.
-    pub fn new(alloc: Global) -> Self
-        ensures { result ≡ start }
+    pub fn new(alloc: Global) -> Result<Self, NoMemory>
+        ensures { IfOk result (λ draft. draft ≡ start) }
     {
-        Draft {
+        Ok(Draft {
             reached: Section::Start,
             servers: None,
             digest_bytes: None,
-            clients: ClientTable::new(alloc),
+            clients: ClientTable::new(alloc)?,
             moves: Moves::new(Vec::new(alloc)),
-        }
+        })
     }
 
     pub fn servers(&self) -> u32

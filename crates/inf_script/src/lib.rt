@@ -10,6 +10,7 @@ mod examples;
 mod fault;
 mod lines;
 mod names;
+mod open_line;
 mod order_line;
 mod paths;
 mod reader;

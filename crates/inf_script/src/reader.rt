@@ -53,12 +53,13 @@ fn ended(alloc: Global, draft: Draft) -> Result<Script, LineFault>
     let servers = draft.servers();
     let digest_bytes = draft.digest_bytes();
     let order = order_of(alloc, draft.moves)?;
+    let clients = draft.clients.into_clients(alloc)?;
     Ok(Script {
         setup: Setup {
             servers,
             digest_bytes,
             cache: 256,
-            clients: draft.clients.into_clients(),
+            clients,
         },
         order,
     })
@@ -89,7 +90,9 @@ fn read_line(alloc: Global, number: u64, draft: Draft, line: &[u8]) -> Result<Dr
 fn read_lines(alloc: Global, bytes: &[u8], more: bool) -> Result<Script, ScriptFault>
     ensures { Gives cause result (read_from more 1 (Ok start) (lines_of more bytes.now)) }
 {
-    let mut draft = Draft::new(alloc);
+    let Ok(mut draft) = Draft::new(alloc) else {
+        return Err(ScriptFault::NoMemory);
+    };
     let mut rest = bytes;
     let mut number = 1;
     while let Some((line, behind)) = take_line(rest, more) {

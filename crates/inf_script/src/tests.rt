@@ -1,7 +1,7 @@
 //! Texts and what they say. The expected values follow from the rules of the form.
 
 use super::*;
-use inf_base::{Call, Caller, Calls, ClientLine, Clients, Name, NoMemory, Setup, Text};
+use inf_base::{Call, Caller, Calls, ClientLine, Clients, Name, NoMemory, Sequence, Setup, Text};
 use inf_order::{Move, Moves};
 use std::alloc::{AllocError, Global};
 use std::test::Fail;
@@ -47,7 +47,7 @@ fn client(alloc: Global, name: Name, said: &[Said]) -> Result<ClientLine, NoMemo
     Ok(ClientLine {
         name,
         caller: Caller { uid: 0, gid: 0 },
-        calls: Calls::new(calls),
+        calls: Calls::new(alloc, Sequence::new(calls))?,
     })
 }
 

@@ -1,8 +1,9 @@
 //! A client that is driven: what it is to do next, and the steps that it takes.
 
-ghost use Rattle.std.specs.Prelude.{ℕ, List, ◌≡◌, ◌↔◌, ◌+◌, ◌<◌, ◌≤◌, ◌^◌, [], length, map, slice_get, true, false, None, Some, IfOk, IsTrue};
+ghost use Rattle.std.specs.Prelude.{ℕ, List, ◌≡◌, ◌↔◌, ◌+◌, ◌<◌, ◌≤◌, ◌^◌, [], drop, is_some, length, map, slice_get, true, false, None, Some, IfOk, IsTrue};
 ghost use Rattle.inf_base.specs.declared.id.Id.{Id};
 ghost use Rattle.inf_duty.specs.ClientStep.{IsQuiet, is_ask, next_as};
+ghost use Rattle.inf_duty.specs.Course.{next_course};
 ghost use Rattle.inf_duty.specs.Duty.{asks, given_up, has_ask, may_give_up, next_step};
 ghost use Rattle.inf_duty.specs.Kept.{unserved};
 ghost use Rattle.inf_duty.specs.Messages.{is_compose, is_winding, post_of};
@@ -14,7 +15,7 @@ ghost use Rattle.inf_message.specs.Sent.{is_wanting};
 use super::ClientState;
 use crate::client_step::ClientStep;
 use crate::course::has_course;
-use crate::group::{has_message, is_round, is_winding};
+use crate::group::{has_message, is_compose, is_round, is_winding};
 use crate::standing::Standing;
 use inf_base::{Answer, CallRef, NoMemory, Place};
 use inf_message::{Ask, CallResult, Ending, Message, Sending, is_one_wanting};
@@ -49,6 +50,24 @@ impl ClientState {
         self.left.len()
     }
 
+    /// Whether the call under way is of a kind and a path that is built. It is where something is settled for it, or its
+    /// course was made ready.
+    #[tactic(auto, using(crate::proofs::StepFacts::course_there, crate::proofs::StepFacts::course_ready))]
+    fn has_course(&self) -> bool
+        ensures { result ≡ is_some (next_course self.now.left) }
+    {
+        if !is_compose(&self.stands) {
+            return true;
+        }
+        if self.course.is_some() {
+            return true;
+        }
+        match self.first_call() {
+            Some(call) => has_course(call),
+            None => false,
+        }
+    }
+
     /// Whether there is an ask to make for the call under way, between two groups: its kind and its next message are
     /// built.
     #[tactic(auto, using(crate::proofs::StepFacts::asks_there))]
@@ -57,10 +76,7 @@ impl ClientState {
         ensures asking { (digest : List ℕ → Id) → self.now.sent ≡ [] → result ≡ true
             → is_ask (next_step (composed digest self.now)) ≡ true }
     {
-        match self.first_call() {
-            Some(call) => has_course(call) && has_message(&self.stands),
-            None => false,
-        }
+        self.has_course() && has_message(&self.stands)
     }
 
     /// Whether memory may be wanting for the next ask, and its call be given up then.
@@ -100,19 +116,30 @@ impl ClientState {
         self.stands.group_size(&self.who)
     }
 
-    /// The asks of the group that is settled, in their order, each with the server that it is for.
-    #[tactic(auto, using(crate::proofs::PostFacts::there_is, crate::proofs::PostFacts::posts_more, crate::proofs::PostFacts::posts_all))]
-    pub fn asks(&self, alloc: Global) -> Result<Vec<(u32, Ask)>, NoMemory>
+    /// The ask of this index in the group that is settled, and the server that it is for.
+    #[tactic(auto, using(crate::proofs::PostFacts::there_is, crate::proofs::PostFacts::post_at))]
+    pub fn ask(&self, alloc: Global, index: usize) -> Result<(u32, Ask), NoMemory>
+        requires there { index < length (group self.now.who self.now.stage) }
+        ensures { IfOk result (λ post. slice_get (map (post_of self.now) (group self.now.who self.now.stage)) index
+            ≡ Some post) }
+    {
+        let Some(message) = self.stands.message(alloc, &self.who, index)? else {
+            unreachable!()
+        };
+        Ok(self.posted(message))
+    }
+
+    /// The asks of the group that is settled behind the first, in their order, each with the server that it is for.
+    #[tactic(auto, using(crate::proofs::PostFacts::behind_more, crate::proofs::PostFacts::behind_all, crate::proofs::PostFacts::none_behind))]
+    pub fn asks_behind(&self, alloc: Global) -> Result<Vec<(u32, Ask)>, NoMemory>
+        requires some { 0 < length (group self.now.who self.now.stage) }
         ensures { IfOk result (λ posts. posts.items
-            ≡ map (post_of self.now) (group self.now.who self.now.stage)) }
+            ≡ drop 1 (map (post_of self.now) (group self.now.who self.now.stage))) }
     {
         let count = self.group_size();
-        let mut posts = Vec::with_capacity(alloc, count)?;
-        for index in 0..count {
-            let Some(message) = self.stands.message(alloc, &self.who, index)? else {
-                unreachable!()
-            };
-            posts.push(self.posted(message))?;
+        let mut posts = Vec::with_capacity(alloc, count - 1)?;
+        for index in 1..count {
+            posts.push(self.ask(alloc, index)?)?;
         }
         Ok(posts)
     }
