@@ -1,8 +1,8 @@
 -- Content objects as they are kept, found and changed.
-use Rattle.std.proofs.Common.{◌≡◌, ℕ, Bool, true, false, cond, ◌&&◌, ◌==◌, List, [], ◌∷◌, Option, Some, None, is_some, Bor, MutBor, refl, sym, ap, ◌∙◌, subst}
+use Rattle.std.proofs.Common.{◌≡◌, ℕ, Bool, true, false, cond, ◌&&◌, ◌==◌, List, [], ◌∷◌, Option, Some, None, is_some, MutBor, refl, sym, ap, ◌∙◌, subst}
 use Rattle.std.specs.BTreeMap.{insert_entry, is_at}
 use Rattle.std.specs.Map.{lookup, remove_entry, set_value}
-use Rattle.std.specs.Option.{OnSome, option_copied, option_copied_mut, option_map}
+use Rattle.std.specs.Option.{OnSome, option_copied_mut, option_map}
 use Rattle.std.specs.Ordering.{match_ordering}
 use Rattle.std.specs.declared.cmp.Ordering.{Ordering}
 use Rattle.std.specs.declared.cmp.Ordering.TheVariants.{Less, Equal, Greater}
@@ -39,9 +39,10 @@ content_of_id-kept id [] = refl
 content_of_id-kept id (e ∷ es) =
     rw (same_test id e.0) (of_id_step (is_same_id id e.0) id e _ _ (same_id id e.0) (content_of_id-kept id es))
 
-pub option_map-copied : {X B : Type 0} (f : X → B) (r : Option (Bor X)) → option_map (λ (x : Bor X). f x.now) r ≡ option_map f (option_copied r)
-option_map-copied f None = refl
-option_map-copied f (Some x) = refl
+-- what the map finds of an identifier, as contracts see it
+pub shown_of_id : (id : Id) (es : List (Id × Object)) (cs : List Content) (found : Option Object) → contents_of es ≡ cs
+    → found ≡ lookup (is_at (id_cmp id)) es → option_map (whole id) found ≡ content_of_id id cs
+shown_of_id id es cs found view at = ap (option_map (whole id)) at ∙ sym (content_of_id-kept id es) ∙ ap (content_of_id id) view
 
 -- what the map finds of an identifier is the directory, where it was born then
 found_of_id : (dir : DirRef) (es : List (Id × Object)) (v : Object) → lookup (is_at (id_cmp dir.id)) es ≡ Some v

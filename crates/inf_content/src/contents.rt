@@ -1,23 +1,22 @@
 //! The content objects of a server.
 
-ghost use Rattle.std.specs.Prelude.{◌≡◌, [], All, is_some, false, if◌then◌else◌, IfOk, OnOk, OnErr};
+ghost use Rattle.std.specs.Prelude.{◌≡◌, [], All, is_some, false, if◌then◌else◌, IfOk, IfSome, OnOk, OnErr};
 ghost use Rattle.std.specs.Borrow.{sem};
 ghost use Rattle.std.specs.Option.{option_copied_mut, option_map};
 ghost use Rattle.inf_base.specs.declared.caller.CallRef.{CallRef};
-ghost use Rattle.inf_content.specs.Contents.{access_found, born_of, content_at, content_of_id, dropped_at, erased_at, filled_at, held_at, lifted_at, look, made_at, made_of, may_drop_found, reserved_at, seal_of, sealed_at, settled_at, slots_at, unsealed_at, with_file_at, with_meta_at, without_slot_at};
+ghost use Rattle.inf_content.specs.Contents.{content_at, content_of_id, dropped_at, erased_at, filled_at, held_at, lifted_at, made_at, made_of, may_drop_found, reserved_at, sealed_at, settled_at, slots_at, unsealed_at, with_file_at, with_meta_at, without_slot_at};
 ghost use Rattle.inf_content.specs.Slot.{erases, holds, reserves};
 ghost use Rattle.inf_content.specs.Lent.{LendsObject};
 ghost use Rattle.inf_content.specs.Objects.{contents_of, whole};
 ghost use Rattle.inf_content.specs.Order.{IdentifiersRise, NamesRise};
-ghost use Rattle.inf_content.specs.Slots.{first, first_taker, inside_of, items_of, told_of_erased, told_of_filled};
+ghost use Rattle.inf_content.specs.Slots.{first, told_of_erased, told_of_filled};
 
-use crate::inside::Inside;
+use crate::directory::Directory;
 use crate::made::Made;
 use crate::object::{Object, seal_left};
-use crate::seen::Seen;
 use crate::slots::Slots;
 use inf_base::{
-    Access, CallRef, Caller, DirRef, FileMeta, Id, Items, Name, NoMemory, Place, Shared, Triple,
+    Access, CallRef, Caller, DirRef, FileMeta, Id, Name, NoMemory, Place, Shared, Triple,
 };
 use std::alloc::Global;
 use std::collections::BTreeMap;
@@ -62,90 +61,27 @@ impl Contents {
         let _ = &self.by_id;
     }
 
-    fn object_of_id(&self, id: &Id) -> Option<&Object>
-        ensures { option_map (λ object. whole id.now object.now) result ≡ content_of_id id.now self.now }
+    /// The directory of this identifier, whenever it was born.
+    pub fn directory_of_id(&self, id: &Id) -> Option<Directory<'_>>
+        ensures found { result ≡ content_of_id id.now self.now }
+        ensures same { IfSome result (λ directory. directory.dir.id ≡ id.now) }
     {
-        self.by_id.get(id)
+        match self.by_id.get(id) {
+            None => None,
+            Some(object) => Some(Directory::new(*id, object)),
+        }
     }
 
-    fn object(&self, dir: &DirRef) -> Option<&Object>
-        ensures { option_map (λ object. whole dir.now.id object.now) result ≡ content_at dir.now self.now }
+    /// The directory of this identifier that was born then.
+    pub fn directory(&self, dir: &DirRef) -> Option<Directory<'_>>
+        ensures found { result ≡ content_at dir.now self.now }
+        ensures same { IfSome result (λ directory. directory.dir ≡ dir.now) }
     {
-        let object = self.object_of_id(&dir.id)?;
-        if object.born != dir.born {
+        let directory = self.directory_of_id(&dir.id)?;
+        if directory.born() != dir.born {
             return None;
         }
-        Some(object)
-    }
-
-    /// The place of birth of the directory of this identifier.
-    pub fn born(&self, id: &Id) -> Option<Place>
-        ensures { result ≡ born_of (content_of_id id.now self.now) }
-    {
-        match self.object_of_id(id) {
-            None => None,
-            Some(object) => Some(object.born),
-        }
-    }
-
-    /// The call that sealed the directory.
-    pub fn sealed(&self, dir: &DirRef) -> Option<CallRef>
-        ensures { result ≡ seal_of (content_at dir.now self.now) }
-    {
-        match self.object(dir) {
-            None => None,
-            Some(object) => object.seal,
-        }
-    }
-
-    /// What is seen of a name of the directory.
-    pub fn look(&self, dir: &DirRef, name: &Name) -> Seen
-        ensures { result ≡ look dir.now name.now self.now }
-    {
-        match self.object(dir) {
-            None => Seen::Gone,
-            Some(object) => object.slots.look(name),
-        }
-    }
-
-    /// A copy of the access object under a name, where a directory stands there.
-    pub fn access_of(&self, dir: &DirRef, name: &Name) -> Result<Option<Access>, NoMemory>
-        ensures { IfOk result (λ access. access ≡ access_found name.now (content_at dir.now self.now)) }
-    {
-        match self.object(dir) {
-            None => Ok(None),
-            Some(object) => object.slots.access_of(self.alloc, name),
-        }
-    }
-
-    /// The call of the first slot of the directory that is held or reserved.
-    pub fn busy(&self, dir: &DirRef) -> Option<CallRef>
-        ensures { result ≡ first_taker (slots_at dir.now self.now) }
-    {
-        match self.object(dir) {
-            None => None,
-            Some(object) => object.slots.busy(),
-        }
-    }
-
-    /// What stands in the directory; which call asks makes no difference.
-    pub fn inside(&self, dir: &DirRef, _by: CallRef) -> Inside
-        ensures { result ≡ inside_of (slots_at dir.now self.now) }
-    {
-        match self.object(dir) {
-            None => Inside::Empty,
-            Some(object) => object.slots.inside(),
-        }
-    }
-
-    /// The names of the directory in their order, with their kinds.
-    pub fn list(&self, dir: &DirRef) -> Result<Items, NoMemory>
-        ensures { IfOk result (λ items. items ≡ items_of (slots_at dir.now self.now)) }
-    {
-        match self.object(dir) {
-            None => Ok(Items::new(Vec::new(self.alloc))),
-            Some(object) => object.slots.list(self.alloc),
-        }
+        Some(directory)
     }
 
     /// Gives the first slot that the call holds in the directory the mode that was kept for it, and lifts its hold.
@@ -283,9 +219,9 @@ impl Contents {
     fn may_drop(&self, dir: &DirRef, by: CallRef) -> bool
         ensures { result ≡ may_drop_found by (content_at dir.now self.now) }
     {
-        match self.object(dir) {
+        match self.directory(dir) {
             None => false,
-            Some(object) => object.may_drop(by),
+            Some(directory) => directory.may_drop(by),
         }
     }
 
@@ -311,8 +247,8 @@ impl Contents {
         ensures ok { OnOk result (self.new ≡ made_at id born triple by self.old) }
         ensures err { OnErr result (self.new ≡ self.old) }
     {
-        if let Some(object) = self.object_of_id(&id) {
-            return object.made(self.alloc, &triple);
+        if let Some(directory) = self.directory_of_id(&id) {
+            return directory.made(self.alloc, &triple);
         }
         let object = Object {
             born,

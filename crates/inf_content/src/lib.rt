@@ -3,6 +3,7 @@
 
 mod busy_names;
 mod contents;
+mod directory;
 mod examples;
 mod inside;
 mod laws;
@@ -17,6 +18,7 @@ mod tests;
 mod wanted;
 
 pub use contents::Contents;
+pub use directory::Directory;
 pub use examples::{
     example_of_busy_names, example_of_filling, example_of_holds, example_of_insides,
     example_of_looks, example_of_making, example_of_order, example_of_seals,

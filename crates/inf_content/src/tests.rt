@@ -2,7 +2,7 @@
 
 use super::*;
 use inf_base::{
-    Access, CallRef, DirRef, FileMeta, Id, Kind, Name, NoMemory, Place, Shared, Triple,
+    Access, CallRef, DirRef, FileMeta, Id, Items, Kind, Name, NoMemory, Place, Shared, Triple,
 };
 use std::alloc::Global;
 use std::test::Fail;
@@ -76,12 +76,65 @@ fn with_file(alloc: Global) -> Result<Contents, NoMemory> {
     Ok(contents)
 }
 
+/// When the directory of this identifier was born.
+fn born(contents: &Contents, id: &Id) -> Option<Place> {
+    let directory = contents.directory_of_id(id)?;
+    Some(directory.born())
+}
+
+/// What is seen of a name of the directory.
+fn seen(contents: &Contents, dir: &DirRef, name: &Name) -> Seen {
+    match contents.directory(dir) {
+        None => Seen::Gone,
+        Some(directory) => directory.look(name),
+    }
+}
+
+/// Whether a directory stands under the name, of which a copy of the access object is given.
+fn has_access(
+    contents: &Contents,
+    alloc: Global,
+    dir: &DirRef,
+    name: &Name,
+) -> Result<bool, NoMemory> {
+    match contents.directory(dir) {
+        None => Ok(false),
+        Some(directory) => Ok(directory.access_of(alloc, name)?.is_some()),
+    }
+}
+
+/// The call of the first slot of `DIR` that is held or reserved.
+fn busy(contents: &Contents) -> Option<CallRef> {
+    let directory = contents.directory(&DIR)?;
+    directory.busy()
+}
+
+/// What stands in `DIR`.
+fn inside(contents: &Contents, by: CallRef) -> Option<Inside> {
+    let directory = contents.directory(&DIR)?;
+    Some(directory.inside(by))
+}
+
+/// The call that sealed `DIR`.
+fn sealed(contents: &Contents) -> Option<CallRef> {
+    let directory = contents.directory(&DIR)?;
+    directory.sealed()
+}
+
+/// The names of `DIR` with their kinds.
+fn listed(contents: &Contents, alloc: Global) -> Result<Items, NoMemory> {
+    match contents.directory(&DIR) {
+        None => Ok(Items::new(Vec::new(alloc))),
+        Some(directory) => directory.list(alloc),
+    }
+}
+
 #[test]
 fn makes(rt: HostRuntime) -> Result<(), Fail> {
     let mut contents = with_dir(rt.alloc())?;
     assert!(rt; is_new(&mut contents, rt.alloc(), HIGH, 4)?);
     assert!(rt; !is_new(&mut contents, rt.alloc(), LOW, 9)?);
-    assert_eq!(rt; contents.born(&LOW), Some(3));
+    assert_eq!(rt; born(&contents, &LOW), Some(3));
     Ok(())
 }
 
@@ -117,12 +170,11 @@ fn makes_none_beside_another(rt: HostRuntime) -> Result<(), Fail> {
 fn looks(rt: HostRuntime) -> Result<(), Fail> {
     let mut contents = with_file(rt.alloc())?;
     let name = a(rt.alloc())?;
-    assert_eq!(rt; contents.look(&LATER, &name), Seen::Gone);
+    assert_eq!(rt; seen(&contents, &LATER, &name), Seen::Gone);
     contents.set_file(&DIR, &name, FileMeta { length: 9, ..META });
-    let seen = contents.look(&DIR, &name);
     assert!(rt;
         matches!(
-            seen,
+            seen(&contents, &DIR, &name),
             Seen::File {
                 meta: FileMeta { length: 9, .. },
                 held: None
@@ -130,7 +182,7 @@ fn looks(rt: HostRuntime) -> Result<(), Fail> {
         )
     );
     contents.take_out(&DIR, &name);
-    assert_eq!(rt; contents.look(&DIR, &name), Seen::Missing);
+    assert_eq!(rt; seen(&contents, &DIR, &name), Seen::Missing);
     Ok(())
 }
 
@@ -139,14 +191,14 @@ fn fills(rt: HostRuntime) -> Result<(), Fail> {
     let mut contents = with_dir(rt.alloc())?;
     let name = a(rt.alloc())?;
     contents.reserve(&DIR, a(rt.alloc())?, CALL, access(rt.alloc())?)?;
-    assert_eq!(rt; contents.look(&DIR, &name), Seen::Reserved(CALL));
+    assert_eq!(rt; seen(&contents, &DIR, &name), Seen::Reserved(CALL));
     assert_eq!(rt; contents.fill(&DIR, OTHER, None), None);
     assert_eq!(rt;
         contents.fill(&DIR, CALL, None),
         Some((DirRef { id: HIGH, born: 5 }, true))
     );
-    assert!(rt; contents.access_of(&DIR, &name)?.is_some());
-    assert!(rt; contents.access_of(&LATER, &name)?.is_none());
+    assert!(rt; has_access(&contents, rt.alloc(), &DIR, &name)?);
+    assert!(rt; !has_access(&contents, rt.alloc(), &LATER, &name)?);
     Ok(())
 }
 
@@ -155,14 +207,13 @@ fn holds(rt: HostRuntime) -> Result<(), Fail> {
     let mut contents = with_file(rt.alloc())?;
     let name = a(rt.alloc())?;
     contents.hold(&DIR, &name, CALL, Some(0o600));
-    assert_eq!(rt; contents.busy(&DIR), Some(CALL));
-    assert_eq!(rt; contents.inside(&DIR, OTHER), Inside::Busy(CALL));
+    assert_eq!(rt; busy(&contents), Some(CALL));
+    assert_eq!(rt; inside(&contents, OTHER), Some(Inside::Busy(CALL)));
     assert!(rt; contents.erase(&DIR, CALL).is_none());
     assert!(rt; contents.settle(&DIR, CALL));
-    let seen = contents.look(&DIR, &name);
     assert!(rt;
         matches!(
-            seen,
+            seen(&contents, &DIR, &name),
             Seen::File {
                 meta: FileMeta { mode: 0o600, .. },
                 held: None
@@ -176,11 +227,11 @@ fn holds(rt: HostRuntime) -> Result<(), Fail> {
 fn erases(rt: HostRuntime) -> Result<(), Fail> {
     let mut contents = with_file(rt.alloc())?;
     contents.reserve(&DIR, b(rt.alloc())?, OTHER, access(rt.alloc())?)?;
-    assert_eq!(rt; contents.inside(&DIR, CALL), Inside::Full);
+    assert_eq!(rt; inside(&contents, CALL), Some(Inside::Full));
     contents.hold(&DIR, &a(rt.alloc())?, CALL, None);
     assert!(rt; contents.erase(&DIR, CALL).is_some());
     contents.lift(&DIR, OTHER);
-    assert_eq!(rt; contents.inside(&DIR, CALL), Inside::Empty);
+    assert_eq!(rt; inside(&contents, CALL), Some(Inside::Empty));
     Ok(())
 }
 
@@ -189,12 +240,12 @@ fn drops(rt: HostRuntime) -> Result<(), Fail> {
     let mut contents = with_dir(rt.alloc())?;
     contents.seal(&DIR, CALL);
     contents.unseal(&DIR, OTHER);
-    assert_eq!(rt; contents.sealed(&DIR), Some(CALL));
+    assert_eq!(rt; sealed(&contents), Some(CALL));
     contents.unseal(&DIR, CALL);
     contents.drop_dir(&DIR, OTHER);
-    assert_eq!(rt; contents.born(&LOW), Some(3));
+    assert_eq!(rt; born(&contents, &LOW), Some(3));
     contents.drop_dir(&DIR, CALL);
-    assert_eq!(rt; contents.born(&LOW), None);
+    assert_eq!(rt; born(&contents, &LOW), None);
     Ok(())
 }
 
@@ -202,7 +253,7 @@ fn drops(rt: HostRuntime) -> Result<(), Fail> {
 fn lists(rt: HostRuntime) -> Result<(), Fail> {
     let mut contents = with_file(rt.alloc())?;
     contents.reserve(&DIR, b(rt.alloc())?, CALL, access(rt.alloc())?)?;
-    let items = contents.list(&DIR)?;
+    let items = listed(&contents, rt.alloc())?;
     assert_eq!(rt; items.len(), 1);
     for item in items.iter() {
         assert_eq!(rt; item.kind, Kind::File);
@@ -233,12 +284,12 @@ fn erased(contents: &mut Contents) -> Option<Name> {
 #[test]
 fn finds_among_many(rt: HostRuntime) -> Result<(), Fail> {
     let mut contents = with_many(rt.alloc())?;
-    assert_eq!(rt; contents.busy(&DIR), None);
+    assert_eq!(rt; busy(&contents), None);
     contents.reserve(&DIR, digits(rt.alloc(), 33)?, CALL, access(rt.alloc())?)?;
-    assert_eq!(rt; contents.busy(&DIR), Some(CALL));
+    assert_eq!(rt; busy(&contents), Some(CALL));
     contents.hold(&DIR, &digits(rt.alloc(), 10)?, OTHER, Some(0o600));
     contents.hold(&DIR, &digits(rt.alloc(), 50)?, OTHER, None);
-    assert_eq!(rt; contents.busy(&DIR), Some(OTHER));
+    assert_eq!(rt; busy(&contents), Some(OTHER));
     assert_eq!(rt;
         contents.fill(&DIR, CALL, None),
         Some((DirRef { id: HIGH, born: 5 }, false))
@@ -246,7 +297,7 @@ fn finds_among_many(rt: HostRuntime) -> Result<(), Fail> {
     assert_eq!(rt; erased(&mut contents), Some(digits(rt.alloc(), 50)?));
     assert_eq!(rt; erased(&mut contents), None);
     assert!(rt; contents.settle(&DIR, OTHER));
-    assert_eq!(rt; contents.busy(&DIR), None);
-    assert_eq!(rt; contents.list(&DIR)?.len(), 40);
+    assert_eq!(rt; busy(&contents), None);
+    assert_eq!(rt; listed(&contents, rt.alloc())?.len(), 40);
     Ok(())
 }

@@ -1,2 +1,3 @@
 mod Carried
 mod LinkFacts
+mod LookupFacts

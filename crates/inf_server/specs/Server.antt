@@ -4,6 +4,8 @@ use Rattle.std.specs.Option.{option_map}
 use Rattle.inf_base.specs.declared.access.Access.{Access}
 use Rattle.inf_base.specs.declared.directory.DirRef.{DirRef}
 use Rattle.inf_base.specs.declared.id.Id.{Id}
+use Rattle.inf_base.specs.declared.key.Key.{Key}
+use Rattle.inf_base.specs.declared.key.Key.TheVariants as key
 use Rattle.inf_base.specs.declared.triple.Triple.TheVariants as triple
 use Rattle.inf_base.specs.Content.{Content, TopAccess}
 use Rattle.inf_renames.specs.Kept.{Kept}
@@ -41,6 +43,11 @@ pub record IsSameServer {R : Type 0} (old new : Standing R) : Type 0 where
 -- the root's access object, of the server that keeps it; no call changes it yet
 abbrev pub access_to : DirRef → Access
 access_to root = record { id = root.id; born = root.born; mode = 0o755; owner = 0; group = 0; birth = triple.Root }
+
+-- what each lookup of the root is told
+pub record TellsOfTop (root : DirRef) (told_key : Key) (access : Access) : Type 0 where
+  pub at_top : told_key ≡ key.Top
+  pub of_root : access ≡ access_to root
 
 abbrev pub top_of : DirRef → TopAccess
 top_of root = record { access = access_to root; held = None }

@@ -4,6 +4,7 @@ ghost use Rattle.std.specs.Prelude.{◌≡◌, Ok, Err, IfOk, IfErr, OnOk, map};
 ghost use Rattle.std.specs.List.{list_all};
 ghost use Rattle.std.specs.Option.{option_copied};
 ghost use Rattle.inf_base.specs.Same.{dir_of};
+ghost use Rattle.inf_content.specs.Slots.{seen_of, slot_in};
 ghost use Rattle.inf_perm.specs.declared.want.Want.TheVariants as want;
 ghost use Rattle.inf_server.specs.Chains.{before_last, has_entry, last_of};
 ghost use Rattle.inf_server.specs.Checks.{have_entries, lets, searched, unsealed, writable};
@@ -12,8 +13,8 @@ ghost use Rattle.inf_server.specs.Names.{is_missing, unless_held, unless_taken};
 ghost use Rattle.inf_server.specs.Refusal.{reply_of};
 
 use crate::refusal::Refusal;
-use inf_base::{Access, CallRef, Caller, Chain, DirRef, Entry, Errno, Place};
-use inf_content::Seen;
+use inf_base::{Access, CallRef, Caller, Chain, DirRef, Entry, Errno, Name, Place};
+use inf_content::{Directory, Seen};
 use inf_message::Spot;
 use inf_perm::{Want, may};
 
@@ -108,7 +109,7 @@ fn unless_held(
 }
 
 /// What another call holds or reserved is in the way.
-pub fn unless_taken(by: CallRef, born: Place, found: Seen) -> Result<Seen, Refusal>
+fn unless_taken(by: CallRef, born: Place, found: Seen) -> Result<Seen, Refusal>
     ensures ok { IfOk result (λ there. unless_taken by born found ≡ Ok there) }
     ensures refused { IfErr result (λ refusal. unless_taken by born found ≡ Err (reply_of refusal)) }
 {
@@ -125,6 +126,17 @@ pub fn unless_taken(by: CallRef, born: Place, found: Seen) -> Result<Seen, Refus
         Seen::File { held, .. } => unless_held(by, born, found, held),
         Seen::Dir { held, .. } => unless_held(by, born, found, held),
     }
+}
+
+/// What the call finds under a name of the directory.
+pub fn find(by: CallRef, directory: &Directory<'_>, name: &Name) -> Result<Seen, Refusal>
+    ensures ok { IfOk result (λ found.
+        unless_taken by directory.now.dir.born (seen_of (slot_in name.now directory.now.slots)) ≡ Ok found) }
+    ensures refused { IfErr result (λ refusal.
+        unless_taken by directory.now.dir.born (seen_of (slot_in name.now directory.now.slots))
+        ≡ Err (reply_of refusal)) }
+{
+    unless_taken(by, directory.born(), directory.look(name))
 }
 
 /// Whether each directory of the chain lets the caller search.

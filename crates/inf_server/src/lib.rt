@@ -8,6 +8,7 @@ mod refusal;
 mod server;
 #[cfg(test)]
 mod tests;
+mod top;
 
 pub use examples::{
     example_of_bearers, example_of_births, example_of_chains, example_of_files, example_of_holds,

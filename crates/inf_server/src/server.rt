@@ -1,15 +1,15 @@
 //! A server, and how it replies.
 
-ghost use Rattle.std.specs.Prelude.{◌≡◌, ◌≢◌, ◌≤◌, true, false, is_some, Ok, Err, IfOk, IfErr, OnOk, OnErr, map};
+ghost use Rattle.std.specs.Prelude.{◌≡◌, ◌≢◌, ◌≤◌, true, false, Some, Ok, Err, IfOk, IfErr, OnOk, OnErr, map};
 ghost use Rattle.std.specs.Option.{option_copied};
 ghost use Rattle.inf_base.specs.declared.item.Kind.TheVariants as kind;
+ghost use Rattle.inf_base.specs.Same.{dir_of};
 ghost use Rattle.inf_content.specs.Contents.{content_at};
 ghost use Rattle.inf_message.specs.declared.reply.Reply.TheVariants as reply;
 ghost use Rattle.inf_server.specs.Chains.{HasShortChains};
 ghost use Rattle.inf_server.specs.declared.refusal.Refusal.TheVariants as refusals;
 ghost use Rattle.inf_server.specs.Checks.{asked_of};
 ghost use Rattle.inf_server.specs.Machine.{Serves, is_built, is_built_op, is_change, may_want_op, on_change, on_op};
-ghost use Rattle.inf_server.specs.Names.{found_by};
 ghost use Rattle.inf_server.specs.Refusal.{reply_of};
 ghost use Rattle.inf_server.specs.Response.{Gives, done};
 ghost use Rattle.inf_server.specs.Server.{IsSameServer, site_of};
@@ -20,14 +20,15 @@ mod files;
 mod lookups;
 mod removals;
 
-use crate::checks::{dir_of, have_entries, no_directory, unless_taken, unsealed};
+use crate::checks::{dir_of, have_entries, no_directory, unsealed};
 use crate::refusal::Refusal;
+use crate::top::Top;
 use inf_base::{
-    CallRef, Chain, DirRef, Entry, Id, Key, LookKey, Name, NoMemory, Place, Setup, Shared, Triple,
+    CallRef, Chain, DirRef, Entry, Id, Key, LookKey, NoMemory, Place, Setup, Shared, Triple,
     server_of,
 };
 use inf_birth::{IdRule, identify};
-use inf_content::{Contents, Seen};
+use inf_content::{Contents, Directory};
 use inf_message::{Ask, Op, Reply, Request};
 use inf_renames::Renames;
 use std::alloc::Global;
@@ -41,7 +42,7 @@ pub struct Server<R: IdRule> {
     number: u32,
     servers: u32,
     /// The root, where it is kept here.
-    root: Option<DirRef>,
+    root: Option<Top>,
     contents: Contents,
     renames: Renames,
 }
@@ -76,7 +77,7 @@ impl<R: IdRule> Server<R> {
         let mut root = None;
         if number == server_of(&id, setup.servers) {
             contents.make(id, Shared::new(alloc, Triple::Root)?, 0, NOBODY)?;
-            root = Some(DirRef { id, born: 0 });
+            root = Some(Top::new(alloc, id)?);
         }
         Ok(Server {
             alloc,
@@ -196,17 +197,20 @@ impl<R: IdRule> Server<R> {
         }
     }
 
-    /// The entry of the directory asked, by a request that carries these chains: the directory is kept here, stands,
-    /// and no other call sealed it.
+    /// The entry of the directory asked, by a request that carries these chains, and the directory: it is kept here,
+    /// stands, and no other call sealed it.
     fn asked<'a>(
         &self,
         by: CallRef,
         asked: Option<&'a Entry>,
         carried: &[&Chain],
-    ) -> Result<&'a Entry, Refusal>
-        ensures ok { IfOk result (λ entry.
+    ) -> Result<(&'a Entry, Directory<'_>), Refusal>
+        ensures ok { IfOk result (λ found.
             asked_of (site_of R.digest_of self.now) self.now.state by (option_copied asked.entry)
-            (map (λ chain. chain.now) carried.now) ≡ Ok entry.now) }
+            (map (λ chain. chain.now) carried.now) ≡ Ok found.0.now) }
+        ensures stands { IfOk result (λ found.
+            content_at (dir_of found.0.now.access) self.now.state.contents ≡ Some found.1) }
+        ensures directory { IfOk result (λ found. found.1.dir ≡ dir_of found.0.now.access) }
         ensures refused { IfErr result (λ refusal.
             asked_of (site_of R.digest_of self.now) self.now.state by (option_copied asked.entry)
             (map (λ chain. chain.now) carried.now) ≡ Err (reply_of refusal)) }
@@ -217,29 +221,11 @@ impl<R: IdRule> Server<R> {
         self.check_here(&entry.access.id)?;
         have_entries(carried)?;
         let dir = dir_of(&entry.access);
-        if !self.stands(&dir) {
+        let Some(directory) = self.contents.directory(&dir) else {
             return Err(Refusal::Gone);
-        }
-        unsealed(by, dir.born, self.contents.sealed(&dir))?;
-        Ok(entry)
-    }
-
-    fn stands(&self, dir: &DirRef) -> bool
-        ensures { result ≡ is_some (content_at dir.now self.now.state.contents) }
-    {
-        match self.contents.born(&dir.id) {
-            None => false,
-            Some(born) => born == dir.born,
-        }
-    }
-
-    /// What the call finds under a name of a directory.
-    fn find(&self, by: CallRef, dir: &DirRef, name: &Name) -> Result<Seen, Refusal>
-        ensures ok { IfOk result (λ found. found_by by dir.now name.now self.now.state.contents ≡ Ok found) }
-        ensures refused { IfErr result (λ refusal.
-            found_by by dir.now name.now self.now.state.contents ≡ Err (reply_of refusal)) }
-    {
-        unless_taken(by, dir.born, self.contents.look(dir, name))
+        };
+        unsealed(by, dir.born, directory.sealed())?;
+        Ok((entry, directory))
     }
 }
 

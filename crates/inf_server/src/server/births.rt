@@ -12,7 +12,7 @@ ghost use Rattle.inf_server.specs.Server.{IsSameServer, site_of};
 ghost use Rattle.inf_server.specs.State.{with_contents};
 
 use super::Server;
-use crate::checks::{dir_of, is_missing, last_of, search, write};
+use crate::checks::{dir_of, find, is_missing, last_of, search, write};
 use crate::refusal::Refusal;
 use inf_base::{
     Access, CallRef, Caller, Chain, DirRef, Errno, Name, NoMemory, Place, Shared, Triple, TryClone,
@@ -36,11 +36,11 @@ impl<R: IdRule> Server<R> {
         ensures unchanged { OnErr result (self.new ≡ self.old) }
         ensures same { IsSameServer self.old self.new }
     {
-        let entry = self.asked(ask.from, last_of(chain.as_slice()), &[chain])?;
+        let (entry, directory) = self.asked(ask.from, last_of(chain.as_slice()), &[chain])?;
         search(ask.caller, chain.as_slice())?;
         write(ask.caller, entry)?;
         let dir = dir_of(&entry.access);
-        if !is_missing(self.find(ask.from, &dir, name)?) {
+        if !is_missing(find(ask.from, &directory, name)?) {
             return Err(Refusal::Denied(Errno::EEXIST));
         }
         let version = self.renames.least_version(&dir.id, name);
@@ -135,7 +135,7 @@ impl<R: IdRule> Server<R> {
         ensures unchanged { OnErr result (self.new ≡ self.old) }
         ensures same { IsSameServer self.old self.new }
     {
-        let entry = self.asked(ask.from, last_of(chain.as_slice()), &[chain])?;
+        let (entry, _) = self.asked(ask.from, last_of(chain.as_slice()), &[chain])?;
         let dir = dir_of(&entry.access);
         let link = Some((linked, mode, ask.caller));
         let Some(_) = self.contents.fill(&dir, ask.from, link) else {

@@ -11,7 +11,7 @@ ghost use Rattle.inf_server.specs.Server.{IsSameServer, site_of};
 ghost use Rattle.inf_server.specs.State.{with_contents};
 
 use super::Server;
-use crate::checks::{dir_of, is_missing, last_of, search, write};
+use crate::checks::{dir_of, find, is_missing, last_of, search, write};
 use crate::refusal::Refusal;
 use inf_base::{Chain, DirRef, Errno, FileMeta, Kind, Name, NoMemory, TryClone};
 use inf_birth::IdRule;
@@ -36,11 +36,11 @@ impl<R: IdRule> Server<R> {
         ensures unchanged { OnErr result (self.new ≡ self.old) }
         ensures same { IsSameServer self.old self.new }
     {
-        let entry = self.asked(ask.from, last_of(chain.as_slice()), &[chain])?;
+        let (entry, directory) = self.asked(ask.from, last_of(chain.as_slice()), &[chain])?;
         search(ask.caller, chain.as_slice())?;
         write(ask.caller, entry)?;
         let dir = dir_of(&entry.access);
-        if !is_missing(self.find(ask.from, &dir, name)?) {
+        if !is_missing(find(ask.from, &directory, name)?) {
             return Err(Refusal::Denied(Errno::EEXIST));
         }
         let meta = FileMeta {
@@ -81,9 +81,9 @@ impl<R: IdRule> Server<R> {
             stat (site_of R.digest_of self.now) self.now.state ask.now chain.now name.now
             ≡ Err (reply_of refusal)) }
     {
-        let entry = self.asked(ask.from, last_of(chain.as_slice()), &[chain])?;
+        let (_, directory) = self.asked(ask.from, last_of(chain.as_slice()), &[chain])?;
         search(ask.caller, chain.as_slice())?;
-        stat_of(self.find(ask.from, &dir_of(&entry.access), name)?)
+        stat_of(find(ask.from, &directory, name)?)
     }
 
     /// What stands at the name at which the walk ends.
@@ -95,9 +95,9 @@ impl<R: IdRule> Server<R> {
             walk (site_of R.digest_of self.now) self.now.state ask.now chain.now name.now
             ≡ Err (reply_of refusal)) }
     {
-        let entry = self.asked(ask.from, last_of(chain.as_slice()), &[chain])?;
+        let (_, directory) = self.asked(ask.from, last_of(chain.as_slice()), &[chain])?;
         search(ask.caller, chain.as_slice())?;
-        self.find(ask.from, &dir_of(&entry.access), name)
+        find(ask.from, &directory, name)
     }
 
     /// What stands under the name of a directory that is to be removed.
@@ -109,10 +109,10 @@ impl<R: IdRule> Server<R> {
             rmdir_name (site_of R.digest_of self.now) self.now.state ask.now chain.now name.now
             ≡ Err (reply_of refusal)) }
     {
-        let entry = self.asked(ask.from, last_of(chain.as_slice()), &[chain])?;
+        let (entry, directory) = self.asked(ask.from, last_of(chain.as_slice()), &[chain])?;
         search(ask.caller, chain.as_slice())?;
         write(ask.caller, entry)?;
-        self.find(ask.from, &dir_of(&entry.access), name)
+        find(ask.from, &directory, name)
     }
 }
 

@@ -2,7 +2,7 @@
 
 ghost use Rattle.std.specs.Prelude.{◌≡◌, true, is_some, Ok, Err, IfOk, IfErr, IfSome, OnOk};
 ghost use Rattle.inf_base.specs.declared.key.Key.TheVariants as key;
-ghost use Rattle.inf_content.specs.Contents.{access_found, content_at};
+ghost use Rattle.inf_content.specs.Slots.{access_of, slot_in};
 ghost use Rattle.inf_message.specs.declared.reply.Reply.TheVariants as reply;
 ghost use Rattle.inf_server.specs.Lookups.{lookup_at, lookup_top, unheld, unless_sealed};
 ghost use Rattle.inf_server.specs.Refusal.{reply_of};
@@ -13,7 +13,7 @@ use super::Server;
 use crate::refusal::Refusal;
 use inf_base::{Access, CallRef, DirRef, Id, Key, Name, NoMemory, Place, Shared, Triple, TryClone};
 use inf_birth::IdRule;
-use inf_content::Seen;
+use inf_content::{Directory, Seen};
 use inf_message::{Reply, Spot};
 use std::alloc::Global;
 
@@ -25,18 +25,10 @@ impl<R: IdRule> Server<R> {
         ensures refused { IfErr result (λ refusal.
             lookup_top (site_of R.digest_of self.now) self.now.state ≡ Err (reply_of refusal)) }
     {
-        let Some(root) = self.root else {
+        let Some(top) = &self.root else {
             return Err(Refusal::Other);
         };
-        let access = Access {
-            id: root.id,
-            born: root.born,
-            mode: 0o755,
-            owner: 0,
-            group: 0,
-            birth: Triple::Root,
-        };
-        match told(self.alloc, Key::Top, access) {
+        match top.told(self.alloc) {
             Ok(reply) => Ok(reply),
             Err(NoMemory) => Ok(Reply::NoMem),
         }
@@ -50,12 +42,12 @@ impl<R: IdRule> Server<R> {
             lookup_at (site_of R.digest_of self.now) self.now.state id.now name.now ≡ Err (reply_of refusal)) }
     {
         self.check_here(id)?;
-        let Some(born) = self.contents.born(id) else {
+        let Some(directory) = self.contents.directory_of_id(id) else {
             return Err(Refusal::NoDir);
         };
-        let dir = DirRef { id: *id, born };
-        unless_sealed(born, self.contents.sealed(&dir))?;
-        match self.contents.look(&dir, name) {
+        let born = directory.born();
+        unless_sealed(born, directory.sealed())?;
+        match directory.look(name) {
             Seen::Gone => Ok(Reply::Absent { born }),
             Seen::Missing => Ok(Reply::Absent { born }),
             Seen::Reserved(by) => Err(Refusal::Busy(by, Spot::Slot, born)),
@@ -65,7 +57,7 @@ impl<R: IdRule> Server<R> {
             }
             Seen::Dir { held, .. } => {
                 unheld(born, held)?;
-                match self.found(dir, name) {
+                match self.found(DirRef { id: *id, born }, &directory, name) {
                     Ok(reply) => Ok(reply),
                     Err(NoMemory) => Ok(Reply::NoMem),
                 }
@@ -74,12 +66,12 @@ impl<R: IdRule> Server<R> {
     }
 
     /// What a lookup is told of the directory that stands under a name.
-    fn found(&self, dir: DirRef, name: &Name) -> Result<Reply, NoMemory>
-        requires stands { is_some (access_found name.now (content_at dir self.now.state.contents)) ≡ true }
-        ensures { IfOk result (λ given. IfSome (access_found name.now (content_at dir self.now.state.contents))
+    fn found(&self, dir: DirRef, directory: &Directory<'_>, name: &Name) -> Result<Reply, NoMemory>
+        requires stands { is_some (access_of (slot_in name.now directory.now.slots)) ≡ true }
+        ensures { IfOk result (λ given. IfSome (access_of (slot_in name.now directory.now.slots))
             (λ access. given ≡ reply.Found (key.At dir name.now) access)) }
     {
-        let Some(access) = self.contents.access_of(&dir, name)? else {
+        let Some(access) = directory.access_of(self.alloc, name)? else {
             unreachable!()
         };
         let key = Key::At {

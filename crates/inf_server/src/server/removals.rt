@@ -9,7 +9,7 @@ ghost use Rattle.inf_server.specs.Response.{done};
 ghost use Rattle.inf_server.specs.Server.{IsSameServer, site_of};
 
 use super::Server;
-use crate::checks::{before_last, dir_of, last_of, search, write};
+use crate::checks::{before_last, dir_of, find, last_of, search, write};
 use crate::refusal::Refusal;
 use inf_base::{Access, Chain, DirRef, Errno, Id, Key, Name, Place};
 use inf_birth::IdRule;
@@ -30,11 +30,11 @@ impl<R: IdRule> Server<R> {
         let Some(parent) = last_of(way) else {
             return Err(Refusal::Other);
         };
-        let entry = self.asked(ask.from, last_of(chain.as_slice()), &[chain])?;
+        let (entry, directory) = self.asked(ask.from, last_of(chain.as_slice()), &[chain])?;
         search(ask.caller, way)?;
         write(ask.caller, parent)?;
         let dir = dir_of(&entry.access);
-        unless_inside(dir.born, self.contents.inside(&dir, ask.from))?;
+        unless_inside(dir.born, directory.inside(ask.from))?;
         self.contents.seal(&dir, ask.from);
         Ok(())
     }
@@ -69,9 +69,9 @@ impl<R: IdRule> Server<R> {
             return Err(Refusal::Other);
         };
         let above = last_of(before_last(chain.as_slice()));
-        let entry = self.asked(ask.from, above, &[chain])?;
+        let (entry, directory) = self.asked(ask.from, above, &[chain])?;
         let dir = dir_of(&entry.access);
-        let found = self.find(ask.from, &dir, name)?;
+        let found = find(ask.from, &directory, name)?;
         if !is_the_directory(&target.access, found) {
             return Err(Refusal::Other);
         }
