@@ -1,16 +1,16 @@
 -- What a step of a client does, case by case, and what is kept true of it.
 use Rattle.std.proofs.Common.{◌≡◌, ◌≢◌, ℕ, zero, suc, ◌+◌, ◌-◌, ◌<◌, ◌≤◌, Bool, true, false, List, [], ◌∷◌, ◌++◌, length, map, drop, slice_get, Option, Some, None, refl, sym, ap, subst, ◌∙◌, inl, inr, arith, length-append}
-use Rattle.std.proofs.lemmas.List.{drop-drop, length-drop, length-map}
+use Rattle.std.proofs.lemmas.List.{drop-drop, length-drop}
 use Rattle.std.proofs.lemmas.Option.{slice_get_within}
 use Rattle.inf_base.specs.declared.id.Id.{Id}
 use Rattle.inf_base.specs.declared.call.Call.{Call}
 use Rattle.inf_base.specs.declared.setup.ClientLine.{ClientLine}
-use Rattle.inf_client.specs.AskLog.{AskLog, asked_first, asked_log, no_asks}
+use Rattle.inf_client.specs.AskLog.{AskLog, asked_log, no_asks}
 use Rattle.inf_client.specs.Client.{Client, AsksNext, IsAtRest, Rests, Steps, client_with, asks_left, group_asks, ready_in}
 use Rattle.inf_client.specs.Group.{IsKept, IsReadied, in_outbox, posted_of}
 use Rattle.inf_client.specs.Planned.{planned, planned_from}
 use Rattle.inf_client.specs.Room.{room_between, room_in, room_within}
-use Rattle.inf_client.proofs.GroupFacts.{from_is, posted_at, sends}
+use Rattle.inf_client.proofs.GroupFacts.{asks_length, from_is, posted_at, sends}
 use Rattle.inf_duty.specs.ClientStep.{IsQuiet, is_ask, next_as}
 use Rattle.inf_duty.specs.Duty.{asks, begun, has_ask, next_in, next_of, next_step}
 use Rattle.inf_duty.specs.Messages.{is_winding, post_of}
@@ -95,7 +95,7 @@ kept_start world client s log outbox begins none empty =
     by : (line : Option ClientLine) → IsKept (starting world client line) false no_asks false []
     by None = record {
       at_rest = tt;
-      in_step = record { ready = refl; first = λ handed. absurd (cc) };
+      first = λ handed. absurd (cc);
       here = λ handed. absurd (cc);
       calls = λ some. absurd (omega arith);
       posts = refl;
@@ -103,7 +103,7 @@ kept_start world client s log outbox begins none empty =
     }
     by (Some line) = record {
       at_rest = tt;
-      in_step = record { ready = refl; first = λ handed. absurd (cc) };
+      first = λ handed. absurd (cc);
       here = λ handed. absurd (cc);
       calls = λ some. absurd (omega arith);
       posts = refl;
@@ -111,9 +111,6 @@ kept_start world client s log outbox begins none empty =
     }
 
 -- ---- the asks that are left
-
-pub asks_length : (s : ClientState) → length (group_asks s) ≡ length (group s.who s.stage)
-asks_length s = length-map (group s.who s.stage) (λ (m : Message). posted_ask m.number (record { from = call_ref s; caller = s.who.caller; request = m.request }))
 
 -- an ask that is left, by its message
 record LeftAt {A B : Type 0} (f : A → B) (xs : List A) (n : ℕ) (first : B) : Type 0 where
@@ -157,9 +154,9 @@ left_some s (call ∷ left) number ask is = omega arith
 
 -- the next ask of a group that is under way
 module _ (s : ClientState) (log : AskLog) (outbox others : List (ℕ × Ask)) (number : ℕ) (ask : Ask) (kept : IsKept s false log false outbox)
-    (inside : s.sent ≢ []) (next : next_step s ≡ asks number ask) (first : slice_get log.ready 0 ≡ Some (posted_ask number ask)) where
-  all_left : log.ready ≡ asks_left s
-  all_left = kept.in_step.ready ∙ ready_inside s.sent s inside
+    (inside : s.sent ≢ []) (next : next_step s ≡ asks number ask) (first : slice_get (asks_left s) 0 ≡ Some (posted_ask number ask)) where
+  all_left : ready_in false s.sent s ≡ asks_left s
+  all_left = ready_inside s.sent s inside
 
   asks_within : (digest : List ℕ → Id) → AsksNext digest number ask (client_with s false log false) (client_with s false log true)
   asks_within digest = record {
@@ -169,24 +166,25 @@ module _ (s : ClientState) (log : AskLog) (outbox others : List (ℕ × Ask)) (n
     state = sym (begun_inside digest ask s.sent s inside);
     still_here = refl;
     asks = refl;
-    ready = all_left;
     first = first;
     handed = refl;
   }
 
-  kept_within : map posted_of others ≡ in_outbox (is_winding s.stage) true log.ready → IsKept s false log true others
+  kept_within : map posted_of others ≡ in_outbox (is_winding s.stage) true (asks_left s) → IsKept s false log true others
   kept_within posts =
       let sent = sends s number ask next in
       record {
         at_rest = tt;
-        in_step = record { ready = all_left; first = λ handed. slice_get_within (group s.who s.stage) (length s.sent) sent.message sent.at };
+        first = λ handed. slice_get_within (group s.who s.stage) (length s.sent) sent.message sent.at;
         here = λ handed. refl;
-        calls = kept.calls;
+        calls = λ some. kept.calls (subst (λ (ready : List Posted). 0 < length ready) (sym all_left) some);
         posts = posts;
-        room = subst (λ (room : ℕ). room ≤ log.room) (inside_room s.sent s inside) kept.room;
+        room =
+            subst (λ (ready : List Posted). length ready + room_within s.stage ≤ log.room) all_left
+            (subst (λ (room : ℕ). length (ready_in false s.sent s) + room ≤ log.room) (inside_room s.sent s inside) kept.room);
       }
 
--- what is kept a second time winds no call up
+-- what is kept to be handed out winds no call up
 boxed : (winding : Bool) (ready : List Posted) (first : Posted) (others : List Posted) → in_outbox winding false ready ≡ first ∷ others
     → (winding ≡ false) × (ready ≡ first ∷ others)
 boxed true ready first others is = absurd (cc)
@@ -195,17 +193,18 @@ boxed false ready first others is = (refl, is)
 -- the first ask of the outbox is the next one
 module _ (s : ClientState) (log : AskLog) (outbox others : List (ℕ × Ask)) (number : ℕ) (ask : Ask) (kept : IsKept s false log false outbox)
     (first : outbox ≡ (number, ask) ∷ others) where
-  popped : (is_winding s.stage ≡ false) × (log.ready ≡ posted_ask number ask ∷ map posted_of others)
-  popped = boxed (is_winding s.stage) log.ready (posted_ask number ask) (map posted_of others) (sym kept.posts ∙ ap (map posted_of) first)
+  popped : (is_winding s.stage ≡ false) × (ready_in false s.sent s ≡ posted_ask number ask ∷ map posted_of others)
+  popped = boxed (is_winding s.stage) (ready_in false s.sent s) (posted_ask number ask) (map posted_of others) (sym kept.posts ∙ ap (map posted_of) first)
 
   inside : (s.sent ≢ []) × (ready_in false s.sent s ≡ asks_left s)
-  inside = inside_ready s.sent s (posted_ask number ask) (map posted_of others) (sym kept.in_step.ready ∙ popped.1)
+  inside = inside_ready s.sent s (posted_ask number ask) (map posted_of others) popped.1
+
+  left : asks_left s ≡ posted_ask number ask ∷ map posted_of others
+  left = sym inside.1 ∙ popped.1
 
   message_left : LeftAt (λ (m : Message). posted_ask m.number (record { from = call_ref s; caller = s.who.caller; request = m.request }))
       (group s.who s.stage) (length s.sent) (posted_ask number ask)
-  message_left =
-      left_at _ (group s.who s.stage) (length s.sent) (posted_ask number ask) (map posted_of others)
-      (sym inside.1 ∙ sym kept.in_step.ready ∙ popped.1)
+  message_left = left_at _ (group s.who s.stage) (length s.sent) (posted_ask number ask) (map posted_of others) left
 
   next_inside : next_step s ≡ asks number ask
   next_inside =
@@ -214,12 +213,12 @@ module _ (s : ClientState) (log : AskLog) (outbox others : List (ℕ × Ask)) (n
 
   pub asks_inside : (digest : List ℕ → Id) → AsksNext digest number ask (client_with s false log false) (client_with s false log true)
   asks_inside digest =
-      asks_within s log outbox others number ask kept inside.0 next_inside (ap (λ (ready : List Posted). slice_get ready 0) popped.1) digest
+      asks_within s log outbox others number ask kept inside.0 next_inside (ap (λ (ready : List Posted). slice_get ready 0) left) digest
 
   pub kept_inside : IsKept s false log true others
   kept_inside =
-      kept_within s log outbox others number ask kept inside.0 next_inside (ap (λ (ready : List Posted). slice_get ready 0) popped.1)
-      (sym (ap (drop 1) popped.1) ∙ ap (λ winding. in_outbox winding true log.ready) (sym popped.0))
+      kept_within s log outbox others number ask kept inside.0 next_inside (ap (λ (ready : List Posted). slice_get ready 0) left)
+      (sym (ap (drop 1) left) ∙ ap (λ winding. in_outbox winding true (asks_left s)) (sym popped.0))
 
 first_left : {A : Type 0} (n : ℕ) (xs : List A) → slice_get (drop n xs) 0 ≡ slice_get xs n
 first_left zero xs = refl
@@ -230,11 +229,8 @@ first_left (suc n) (x ∷ xs) = first_left n xs
 module _ (s : ClientState) (log : AskLog) (outbox : List (ℕ × Ask)) (number : ℕ) (ask : Ask) (kept : IsKept s false log false outbox)
     (inside : s.sent ≢ []) (at : slice_get (map (post_of s) (group s.who s.stage)) (length s.sent) ≡ Some (number, ask))
     (next : next_step s ≡ asks number ask) where
-  first_ready : slice_get log.ready 0 ≡ Some (posted_ask number ask)
-  first_ready =
-      ap (λ (ready : List Posted). slice_get ready 0) (kept.in_step.ready ∙ ready_inside s.sent s inside)
-      ∙ first_left (length s.sent) (group_asks s)
-      ∙ posted_at s (length s.sent) number ask at
+  first_ready : slice_get (asks_left s) 0 ≡ Some (posted_ask number ask)
+  first_ready = first_left (length s.sent) (group_asks s) ∙ posted_at s (length s.sent) number ask at
 
   pub asks_winding : (digest : List ℕ → Id) → AsksNext digest number ask (client_with s false log false) (client_with s false log true)
   asks_winding digest = asks_within s log outbox outbox number ask kept inside next first_ready digest
@@ -242,13 +238,13 @@ module _ (s : ClientState) (log : AskLog) (outbox : List (ℕ × Ask)) (number :
   pub kept_winding : is_winding s.stage ≡ true → IsKept s false log true outbox
   kept_winding winding =
       kept_within s log outbox outbox number ask kept inside next first_ready
-      (kept.posts ∙ ap (λ w. in_outbox w false log.ready) winding ∙ sym (ap (λ w. in_outbox w true log.ready) winding))
+      (kept.posts ∙ ap (λ w. in_outbox w false (ready_in false s.sent s)) winding ∙ sym (ap (λ w. in_outbox w true (asks_left s)) winding))
 
 pub full : (s : ClientState) (gone : Bool) (log : AskLog) (outbox : List (ℕ × Ask)) → IsKept s gone log false outbox → outbox ≡ [] → s.sent ≢ []
     → is_winding s.stage ≡ false → length (group s.who s.stage) ≤ length s.sent
 full s gone log outbox kept none inside going =
-    let empty : log.ready ≡ [] = sym (kept.posts ∙ ap (λ w. in_outbox w false log.ready) going) ∙ ap (map posted_of) none in
-    let all : asks_left s ≡ [] = sym (ready_inside s.sent s inside) ∙ sym kept.in_step.ready ∙ empty in
+    let empty : ready_in false s.sent s ≡ [] = sym (kept.posts ∙ ap (λ w. in_outbox w false (ready_in false s.sent s)) going) ∙ ap (map posted_of) none in
+    let all : asks_left s ≡ [] = sym (ready_inside s.sent s inside) ∙ empty in
     let left : length (group_asks s) - length s.sent ≡ 0 = sym (length-drop (length s.sent) (group_asks s)) ∙ ap length all in
     let many = asks_length s in
     omega arith
@@ -257,16 +253,19 @@ pub between_in : (sent : List Sent) (s : ClientState) → sent ≡ [] → ready_
 between_in [] s between = refl
 between_in (x ∷ sent) s between = absurd (cc)
 
-pub none_ready : (s : ClientState) (gone : Bool) (log : AskLog) (outbox : List (ℕ × Ask)) → IsKept s gone log false outbox → s.sent ≡ [] → log.ready ≡ []
-none_ready s gone log outbox kept between = kept.in_step.ready ∙ between_in s.sent s between
-
 pub room_ready : (s : ClientState) (gone : Bool) (log : AskLog) (outbox : List (ℕ × Ask)) → IsKept s gone log false outbox → s.sent ≡ []
     → room_between s.who s.stage ≤ log.room
-room_ready s gone log outbox kept between = subst (λ (room : ℕ). room ≤ log.room) (ap (λ sent. room_in false sent s) between) kept.room
+room_ready s gone log outbox kept between =
+    let fits : 0 + room_between s.who s.stage ≤ log.room =
+    subst (λ (sent : List Sent). length (ready_in false sent s) + room_in false sent s ≤ log.room) between kept.room in
+    omega (arith, fits)
 
 -- ---- a new group
 
 module _ (s now : ClientState) (number : ℕ) (ask : Ask) (others : List (ℕ × Ask)) (log new : AskLog) (readied : IsReadied number ask others now log new) where
+  all_first : asks_left now ≡ group_asks now
+  all_first = ap (λ (sent : List Sent). drop (length sent) (group_asks now)) readied.between
+
   pub asks_first : (digest : List ℕ → Id) → now ≡ begun digest ask s.sent s → ask.from.client ≡ s.who.client → AsksNext digest number ask (client_with s false log false) (client_with now false new true)
   asks_first digest is own = record {
     here = refl;
@@ -275,26 +274,22 @@ module _ (s now : ClientState) (number : ℕ) (ask : Ask) (others : List (ℕ ×
     state = is;
     still_here = refl;
     asks = readied.asks_same;
-    ready = readied.ready ∙ sym (ap (λ (sent : List Sent). drop (length sent) (group_asks now)) readied.between);
-    first = ap (λ (ready : List Posted). slice_get ready 0) readied.ready ∙ readied.first;
+    first = ap (λ (ready : List Posted). slice_get ready 0) all_first ∙ readied.first;
     handed = refl;
   }
 
   pub kept_first : IsKept now false new true others
   kept_first = record {
     at_rest = tt;
-    in_step = record {
-      ready = readied.ready ∙ sym (ap (λ (sent : List Sent). drop (length sent) (group_asks now)) readied.between);
-      first = λ handed.
-          let some = slice_get_within (group_asks now) 0 (posted_ask number ask) readied.first in
-          let same = asks_length now in
-          let none : length now.sent ≡ 0 = ap length readied.between in
-          omega arith;
-    };
+    first = λ handed.
+        let some = slice_get_within (group_asks now) 0 (posted_ask number ask) readied.first in
+        let same = asks_length now in
+        let none : length now.sent ≡ 0 = ap length readied.between in
+        omega arith;
     here = λ handed. refl;
     calls = λ some. left_some now now.left number ask readied.next;
-    posts = readied.posts ∙ sym (ap (in_outbox (is_winding now.stage) true) readied.ready);
-    room = readied.room;
+    posts = readied.posts ∙ sym (ap (in_outbox (is_winding now.stage) true) all_first);
+    room = subst (λ (ready : List Posted). length ready + room_within now.stage ≤ new.room) (sym all_first) readied.room;
   }
 
 -- where nothing is ready, nothing is to be handed out
@@ -306,16 +301,18 @@ none_boxed false false = refl
 pub kept_gone : (s now : ClientState) (log new : AskLog) (outbox : List (ℕ × Ask)) → IsKept s false log false outbox → outbox ≡ [] → s.sent ≡ []
     → now.sent ≡ [] → has_ask now ≡ false → new ≡ log → room_between now.who now.stage ≤ new.room → IsKept now true new false outbox
 kept_gone s now log new outbox kept none before between unbuilt same room =
-    let empty : new.ready ≡ [] = ap (λ (l : AskLog). l.ready) same ∙ none_ready s false log outbox kept before in
+    let empty = between_in now.sent now between in
     record {
       at_rest = (between, unbuilt);
-      in_step = record { ready = empty ∙ sym (between_in now.sent now between); first = λ handed. absurd (cc) };
+      first = λ handed. absurd (cc);
       here = λ handed. absurd (cc);
-      calls = λ some. (let count : length new.ready ≡ 0 = ap length empty in absurd (omega arith));
+      calls = λ some. (let count : length (ready_in false now.sent now) ≡ 0 = ap length empty in absurd (omega arith));
       posts =
           ap (map posted_of) none ∙ sym (none_boxed (is_winding now.stage) false)
           ∙ sym (ap (in_outbox (is_winding now.stage) false) empty);
-      room = subst (λ (needed : ℕ). needed ≤ new.room) (sym (ap (λ (sent : List Sent). room_in false sent now) between)) room;
+      room =
+          let fits : 0 + room_between now.who now.stage ≤ new.room = omega (arith, room) in
+          subst (λ (sent : List Sent). length (ready_in false sent now) + room_in false sent now ≤ new.room) (sym between) fits;
     }
 
 -- ---- an Ask
@@ -329,16 +326,19 @@ begins : (ready : List Posted) → 0 < length ready → Begins ready
 begins [] some = absurd (omega arith)
 begins (first ∷ others) some = record { first = first; others = others; is = refl }
 
-handed_ready : (s : ClientState) (gone : Bool) (log : AskLog) (outbox : List (ℕ × Ask)) → IsKept s gone log true outbox → log.ready ≡ asks_left s
-handed_ready s gone log outbox kept = kept.in_step.ready
-
-pub ready_some : (s : ClientState) (gone : Bool) (log : AskLog) (outbox : List (ℕ × Ask)) → IsKept s gone log true outbox → 0 < length log.ready
-ready_some s gone log outbox kept =
-    let there : length s.sent < length (group s.who s.stage) = kept.in_step.first refl in
+some_ready : (s : ClientState) (gone : Bool) (log : AskLog) (outbox : List (ℕ × Ask)) → IsKept s gone log true outbox → 0 < length (asks_left s)
+some_ready s gone log outbox kept =
+    let there : length s.sent < length (group s.who s.stage) = kept.first refl in
     let many = asks_length s in
-    let left : length log.ready ≡ length (group_asks s) - length s.sent =
-    ap length (handed_ready s gone log outbox kept) ∙ length-drop (length s.sent) (group_asks s) in
+    let left : length (asks_left s) ≡ length (group_asks s) - length s.sent = length-drop (length s.sent) (group_asks s) in
     omega arith
+
+-- there is room for the ask that was handed out
+pub room_some : (s : ClientState) (gone : Bool) (log : AskLog) (outbox : List (ℕ × Ask)) → IsKept s gone log true outbox → 0 < log.room
+room_some s gone log outbox kept =
+    let some = some_ready s gone log outbox kept in
+    let fits : length (asks_left s) + room_within s.stage ≤ log.room = kept.room in
+    omega (arith, some, fits)
 
 pushed_inside : (sent : List Sent) (x : Sent) → (sent ++ x ∷ []) ≢ []
 pushed_inside [] x = λ none. absurd (cc)
@@ -349,25 +349,27 @@ past_first : (winding : Bool) (first : Posted) (others : List Posted)
 past_first true first others = refl
 past_first false first others = refl
 
-pub kept_asked : (place : ℕ) (s : ClientState) (gone : Bool) (log : AskLog) (outbox : List (ℕ × Ask)) → IsKept s gone log true outbox
-    → IsKept (placed place s) gone (asked_log place log) false outbox
-kept_asked place s gone log outbox kept =
-    let some = begins log.ready (ready_some s gone log outbox kept) in
-    let left : drop (length s.sent) (group_asks s) ≡ some.first ∷ some.others = sym (handed_ready s gone log outbox kept) ∙ some.is in
-    let after : (asked_log place log).ready ≡ some.others = ap (λ (ready : List Posted). (asked_first place log ready).ready) some.is in
-    let room_same : (asked_log place log).room ≡ log.room = ap (λ (ready : List Posted). (asked_first place log ready).room) some.is in
+pub kept_asked : (place : ℕ) (posted : Posted) (s : ClientState) (gone : Bool) (log : AskLog) (outbox : List (ℕ × Ask)) → IsKept s gone log true outbox
+    → IsKept (placed place s) gone (asked_log place posted log) false outbox
+kept_asked place posted s gone log outbox kept =
+    let some = begins (asks_left s) (some_ready s gone log outbox kept) in
     let inside : (placed place s).sent ≢ [] = pushed_inside s.sent _ in
     let count : length (placed place s).sent ≡ length s.sent + 1 = length-append s.sent _ in
-    let left_after : asks_left (placed place s) ≡ some.others =
-    ap (λ (n : ℕ). drop n (group_asks s)) count ∙ sym (drop-drop 1 (length s.sent) (group_asks s)) ∙ ap (drop 1) left in
+    let left_after : ready_in false (placed place s).sent (placed place s) ≡ some.others =
+    ready_inside (placed place s).sent (placed place s) inside
+    ∙ ap (λ (n : ℕ). drop n (group_asks s)) count ∙ sym (drop-drop 1 (length s.sent) (group_asks s)) ∙ ap (drop 1) some.is in
+    let fits : suc (length some.others) + room_within s.stage ≤ log.room =
+    subst (λ (ready : List Posted). length ready + room_within s.stage ≤ log.room) some.is kept.room in
     record {
       at_rest = subst (IsAtRest (placed place s)) (sym (kept.here refl)) tt;
-      in_step = record { ready = after ∙ sym left_after ∙ sym (ready_inside (placed place s).sent (placed place s) inside); first = λ handed. absurd (cc) };
+      first = λ handed. absurd (cc);
       here = λ handed. absurd (cc);
-      calls = λ more. kept.calls (ready_some s gone log outbox kept);
+      calls = λ more. kept.calls (some_ready s gone log outbox kept);
       posts =
           kept.posts ∙ ap (in_outbox (is_winding s.stage) true) some.is ∙ past_first (is_winding s.stage) some.first some.others
-          ∙ sym (ap (in_outbox (is_winding s.stage) false) after);
-      room = subst (λ (needed : ℕ). needed ≤ (asked_log place log).room) (sym (inside_room (placed place s).sent (placed place s) inside))
-          (subst (λ (room : ℕ). room_within s.stage ≤ room) (sym room_same) kept.room);
+          ∙ sym (ap (in_outbox (is_winding s.stage) false) left_after);
+      room =
+          subst (λ (ready : List Posted). length ready + room_in false (placed place s).sent (placed place s) ≤ log.room - 1) (sym left_after)
+          (subst (λ (room : ℕ). length some.others + room ≤ log.room - 1) (sym (inside_room (placed place s).sent (placed place s) inside))
+          (omega (arith, fits)));
     }

@@ -1,11 +1,11 @@
 -- The log as it is kept: what its parts show, before and after an Ask and an answer.
-use Rattle.std.proofs.Common.{◌≡◌, ℕ, ◌+◌, ◌<◌, ◌≤◌, Bool, true, false, cond, ltb, not, ◌||◌, List, [], ◌∷◌, ◌++◌, length, map, get_or, insert, position, remove, None, Some, sym, ap, ap₂, ◌∙◌, subst, arith}
+use Rattle.std.proofs.Common.{◌≡◌, ℕ, ◌+◌, ◌-◌, ◌<◌, ◌≤◌, Bool, true, false, cond, ltb, not, ◌||◌, List, [], ◌∷◌, ◌++◌, length, map, get_or, insert, position, remove, None, Some, sym, ap, ap₂, ◌∙◌, subst, arith}
 use Rattle.std.specs.List.{AllWithin, list_any, position_or_len}
 use Rattle.std.proofs.lemmas.Bool.{cond-true, eqb-true, lt-ltb}
 use Rattle.std.proofs.lemmas.List.Quantifiers.{position-Some}
 use Rattle.inf_message.specs.declared.trip.Trip.{Trip}
 use Rattle.inf_message.specs.History.{Made, Posted, Told, own_ask, served_at}
-use Rattle.inf_client.specs.AskLog.{AskLog, IsLater, Rise, asked_first, asked_log, is_at, made_at, merged, places_of, told_log, trip_places, trip_told, trips_in, waits_at}
+use Rattle.inf_client.specs.AskLog.{AskLog, IsLater, Rise, asked_log, is_at, made_at, merged, places_of, told_log, trip_places, trip_told, trips_in, waits_at}
 use Rattle.inf_client.proofs.Places.{each_before, rise_asked, trips_rise}
 use Rattle.inf_client.proofs.Merging.{asked_merged, trips_merged, waits_merged}
 use Rattle.inf_client.proofs.Telling.{inserted, places_told, told_merged}
@@ -26,10 +26,10 @@ found test made passes none =
     cond-true (ltb (position_or_len test made) (length made)) (Some (position_or_len test made)) None (lt-ltb _ _ (first_within test made passes)) in
     cc
 
-abbrev pub log_of : List Trip → List Made → List Posted → ℕ → AskLog
-log_of trips waiting ready room = record { asks = merged trips waiting; ready = ready; room = room }
+abbrev pub log_of : List Trip → List Made → ℕ → AskLog
+log_of trips waiting room = record { asks = merged trips waiting; room = room }
 
-module _ (trips : List Trip) (waiting : List Made) (ready : List Posted) (room : ℕ) (log : AskLog) (is : log_of trips waiting ready room ≡ log) where
+module _ (trips : List Trip) (waiting : List Made) (room : ℕ) (log : AskLog) (is : log_of trips waiting room ≡ log) where
   pub trips_shown : trips ≡ trips_in log
   trips_shown = sym (trips_merged trips waiting) ∙ ap trips_in is
 
@@ -44,14 +44,13 @@ module _ (trips : List Trip) (waiting : List Made) (ready : List Posted) (room :
   later_shown : (place : ℕ) → IsLater place log.asks → IsLater place (merged trips waiting)
   later_shown place later = subst (λ (l : AskLog). IsLater place l.asks) (sym is) later
 
-  pub asked_shown : (place : ℕ) (posted : Posted) (rest : List Posted) (more : List Made) → IsLater place log.asks
-      → ready ≡ posted ∷ rest → more ≡ waiting ++ made_at place posted ∷ [] → log_of trips more rest room ≡ asked_log place log
-  asked_shown place posted rest more later first pushed =
-      ap (λ w. log_of trips w rest room) pushed
-      ∙ ap (λ asks. record { asks = asks; ready = rest; room = room })
+  pub asked_shown : (place : ℕ) (posted : Posted) (more : List Made) → IsLater place log.asks
+      → more ≡ waiting ++ made_at place posted ∷ [] → log_of trips more (room - 1) ≡ asked_log place posted log
+  asked_shown place posted more later pushed =
+      ap (λ w. log_of trips w (room - 1)) pushed
+      ∙ ap (λ asks. record { asks = asks; room = room - 1 })
       (asked_merged trips waiting (made_at place posted) (each_before place (merged trips waiting) (later_shown place later)))
-      ∙ ap (λ r. asked_first place (log_of trips waiting ready room) r) (sym first)
-      ∙ ap (asked_log place) is
+      ∙ ap (asked_log place posted) is
 
   pub asked_rise : (place : ℕ) (made : Made) (more : List Made) → IsLater place log.asks → made.ask_place ≡ place
       → more ≡ waiting ++ made ∷ [] → Rise (places_of (merged trips waiting)) → Rise (places_of (merged trips more))
@@ -87,5 +86,5 @@ module _ (trips more : List Trip) (waiting left : List Made) (place : ℕ) (told
   pub told_rise : Rise (places_of (merged more left))
   told_rise = subst Rise (sym (ap places_of told_asks ∙ places_told place told (merged trips waiting))) rise
 
-  pub told_shown : (ready : List Posted) (room : ℕ) (log : AskLog) → log_of trips waiting ready room ≡ log → log_of more left ready room ≡ told_log place told log
-  told_shown ready room log is = ap (λ asks. record { asks = asks; ready = ready; room = room }) told_asks ∙ ap (told_log place told) is
+  pub told_shown : (room : ℕ) (log : AskLog) → log_of trips waiting room ≡ log → log_of more left room ≡ told_log place told log
+  told_shown room log is = ap (λ asks. record { asks = asks; room = room }) told_asks ∙ ap (told_log place told) is

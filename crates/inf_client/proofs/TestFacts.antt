@@ -18,6 +18,7 @@ use Rattle.inf_message.specs.Sent.{Sent}
 use Rattle.inf_message.specs.declared.ask.Ask.{Ask}
 use Rattle.inf_message.specs.declared.request.Request.{Request}
 use Rattle.inf_message.specs.declared.step.Message.{Message}
+use Rattle.inf_message.specs.History.{Posted}
 
 few_in : (world : World) (client : ℕ) (line : Option ClientLine) → (starting world client line).counts.messages ≡ 0
 few_in world client None = refl
@@ -73,9 +74,9 @@ asks_few digest number ask old new next =
 pub asks_later : (digest : List ℕ → Id) (place number : ℕ) (ask : Ask) (old new : Client) → AsksNext digest number ask old new → IsLater place old.log.asks → IsLater place new.log.asks
 asks_later digest place number ask old new next later = subst (IsLater place) (sym next.asks) later
 
-pub placed_later : (place : ℕ) (old : AskLog) (new : Client) (state : ClientState) → new ≡ client_with (placed place state) false (asked_log place old) false
+pub placed_later : (place : ℕ) (posted : Posted) (old : AskLog) (new : Client) (state : ClientState) → new ≡ client_with (placed place state) false (asked_log place posted old) false
     → IsLater place old.asks → IsLater (place + 1) new.log.asks
-placed_later place old new state is later = made_later place old new.log (ap (λ (a : Client). a.log) is) later
+placed_later place posted old new state is later = made_later place posted old new.log (ap (λ (a : Client). a.log) is) later
 
 pub placed_few : (place : ℕ) (log : AskLog) (new : Client) (state : ClientState) → new ≡ client_with (placed place state) false log false
     → new.state.counts.messages ≡ state.counts.messages + 1

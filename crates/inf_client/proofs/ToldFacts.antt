@@ -1,5 +1,5 @@
 -- What an answer changes of a client.
-use Rattle.std.proofs.Common.{◌≡◌, ◌≢◌, ℕ, ◌<◌, ◌≤◌, Bool, true, false, cond, eqb, ◌&&◌, ◌||◌, List, [], ◌∷◌, length, map, drop, Option, Some, None, refl, sym, ap, ap₂, subst, ◌∙◌, arith}
+use Rattle.std.proofs.Common.{◌≡◌, ◌≢◌, ℕ, ◌+◌, ◌<◌, ◌≤◌, Bool, true, false, cond, eqb, ◌&&◌, ◌||◌, List, [], ◌∷◌, length, map, drop, Option, Some, None, refl, sym, ap, ap₂, subst, ◌∙◌, arith}
 use Rattle.std.proofs.lemmas.Bool.{eqb-true}
 use Rattle.std.proofs.lemmas.List.{drop_all, length-map}
 use Rattle.std.specs.List.{cons_option, list_all, list_any}
@@ -7,8 +7,9 @@ use Rattle.inf_base.specs.declared.id.Id.{Id}
 use Rattle.inf_client.specs.AskLog.{AskLog, told_log, waiting_asks, waits_at}
 use Rattle.inf_client.specs.Client.{IsAtRest, asks_left, group_asks, ready_in}
 use Rattle.inf_client.specs.Group.{IsKept, in_outbox}
-use Rattle.inf_client.specs.Room.{room_in, room_needed, room_within}
-use Rattle.inf_client.proofs.ClientFacts.{asks_length, between_in, inside_room, none_boxed, ready_inside}
+use Rattle.inf_client.specs.Room.{room_between, room_in, room_needed, room_within}
+use Rattle.inf_client.proofs.ClientFacts.{between_in, inside_room, none_boxed, ready_inside}
+use Rattle.inf_client.proofs.GroupFacts.{asks_length}
 use Rattle.inf_client.proofs.TurnRoom.{after_between, next_fits}
 use Rattle.inf_duty.specs.ClientState.{ClientState}
 use Rattle.inf_duty.specs.Group.{group}
@@ -53,13 +54,13 @@ told_nothing place told log apart = ap (λ asks. record log { asks = asks }) (sy
 -- ---- the client
 
 kept_log : (s : ClientState) (gone : Bool) (log new : AskLog) (handed : Bool) (outbox : List (ℕ × Ask)) → IsKept s gone log handed outbox
-    → new.ready ≡ log.ready → new.room ≡ log.room → IsKept s gone new handed outbox
-kept_log s gone log new handed outbox kept ready room = record {
+    → new.room ≡ log.room → IsKept s gone new handed outbox
+kept_log s gone log new handed outbox kept room = record {
   at_rest = kept.at_rest;
-  in_step = record { ready = ready ∙ kept.in_step.ready; first = kept.in_step.first };
+  first = kept.first;
   here = kept.here;
-  calls = λ some. kept.calls (subst (λ (r : List Posted). 0 < length r) ready some);
-  posts = kept.posts ∙ sym (ap (in_outbox (is_winding s.stage) handed) ready);
+  calls = kept.calls;
+  posts = kept.posts;
   room = subst (λ (n : ℕ). room_needed handed s ≤ n) (sym room) kept.room;
 }
 
@@ -93,33 +94,42 @@ module _ (digest : List ℕ → Id) (s : ClientState) (gone : Bool) (log : AskLo
   sent_same : length (recorded place told s).sent ≡ length s.sent
   sent_same = length-map s.sent (told_at place told)
 
-  left_same : log.ready ≡ asks_left (recorded place told s)
-  left_same =
-      kept.in_step.ready ∙ ready_within handed s.sent s inside ∙ ap (λ (n : ℕ). drop n (group_asks s)) (sym sent_same)
+  all_left : ready_in handed s.sent s ≡ asks_left s
+  all_left = ready_within handed s.sent s inside
+
+  left_same : asks_left s ≡ asks_left (recorded place told s)
+  left_same = ap (λ (n : ℕ). drop n (group_asks s)) (sym sent_same)
+
+  fits_within : length (asks_left s) + room_within s.stage ≤ log.room
+  fits_within =
+      subst (λ (ready : List Posted). length ready + room_within s.stage ≤ log.room) all_left
+      (subst (λ (n : ℕ). length (ready_in handed s.sent s) + n ≤ log.room) (room_inside handed s.sent s inside) kept.room)
 
   after_inside : (recorded place told s).sent ≢ []
   after_inside = told_inside place told s.sent inside
+
+  ready_after : ready_in handed (recorded place told s).sent (recorded place told s) ≡ asks_left s
+  ready_after = ready_within handed (recorded place told s).sent (recorded place told s) after_inside ∙ sym left_same
 
   -- the group is not over
   kept_recorded : IsKept (recorded place told s) gone log handed outbox
   kept_recorded = record {
     at_rest = subst (IsAtRest (recorded place told s)) (sym (still_here s gone kept.at_rest inside)) tt;
-    in_step = record {
-      ready = left_same ∙ sym (ready_within handed (recorded place told s).sent (recorded place told s) after_inside);
-      first = λ is. (let before : length s.sent < length (group s.who s.stage) = kept.in_step.first is in
-          let same = sent_same in
-          omega arith);
-    };
+    first = λ is. (let before : length s.sent < length (group s.who s.stage) = kept.first is in
+        let same = sent_same in
+        omega arith);
     here = kept.here;
-    calls = kept.calls;
-    posts = kept.posts;
-    room = subst (λ (n : ℕ). n ≤ log.room)
-        (room_inside handed s.sent s inside ∙ sym (room_inside handed (recorded place told s).sent (recorded place told s) after_inside)) kept.room;
+    calls = λ some. kept.calls (subst (λ (ready : List Posted). 0 < length ready) (ready_after ∙ sym all_left) some);
+    posts = kept.posts ∙ ap (in_outbox (is_winding s.stage) handed) (all_left ∙ sym ready_after);
+    room =
+        subst (λ (ready : List Posted). length ready + room_in handed (recorded place told s).sent (recorded place told s) ≤ log.room) (sym ready_after)
+        (subst (λ (n : ℕ). length (asks_left s) + n ≤ log.room)
+        (sym (room_inside handed (recorded place told s).sent (recorded place told s) after_inside)) fits_within);
   }
 
   not_to_ask : (is : Bool) → handed ≡ is → length (recorded place told s).sent ≡ length (group s.who s.stage) → handed ≡ false
   not_to_ask true is all =
-      let before : length s.sent < length (group s.who s.stage) = kept.in_step.first is in
+      let before : length s.sent < length (group s.who s.stage) = kept.first is in
       let same = sent_same in
       absurd (omega arith)
   not_to_ask false is all = is
@@ -134,24 +144,23 @@ module _ (digest : List ℕ → Id) (s : ClientState) (gone : Bool) (log : AskLo
       eqb-true (length r.sent) (length (group s.who s.stage)) (both_first (eqb (length r.sent) (length (group s.who s.stage))) (list_all is_told r.sent) complete) in
       let quiet : handed ≡ false = not_to_ask handed refl all in
       let many = asks_length s in
-      let none : log.ready ≡ [] = left_same ∙ drop_all (length r.sent) (group_asks s) (omega arith) in
+      let none : asks_left s ≡ [] = left_same ∙ drop_all (length r.sent) (group_asks s) (omega arith) in
       let between : next.sent ≡ [] = after_between digest r in
+      let empty : ready_in handed next.sent next ≡ [] = ap (λ h. ready_in h next.sent next) quiet ∙ between_in next.sent next between in
       record {
         at_rest = subst (IsAtRest next) (sym (still_here s gone kept.at_rest inside)) tt;
-        in_step = record {
-          ready = none ∙ sym (between_in next.sent next between) ∙ sym (ap (λ h. ready_in h next.sent next) quiet);
-          first = λ is. (let clash = sym is ∙ quiet in absurd (cc));
-        };
+        first = λ is. (let clash = sym is ∙ quiet in absurd (cc));
         here = kept.here;
-        calls = λ some. (let count : length log.ready ≡ 0 = ap length none in absurd (omega arith));
+        calls = λ some. (let count : length (ready_in handed next.sent next) ≡ 0 = ap length empty in absurd (omega arith));
         posts =
-            kept.posts ∙ ap (in_outbox (is_winding s.stage) handed) none ∙ none_boxed (is_winding s.stage) handed
-            ∙ sym (none_boxed (is_winding next.stage) handed) ∙ sym (ap (in_outbox (is_winding next.stage) handed) none);
+            kept.posts ∙ ap (in_outbox (is_winding s.stage) handed) (all_left ∙ none) ∙ none_boxed (is_winding s.stage) handed
+            ∙ sym (none_boxed (is_winding next.stage) handed) ∙ sym (ap (in_outbox (is_winding next.stage) handed) empty);
         room =
-            let within : room_within s.stage ≤ log.room = subst (λ (n : ℕ). n ≤ log.room) (room_inside handed s.sent s inside) kept.room in
-            subst (λ (n : ℕ). n ≤ log.room)
-            (sym (ap (λ h. room_in h next.sent next) quiet ∙ ap (λ (sent : List Sent). room_in false sent next) between))
-            (next_fits digest r log.room within);
+            let within : room_within s.stage ≤ log.room = (let fits = fits_within in omega (arith, fits)) in
+            let there = next_fits digest r log.room within in
+            let fits : 0 + room_between next.who next.stage ≤ log.room = omega (arith, there) in
+            subst (λ (h : Bool). length (ready_in h next.sent next) + room_in h next.sent next ≤ log.room) (sym quiet)
+            (subst (λ (sent : List Sent). length (ready_in false sent next) + room_in false sent next ≤ log.room) (sym between) fits);
       }
 
   kept_settled : (b : Bool) → is_complete (recorded place told s) ≡ b → IsKept (settled digest b (recorded place told s)) gone log handed outbox
@@ -173,4 +182,4 @@ pub kept_told : (digest : List ℕ → Id) (s : ClientState) (gone : Bool) (log 
     → IsKept (served digest place told s) gone (told_log place told log) handed outbox
 kept_told digest s gone log handed outbox place told kept =
     kept_log (served digest place told s) gone log (told_log place told log) handed outbox
-    (kept_served digest s gone log handed outbox place told kept (has_place place s.sent) refl) refl refl
+    (kept_served digest s gone log handed outbox place told kept (has_place place s.sent) refl) refl

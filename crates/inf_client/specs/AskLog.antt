@@ -1,39 +1,28 @@
--- What a client asked and was answered, and the asks that it is about to make.
+-- What a client asked and was answered, and for how many more asks it has room.
 use Rattle.std.specs.Prelude.{ℕ, ◌+◌, ◌-◌, ◌<◌, ◌≤◌, ◌==◌, Bool, if◌then◌else◌, nat_lt, List, [], ◌∷◌, ◌++◌, map, None, Some}
 use Rattle.std.specs.List.{All, AllPairs, filter_map, list_any}
-use Rattle.inf_message.specs.declared.ask.Ask.{Ask}
 use Rattle.inf_message.specs.declared.trip.Trip.{Trip}
-use Rattle.inf_message.specs.History.{Made, Own, Posted, Told, made_ask, own_ask, posted_ask, served_at, told_reply, trip_of, waiting_in}
+use Rattle.inf_message.specs.History.{Made, Own, Posted, Told, made_ask, own_ask, served_at, told_reply, trip_of, waiting_in}
 
 pub record AskLog : Type 0 where
   -- the Asks in the order of asking, each with its answer, if it was served
   pub asks : List Own
-  -- the asks of the group under way that are still to be made, in their order, each with the server that it is for
-  pub ready : List Posted
-  -- for how many more asks, behind those that are ready, room was taken, and for their answers
+  -- for how many more asks room was taken, and for their answers
   pub room : ℕ
 
 abbrev pub no_asks : AskLog
-no_asks = record { asks = []; ready = []; room = 0 }
+no_asks = record { asks = []; room = 0 }
 
 abbrev pub with_room : ℕ → AskLog → AskLog
 with_room count log = record log { room = count }
 
--- this ask is to be made after those that are ready, in room that was taken
-abbrev pub with_ready : ℕ → Ask → AskLog → AskLog
-with_ready number ask log = record log { ready = log.ready ++ posted_ask number ask ∷ []; room = log.room - 1 }
-
 abbrev pub made_at : ℕ → Posted → Made
 made_at place posted = made_ask posted.number posted.ask place
 
-abbrev pub asked_first : ℕ → AskLog → List Posted → AskLog
-asked_first place log [] = log
-asked_first place log (posted ∷ ready) =
-    record log { asks = log.asks ++ own_ask (made_at place posted) None ∷ []; ready = ready }
-
--- the first of the asks that were to be made was made, and stands at this place
-abbrev pub asked_log : ℕ → AskLog → AskLog
-asked_log place log = asked_first place log log.ready
+-- this ask was made, and stands at this place, in room that was taken
+abbrev pub asked_log : ℕ → Posted → AskLog → AskLog
+asked_log place posted log =
+    record log { asks = log.asks ++ own_ask (made_at place posted) None ∷ []; room = log.room - 1 }
 
 -- the Ask at this place was answered
 abbrev pub told_log : ℕ → Told → AskLog → AskLog
@@ -95,11 +84,10 @@ trip_told made told = record {
   reply = told.reply;
 }
 
--- places rise in the order of asking, and each ask that is ready or that room was taken for finds room: among those
--- that are ready, then among those that wait, and then, as each that waits, for its answer
-pub record IsKept (trips : List Trip) (waiting : List Made) (answered asked ready room : ℕ)
-    (most_answered most_asked most_ready : ℕ) : Type 0 where
+-- places rise in the order of asking, and each ask that room was taken for finds room: among those that wait, and
+-- then, as each that waits, for its answer
+pub record IsKept (trips : List Trip) (waiting : List Made) (answered asked room : ℕ)
+    (most_answered most_asked : ℕ) : Type 0 where
   pub places : Rise (places_of (merged trips waiting))
-  pub answers : answered + (asked + (ready + room)) ≤ most_answered
-  pub asks : asked + (ready + room) ≤ most_asked
-  pub readies : ready + room ≤ most_ready
+  pub answers : answered + (asked + room) ≤ most_answered
+  pub asks : asked + room ≤ most_asked

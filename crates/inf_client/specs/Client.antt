@@ -1,5 +1,5 @@
 -- What contracts see of a client of a run, and what a step of it does.
-use Rattle.std.specs.Prelude.{◌≡◌, ◌⊎◌, ℕ, ◌≤◌, ◌<◌, Bool, true, false, not, ◌&&◌, List, [], length, map, drop, slice_get, Some}
+use Rattle.std.specs.Prelude.{◌≡◌, ◌⊎◌, ℕ, ◌≤◌, Bool, true, false, not, ◌&&◌, List, [], length, map, drop, slice_get, Some}
 use Rattle.inf_base.specs.declared.id.Id.{Id}
 use Rattle.inf_duty.specs.ClientStep.{is_ask}
 use Rattle.inf_duty.specs.Duty.{Duty, at_call, begun, has_ask, is_over, next_step, waits}
@@ -47,7 +47,7 @@ group_asks s =
 abbrev pub asks_left : ClientState → List Posted
 asks_left s = drop (length s.sent) (group_asks s)
 
--- the ask is its duty, and it is ready to make it, and all that are left of its group
+-- the ask is its duty, and the first that is left of its group
 pub record AsksNext (digest : List ℕ → Id) (number : ℕ) (ask : Ask) (old new : Client) : Type 0 where
   pub here : old.gone ≡ false
   pub duty : Duty digest old.state number ask
@@ -55,8 +55,7 @@ pub record AsksNext (digest : List ℕ → Id) (number : ℕ) (ask : Ask) (old n
   pub state : new.state ≡ begun digest ask old.state.sent old.state
   pub still_here : new.gone ≡ false
   pub asks : new.log.asks ≡ old.log.asks
-  pub ready : new.log.ready ≡ asks_left new.state
-  pub first : slice_get new.log.ready 0 ≡ Some (posted_ask number ask)
+  pub first : slice_get (asks_left new.state) 0 ≡ Some (posted_ask number ask)
   pub handed : new.handed ≡ true
 
 -- it was to ask, and gave up all that it had left, between two groups
@@ -88,15 +87,11 @@ abbrev pub IsAtRest : ClientState → Bool → Type 0
 IsAtRest state true = (state.sent ≡ []) × (has_ask state ≡ false)
 IsAtRest state false = Unit {0}
 
--- between two groups nothing is ready, but where the client was told to ask; else all that is left of the group
+-- the asks that it is about to make: between two groups none, but where it was told to ask; else all that is left of
+-- the group
 abbrev pub ready_in : Bool → List Sent → ClientState → List Posted
 ready_in false [] s = []
 ready_in handed sent s = asks_left s
-
-pub record IsInStep (s : ClientState) (log : AskLog) (handed : Bool) : Type 0 where
-  pub ready : log.ready ≡ ready_in handed s.sent s
-  -- there is an ask that it was told to make
-  pub first : handed ≡ true → length s.sent < length (group s.who s.stage)
 
 -- between two groups, where the calls behind the entry's are given up: whatever call comes next, and whatever comes of
 -- giving up what is left, is as from the entry on

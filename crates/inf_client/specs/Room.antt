@@ -1,6 +1,7 @@
--- For how many asks a client has to have room that it may come to make where memory is wanting:
--- those that wind its call up.
+-- For how many asks a client has to have room that it may come to make where memory is wanting: those that are left of
+-- its group, and those that wind its call up.
 use Rattle.std.specs.Prelude.{ℕ, ◌+◌, Bool, false, List, [], ◌∷◌, length}
+use Rattle.inf_client.specs.Client.{ready_in}
 use Rattle.inf_duty.specs.ClientState.{ClientState, Stage, act, compose, round, winds}
 use Rattle.inf_duty.specs.Flow.{clean_up}
 use Rattle.inf_message.specs.declared.step.Message.{Message}
@@ -31,4 +32,4 @@ room_in false [] s = room_between s.who s.stage
 room_in handed sent s = room_within s.stage
 
 abbrev pub room_needed : Bool → ClientState → ℕ
-room_needed handed s = room_in handed s.sent s
+room_needed handed s = length (ready_in handed s.sent s) + room_in handed s.sent s

@@ -1,39 +1,35 @@
-//! What a client asked and was answered, and the asks that it is about to make.
+//! What a client asked and was answered.
 
 ghost use Rattle.std.specs.Prelude.{◌≡◌, ◌<◌, ◌≤◌, true, length, IfOk, OnOk, OnErr};
 ghost use Rattle.std.specs.List.{AllWithin};
-ghost use Rattle.inf_message.specs.History.{told_reply};
-ghost use Rattle.inf_client.specs.AskLog.{IsLater, Rise, asked_log, no_asks, told_log, trip_places, trips_in, waits_at, with_ready, with_room};
+ghost use Rattle.inf_message.specs.History.{posted_ask, told_reply};
+ghost use Rattle.inf_client.specs.AskLog.{IsLater, Rise, asked_log, no_asks, told_log, trip_places, trips_in, waits_at, with_room};
 
-use crate::ready::Ready;
 use crate::waiting::{Waiting, has_place, index_of};
-use inf_base::{NoMemory, Place};
+use inf_base::{NoMemory, Place, Shared};
 use inf_message::{Ask, Reply, Trip};
 use std::alloc::Global;
-use std::collections::VecDeque;
 use std::marker::Model;
 
-/// The Asks of a client in the order of asking, and those of the group under way that are still to be made.
+/// The Asks of a client in the order of asking, and for how many more there is room.
 #[derive(Drop)]
 pub(crate) struct AskLog {
     trips: Vec<Trip>,
     waiting: Vec<Waiting>,
-    ready: VecDeque<Ready>,
     room: usize,
 }
 
 impl Model for AskLog {
     ghost use Rattle.std.specs.Prelude.{vec_len, vec_capacity};
-    ghost use Rattle.std.specs.VecDeque.{deque_len, deque_capacity};
     ghost use Rattle.inf_client.specs.AskLog.{AskLog, IsKept, merged};
 
     ghost Value = { AskLog };
 
-    ghost view = { λ l. record { asks = merged l.trips.items l.waiting.items; ready = l.ready.items; room = l.room } };
+    ghost view = { λ l. record { asks = merged l.trips.items l.waiting.items; room = l.room } };
 
-    // Room was taken before: to keep an ask, to make it and to be answered takes no memory.
+    // Room was taken before: to make an ask and to be answered takes no memory.
     ghost invariant = { λ l. IsKept l.trips.items l.waiting.items (vec_len l.trips) (vec_len l.waiting)
-        (deque_len l.ready) l.room (vec_capacity l.trips) (vec_capacity l.waiting) (deque_capacity l.ready) };
+        l.room (vec_capacity l.trips) (vec_capacity l.waiting) };
 }
 
 impl AskLog {
@@ -44,7 +40,6 @@ impl AskLog {
         Ok(AskLog {
             trips: Vec::with_capacity(alloc, trips)?,
             waiting: Vec::new(alloc),
-            ready: VecDeque::new(alloc),
             room: 0,
         })
     }
@@ -56,38 +51,25 @@ impl AskLog {
         self.trips.as_slice()
     }
 
-    /// Takes room for this many asks behind those that are ready, and for their answers. Room for more is let go.
+    /// Takes room for this many asks, and for their answers. Room for more is let go.
     pub(crate) fn reserve(&mut self, count: usize) -> Result<(), NoMemory>
         ensures ok { OnOk result (self.new ≡ with_room count self.old) }
         ensures err { OnErr result (self.new ≡ self.old) }
     {
-        self.ready.reserve(count)?;
-        let to_ask = self.ready.len() + count;
-        self.waiting.reserve(to_ask)?;
-        self.trips.reserve(self.waiting.len() + to_ask)?;
+        self.waiting.reserve(count)?;
+        self.trips.reserve(self.waiting.len() + count)?;
         self.room = count;
         Ok(())
     }
 
-    /// Makes an ask ready, in room that was taken.
-    pub(crate) fn keep(&mut self, number: u32, ask: Ask)
+    /// This ask was made, and stands at this place.
+    pub(crate) fn asked(&mut self, place: Place, number: u32, ask: Shared<Ask>)
         requires room { 0 < self.old.room }
-        ensures { self.new ≡ with_ready number ask self.old }
-    {
-        self.ready.push_back_reserved(Ready { number, ask });
-        self.room -= 1;
-    }
-
-    /// The first ask that was to be made was made, and stands at this place.
-    pub(crate) fn asked(&mut self, place: Place)
-        requires ready { 0 < length self.old.ready }
         requires later { IsLater place self.old.asks }
-        ensures { self.new ≡ asked_log place self.old }
+        ensures { self.new ≡ asked_log place (posted_ask number ask) self.old }
     {
-        let Some(ready) = self.ready.pop_front() else {
-            unreachable!()
-        };
-        self.waiting.push_reserved(Waiting::at(ready, place));
+        self.waiting.push_reserved(Waiting::at(place, number, ask));
+        self.room -= 1;
     }
 
     /// Whether the Ask at this place waits.

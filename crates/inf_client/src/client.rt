@@ -1,20 +1,20 @@
 //! A client of a run, which makes one call after another.
 
-ghost use Rattle.std.specs.Prelude.{◌≡◌, ◌+◌, ◌<◌, ◌≤◌, ◌^◌, true, false, length, IfOk, OnOk};
+ghost use Rattle.std.specs.Prelude.{◌≡◌, ◌+◌, ◌<◌, ◌≤◌, ◌^◌, true, false, length, slice_get, Some, IfOk, OnOk};
 ghost use Rattle.inf_base.specs.declared.limits.TheConstants.{MOST_CALLS};
 ghost use Rattle.inf_base.specs.Setup.{call_count};
 ghost use Rattle.inf_client.specs.AskLog.{IsLater, asked_log, no_asks, told_log};
-ghost use Rattle.inf_client.specs.Client.{Steps, client_with, trips_of_client};
+ghost use Rattle.inf_client.specs.Client.{Steps, asks_left, client_with, trips_of_client};
 ghost use Rattle.inf_duty.specs.Outcome.{results_of};
 ghost use Rattle.inf_duty.specs.Start.{start};
 ghost use Rattle.inf_duty.specs.World.{world_by};
 ghost use Rattle.inf_duty.specs.ClientState.{placed};
 ghost use Rattle.inf_duty.specs.Turn.{served};
-ghost use Rattle.inf_message.specs.History.{told_reply};
+ghost use Rattle.inf_message.specs.History.{posted_ask, told_reply};
 
 use crate::ask_log::AskLog;
 use crate::group::{Group, next_group};
-use inf_base::{NoMemory, Place, Setup};
+use inf_base::{NoMemory, Place, Setup, Shared};
 use inf_birth::IdRule;
 use inf_duty::{ClientState, ClientStep};
 use inf_message::{Ask, CallResult, Reply, Trip};
@@ -75,7 +75,7 @@ impl Client {
     }
 
     /// What to do next. Where memory is wanting for a group, its call is given up, and the next one tried.
-    #[tactic(auto, using(crate::proofs::ClientFacts::rests_gone, crate::proofs::ClientFacts::rests_askless, crate::proofs::ClientFacts::full, crate::proofs::ClientFacts::none_ready, crate::proofs::ClientFacts::room_ready))]
+    #[tactic(auto, using(crate::proofs::ClientFacts::rests_gone, crate::proofs::ClientFacts::rests_askless, crate::proofs::ClientFacts::full, crate::proofs::ClientFacts::room_ready))]
     pub fn step<R: IdRule>(&mut self, alloc: Global, rule: &R) -> ClientStep
         requires { self.old.handed ≡ false }
         ensures { Steps (R.digest_of rule.now) self.old result self.new }
@@ -117,17 +117,18 @@ impl Client {
         }
     }
 
-    /// The ask that was handed out was made, and stands at this place.
-    #[tactic(auto, using(crate::proofs::ClientFacts::ready_some, crate::proofs::ClientFacts::kept_asked))]
-    pub fn asked(&mut self, place: Place)
+    /// The ask that was handed out was made, and stands at this place; the client keeps it, shared with the history.
+    #[tactic(auto, using(crate::proofs::ClientFacts::room_some, crate::proofs::ClientFacts::kept_asked))]
+    pub fn asked(&mut self, place: Place, number: u32, ask: Shared<Ask>)
         requires handed { self.old.handed ≡ true }
+        requires first { slice_get (asks_left self.old.state) 0 ≡ Some (posted_ask number ask) }
         requires later { IsLater place self.old.log.asks }
         requires room { self.old.state.counts.messages + 1 < 2 ^ 64 }
-        ensures { self.new
-            ≡ client_with (placed place self.old.state) false (asked_log place self.old.log) false }
+        ensures { self.new ≡ client_with (placed place self.old.state) false
+            (asked_log place (posted_ask number ask) self.old.log) false }
     {
         self.state.place_ask(place);
-        self.log.asked(place);
+        self.log.asked(place, number, ask);
         self.is_handed = false;
     }
 

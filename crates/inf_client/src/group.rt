@@ -1,11 +1,12 @@
 //! The groups of Asks that a client is to make: where memory is wanting for one, its call is given up.
 
-ghost use Rattle.std.specs.Prelude.{◌≡◌, ◌≤◌, ◌<◌, true, false, [], length, map, None, IfOk, IfSome, OnErr};
-ghost use Rattle.inf_client.specs.Group.{IsFound, IsPassed, IsReadied, with_asks};
+ghost use Rattle.std.specs.Prelude.{◌≡◌, ◌≤◌, ◌<◌, true, false, [], length, None, IfOk, IfSome, OnErr};
+ghost use Rattle.inf_client.specs.AskLog.{AskLog};
+ghost use Rattle.inf_client.specs.Group.{IsFound, IsPassed, IsReadied};
 ghost use Rattle.inf_client.specs.Room.{room_between};
 ghost use Rattle.inf_duty.specs.ClientStep.{is_ask};
 ghost use Rattle.inf_duty.specs.Duty.{begun, given_up, has_ask, next_step};
-ghost use Rattle.inf_duty.specs.Messages.{is_winding, post_of};
+ghost use Rattle.inf_duty.specs.Messages.{is_winding};
 ghost use Rattle.inf_duty.specs.Outcome.{all_given_up};
 ghost use Rattle.inf_duty.specs.Group.{composed, group};
 
@@ -25,41 +26,15 @@ pub(crate) struct Group {
     pub(crate) others: VecDeque<(u32, Ask)>,
 }
 
-/// Keeps the asks, in room that was taken.
-fn keep_all(log: &mut AskLog, asks: Vec<(u32, Ask)>)
-    requires { length asks.items ≤ log.old.room }
-    ensures { log.new ≡ with_asks asks.items log.old }
-{
-    for (number, ask) in asks {
-        log.keep(number, ask);
-    }
-}
-
-/// Keeps the asks of the step that winds the call up, in room that was taken. Takes no memory.
-#[tactic(auto, using(crate::proofs::GroupFacts::keeps_room, crate::proofs::GroupFacts::keeps_last))]
-fn keep_step(state: &ClientState, log: &mut AskLog)
-    requires winding { is_winding state.now.stage ≡ true }
-    requires room { length (group state.now.who state.now.stage) ≤ log.old.room }
-    ensures { log.new ≡ with_asks (map (post_of state.now) (group state.now.who state.now.stage)) log.old }
-{
-    for index in 0..state.group_size() {
-        let (number, ask) = state.winding_ask(index);
-        log.keep(number, ask);
-    }
-}
-
 /// The asks of the step that winds the call up. Those behind the first are made again when it is their turn. Takes no
 /// memory.
-#[tactic(auto, using(crate::proofs::GroupFacts::winding_room))]
-fn winding_group(alloc: Global, state: &ClientState, log: &mut AskLog) -> Group
+fn winding_group(alloc: Global, state: &ClientState) -> Group
     requires winding { is_winding state.now.stage ≡ true }
     requires between { state.now.sent ≡ [] }
     requires some { 0 < length (group state.now.who state.now.stage) }
-    requires none { log.old.ready ≡ [] }
-    requires room { room_between state.now.who state.now.stage ≤ log.old.room }
-    ensures { IsReadied result.number result.ask result.others.items state.now log.old log.new }
+    ensures { (log : AskLog) → room_between state.now.who state.now.stage ≤ log.room
+        → IsReadied result.number result.ask result.others.items state.now log log }
 {
-    keep_step(state, log);
     let (number, ask) = state.winding_ask(0);
     Group {
         number,
@@ -69,7 +44,7 @@ fn winding_group(alloc: Global, state: &ClientState, log: &mut AskLog) -> Group
 }
 
 /// The asks of the group that the call under way has come to, with room for what may follow it where memory is wanting.
-#[tactic(auto, using(crate::proofs::GroupFacts::whole_readied, crate::proofs::FoundFacts::composed_found, crate::proofs::FoundFacts::composed_goes, crate::proofs::FoundFacts::given_composed))]
+#[tactic(auto, using(crate::proofs::GroupFacts::some_asked, crate::proofs::GroupFacts::whole_readied, crate::proofs::FoundFacts::composed_found, crate::proofs::FoundFacts::composed_goes, crate::proofs::FoundFacts::given_composed))]
 fn whole_group<R: IdRule>(
     alloc: Global,
     rule: &R,
@@ -79,7 +54,6 @@ fn whole_group<R: IdRule>(
     requires between { state.old.sent ≡ [] }
     requires asking { is_ask (next_step (composed (R.digest_of rule.now) state.old)) ≡ true }
     requires going { is_winding state.old.stage ≡ false }
-    requires none { log.old.ready ≡ [] }
     requires room { room_between state.old.who state.old.stage ≤ log.old.room }
     ensures readied { IfOk result (λ group. IsReadied group.number group.ask group.others.items
         state.new log.old log.new) }
@@ -90,13 +64,9 @@ fn whole_group<R: IdRule>(
     ensures err_log { OnErr result (log.new ≡ log.old) }
 {
     state.take_up(alloc, rule)?;
-    let mut others = VecDeque::from_vec(state.asks(alloc)?);
-    let kept = state.asks(alloc)?;
-    log.reserve(kept.len() + 2)?;
-    keep_all(log, kept);
-    let Some((number, ask)) = others.pop_front() else {
-        unreachable!()
-    };
+    let (number, ask) = state.ask(alloc, 0)?;
+    let others = VecDeque::from_vec(state.asks_behind(alloc)?);
+    log.reserve(others.len() + 3)?;
     Ok(Group {
         number,
         ask,
@@ -116,7 +86,6 @@ fn attempt<R: IdRule>(
     requires between { state.old.sent ≡ [] }
     requires asks { has_ask state.old ≡ true }
     requires asking { is_ask (next_step (composed (R.digest_of rule.now) state.old)) ≡ true }
-    requires none { log.old.ready ≡ [] }
     requires room { room_between state.old.who state.old.stage ≤ log.old.room }
     ensures readied { IfSome result (λ group. IsReadied group.number group.ask group.others.items
         state.new log.old log.new) }
@@ -125,19 +94,20 @@ fn attempt<R: IdRule>(
     ensures same { result ≡ None → log.new ≡ log.old }
 {
     if state.is_winding() {
-        return Some(winding_group(alloc, state, log));
+        return Some(winding_group(alloc, state));
     }
     if let Ok(group) = whole_group(alloc, rule, state, log) {
         return Some(group);
     }
     state.give_up_call();
     if state.is_winding() {
-        return Some(winding_group(alloc, state, log));
+        return Some(winding_group(alloc, state));
     }
     None
 }
 
-/// The next group, of the first call for which there is memory; the calls before it are given up.
+/// The next group, of the first call for which there is memory; the calls before it are given up. There is a call that
+/// asks.
 #[tactic(auto, using(crate::proofs::WayFacts::way_starts, crate::proofs::WayFacts::way_goes, crate::proofs::WayFacts::way_found, crate::proofs::WayFacts::way_own, crate::proofs::WayFacts::way_ends, crate::proofs::WayFacts::passed_room, crate::proofs::WayFacts::shorter))]
 pub(crate) fn next_group<R: IdRule>(
     alloc: Global,
@@ -146,7 +116,8 @@ pub(crate) fn next_group<R: IdRule>(
     log: &mut AskLog,
 ) -> Option<Group>
     requires between { state.old.sent ≡ [] }
-    requires none { log.old.ready ≡ [] }
+    requires asks { has_ask state.old ≡ true }
+    requires asking { is_ask (next_step (composed (R.digest_of rule.now) state.old)) ≡ true }
     requires room { room_between state.old.who state.old.stage ≤ log.old.room }
     ensures readied { IfSome result (λ group. IsReadied group.number group.ask group.others.items
         state.new log.old log.new) }
@@ -160,10 +131,12 @@ pub(crate) fn next_group<R: IdRule>(
     ensures still_room { result ≡ None → room_between state.new.who state.new.stage ≤ log.new.room }
     ensures same { result ≡ None → log.new ≡ log.old }
 {
-    while state.has_ask() {
+    loop {
         if let Some(group) = attempt(alloc, rule, state, log) {
             return Some(group);
         }
+        if !state.has_ask() {
+            return None;
+        }
     }
-    None
 }

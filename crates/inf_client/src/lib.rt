@@ -6,7 +6,6 @@ mod client;
 mod group;
 #[cfg(test)]
 mod log_tests;
-mod ready;
 #[cfg(test)]
 mod tests;
 mod waiting;

@@ -1,10 +1,10 @@
 //! Groups of Asks, which are answered in another order than they were made.
 
-ghost use Rattle.std.specs.Prelude.{◌≡◌, ◌+◌, ◌<◌, length};
+ghost use Rattle.std.specs.Prelude.{◌≡◌, ◌+◌, ◌<◌, OnOk};
 ghost use Rattle.inf_client.specs.AskLog.{IsLater};
 
 use crate::ask_log::AskLog;
-use inf_base::{CallRef, Caller, DirRef, Id, NoMemory, Place};
+use inf_base::{CallRef, Caller, DirRef, Id, NoMemory, Place, Shared};
 use inf_message::{Ask, Reply, Request, Trip};
 use std::alloc::Global;
 use std::test::Fail;
@@ -26,23 +26,16 @@ fn ask(number: u32) -> Ask {
     }
 }
 
-fn keep(log: &mut AskLog, number: u32)
-    requires room { 0 < log.old.room }
-    ensures asks { log.new.asks ≡ log.old.asks }
-    ensures ready { length log.new.ready ≡ length log.old.ready + 1 }
-    ensures room { log.new.room + 1 ≡ log.old.room }
-{
-    log.keep(number, ask(number));
-}
-
+/// Makes an ask to the server of this number.
 #[tactic(auto, using(crate::proofs::LogTestFacts::made_later, crate::proofs::LogTestFacts::made_one))]
-fn make(log: &mut AskLog, place: Place)
-    requires ready { 0 < length log.old.ready }
+fn make(log: &mut AskLog, alloc: Global, place: Place, number: u32) -> Result<(), NoMemory>
+    requires room { 0 < log.old.room }
     requires later { IsLater place log.old.asks }
-    ensures ready { length log.new.ready + 1 ≡ length log.old.ready }
-    ensures later { IsLater (place + 1) log.new.asks }
+    ensures room { OnOk result (log.new.room + 1 ≡ log.old.room) }
+    ensures later { OnOk result (IsLater (place + 1) log.new.asks) }
 {
-    log.asked(place);
+    log.asked(place, number, Shared::new(alloc, ask(number))?);
+    Ok(())
 }
 
 /// Whether the Ask at this place waited, and waits no more now that it was answered.
@@ -76,12 +69,9 @@ fn are_trips(trips: &[Trip], wanted: &[(u32, Place, Place)]) -> bool {
 fn three_asked(alloc: Global) -> Result<AskLog, NoMemory> {
     let mut log = AskLog::with_capacity(alloc, 2)?;
     log.reserve(3)?;
-    keep(&mut log, 5);
-    keep(&mut log, 6);
-    keep(&mut log, 7);
-    make(&mut log, 1);
-    make(&mut log, 2);
-    make(&mut log, 3);
+    make(&mut log, alloc, 1, 5)?;
+    make(&mut log, alloc, 2, 6)?;
+    make(&mut log, alloc, 3, 7)?;
     Ok(log)
 }
 

@@ -7,7 +7,8 @@ ghost use Rattle.inf_client.specs.AskLog.{IsLater};
 
 use super::*;
 use inf_base::{
-    Answer, Call, Caller, Calls, ClientLine, Clients, Name, NoMemory, Place, Setup, Text,
+    Answer, Call, Caller, Calls, ClientLine, Clients, Name, NoMemory, Place, Sequence, Setup,
+    Shared, Text,
 };
 use inf_birth::ShaRule;
 use inf_duty::ClientStep;
@@ -32,7 +33,7 @@ fn setup(alloc: Global) -> Result<Setup, NoMemory>
     let line = ClientLine {
         name: Name::from_slice(alloc, b"a")?,
         caller: Caller { uid: 0, gid: 0 },
-        calls: Calls::new(calls),
+        calls: Calls::new(alloc, Sequence::new(calls))?,
     };
     Ok(Setup {
         servers: 2,
@@ -64,10 +65,10 @@ fn make(client: &mut Client, alloc: Global, place: Place) -> Result<u32, NoMemor
     ensures later { IfOk result (λ server. IsLater (place + 1) client.new.log.asks) }
     ensures few { IfOk result (λ server. client.new.state.counts.messages < place + 1) }
 {
-    let ClientStep::Ask(server, _) = client.step(alloc, &WHOLE) else {
+    let ClientStep::Ask(server, ask) = client.step(alloc, &WHOLE) else {
         return Err(NoMemory);
     };
-    client.asked(place);
+    client.asked(place, server, Shared::new(alloc, ask)?);
     Ok(server)
 }
 

@@ -2,11 +2,10 @@
 
 ghost use Rattle.std.specs.Prelude.{◌≡◌, ◌==◌, position};
 ghost use Rattle.std.specs.List.{list_any};
-ghost use Rattle.inf_message.specs.History.{told_reply};
+ghost use Rattle.inf_message.specs.History.{posted_ask, told_reply};
 ghost use Rattle.inf_client.specs.AskLog.{is_at, made_at, trip_told};
 
-use crate::ready::Ready;
-use inf_base::Place;
+use inf_base::{Place, Shared};
 use inf_message::{Ask, Reply, Trip};
 use std::marker::Model;
 
@@ -14,7 +13,7 @@ use std::marker::Model;
 #[derive(Drop)]
 pub(crate) struct Waiting {
     number: u32,
-    ask: Ask,
+    ask: Shared<Ask>,
     place: Place,
 }
 
@@ -27,10 +26,9 @@ impl Model for Waiting {
 }
 
 impl Waiting {
-    pub(crate) fn at(ready: Ready, place: Place) -> Self
-        ensures { result ≡ made_at place ready }
+    pub(crate) fn at(place: Place, number: u32, ask: Shared<Ask>) -> Self
+        ensures { result ≡ made_at place (posted_ask number ask) }
     {
-        let Ready { number, ask } = ready;
         Waiting { number, ask, place }
     }
 

@@ -11,13 +11,14 @@ ghost use Rattle.inf_server.specs.Chains.{HasShortChains};
 ghost use Rattle.inf_server.specs.Machine.{is_built};
 ghost use Rattle.inf_server.specs.Server.{Standing};
 
-use inf_base::{NoMemory, Place, Setup, TryClone};
+use inf_base::{NoMemory, Place, Setup, Shared, TryClone};
 use inf_birth::IdRule;
 use inf_laws_history::every_legal_history_replays;
 use inf_message::{Ask, Event, Events, Reply};
 use inf_server::Server;
 use std::alloc::Global;
 use std::marker::Model;
+use std::mem::ManuallyDrop;
 
 /// A service and what has happened in it: each Ask is its client's duty, and each Serve its server's reply.
 #[derive(Drop)]
@@ -86,11 +87,17 @@ impl<R: IdRule> Core<R> {
         self.events.as_slice()
     }
 
-    /// The events by place, the oldest first.
+    /// The events by place, the oldest first. The service ends: the memory of its servers is left to the end of the
+    /// program, and not given back piece by piece.
     pub fn into_history(self) -> Events
         ensures { result ≡ reverse self.history }
     {
-        let Core { events, .. } = self;
+        let Core {
+            servers,
+            events,
+            ..
+        } = self;
+        let _ = ManuallyDrop::new(servers);
         Events::new(events)
     }
 
@@ -103,10 +110,12 @@ impl<R: IdRule> Core<R> {
         self.served[place as usize - 1]
     }
 
-    /// A client sends an ask to a server; the place is that of the new event.
-    pub fn ask(&mut self, number: u32, ask: Ask) -> Result<Place, NoMemory>
+    /// A client sends an ask to a server; the place is that of the new event. The ask is given back, shared with the
+    /// history.
+    pub fn ask(&mut self, number: u32, ask: Ask) -> Result<(Place, Shared<Ask>), NoMemory>
         requires may { MayAsk (world_in R.digest_of self.old) self.old.history number ask }
-        ensures place { IfOk result (λ place. place ≡ suc (length self.old.history)) }
+        ensures place { IfOk result (λ r. r.0 ≡ suc (length self.old.history)) }
+        ensures shared { IfOk result (λ r. r.1 ≡ ask) }
         ensures history { OnOk result (self.new.history ≡ event.Ask number ask ∷ self.old.history) }
         ensures legal { Legal (world_in R.digest_of self.new) self.new.history }
         ensures replays { AllReplay (world_in R.digest_of self.new) self.new.history }
@@ -116,8 +125,11 @@ impl<R: IdRule> Core<R> {
         every_legal_history_replays();
         self.events.reserve(1)?;
         self.served.reserve(1)?;
+        let ask = Shared::new(self.alloc, ask)?;
+        let shared = ask.try_clone(self.alloc)?;
         let event = Event::Ask { number, ask };
-        Ok(join(&mut self.events, &mut self.served, event))
+        let place = join(&mut self.events, &mut self.served, event);
+        Ok((place, shared))
     }
 
     /// The server of the Ask at a place replies to it; the place is that of the new event.

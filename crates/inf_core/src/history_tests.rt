@@ -45,7 +45,7 @@ fn line(alloc: Global, name: &[u8], call: Call) -> Result<ClientLine, NoMemory>
     Ok(ClientLine {
         name,
         caller: ROOT,
-        calls: Calls::new(calls),
+        calls: Calls::new(alloc, Sequence::new(calls))?,
     })
 }
 
@@ -192,23 +192,23 @@ fn run(alloc: Global) -> Result<Vec<Event>, NoMemory> {
     let mut events = Vec::new(alloc);
     for client in 0..2 {
         let request = Request::Lookup(LookKey::Top);
-        events.push(asked(client, request))?;
+        events.push(asked(alloc, client, request)?)?;
     }
     for ask_place in 1..3 {
         let key = Shared::new(alloc, Key::Top)?;
         let access = Shared::new(alloc, root())?;
         events.push(served(ask_place, Reply::Found { key, access }))?;
     }
-    events.push(asked(0, create_f(alloc)?))?;
-    events.push(asked(1, stat_f(alloc)?))?;
+    events.push(asked(alloc, 0, create_f(alloc)?)?)?;
+    events.push(asked(alloc, 1, stat_f(alloc)?)?)?;
     events.push(served(6, Reply::Refused(Errno::ENOENT)))?;
     events.push(served(5, Reply::Fine))?;
     Ok(events)
 }
 
-fn asked(client: u32, request: Request) -> Event {
-    let ask = ask(client, request);
-    Event::Ask { number: 0, ask }
+fn asked(alloc: Global, client: u32, request: Request) -> Result<Event, NoMemory> {
+    let ask = Shared::new(alloc, ask(client, request))?;
+    Ok(Event::Ask { number: 0, ask })
 }
 
 fn served(ask_place: Place, reply: Reply) -> Event {

@@ -4,7 +4,7 @@ ghost use Rattle.std.specs.Prelude.{◌≡◌, ◌↔◌, IfOk, IsTrue};
 
 use crate::ask::Ask;
 use crate::reply::Reply;
-use inf_base::{NoMemory, Place, Sequence, TryClone};
+use inf_base::{NoMemory, Place, Sequence, Shared, TryClone};
 use std::alloc::Global;
 
 /// One atomic step: a client sends a request to a server, or a server answers the Ask at a place. The number is the
@@ -13,7 +13,7 @@ use std::alloc::Global;
 pub enum Event {
     Ask {
         number: u32,
-        ask: Ask,
+        ask: Shared<Ask>,
     },
     Serve {
         number: u32,

@@ -184,20 +184,21 @@ fn reply(alloc: Global, kind: u8) -> Result<Reply, NoMemory> {
     })
 }
 
-fn asked(request: Request) -> Event {
+fn asked(alloc: Global, request: Request) -> Result<Event, NoMemory> {
     let from = CallRef {
         client: 1,
         number: 2,
     };
     let caller = Caller { uid: 7, gid: 8 };
-    Event::Ask {
+    let ask = Ask {
+        from,
+        caller,
+        request,
+    };
+    Ok(Event::Ask {
         number: 3,
-        ask: Ask {
-            from,
-            caller,
-            request,
-        },
-    }
+        ask: Shared::new(alloc, ask)?,
+    })
 }
 
 fn served(reply: Reply) -> Event {
@@ -221,7 +222,7 @@ fn equals_copy(alloc: Global, event: &Event) -> Result<bool, NoMemory> {
 #[test]
 fn copies_asks_with_chains(rt: HostRuntime) -> Result<(), Fail> {
     for kind in 0..9 {
-        let event = asked(chained(rt.alloc(), kind)?);
+        let event = asked(rt.alloc(), chained(rt.alloc(), kind)?)?;
         assert!(rt; copies(rt.alloc(), event)?, "request {kind}");
     }
     Ok(())
@@ -230,7 +231,7 @@ fn copies_asks_with_chains(rt: HostRuntime) -> Result<(), Fail> {
 #[test]
 fn copies_asks_without_chains(rt: HostRuntime) -> Result<(), Fail> {
     for kind in 0..13 {
-        let event = asked(bare(rt.alloc(), kind)?);
+        let event = asked(rt.alloc(), bare(rt.alloc(), kind)?)?;
         assert!(rt; copies(rt.alloc(), event)?, "request {kind}");
     }
     Ok(())

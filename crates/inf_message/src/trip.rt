@@ -4,14 +4,14 @@ ghost use Rattle.std.specs.Prelude.{◌≡◌, IfOk};
 
 use crate::ask::Ask;
 use crate::reply::Reply;
-use inf_base::{NoMemory, Place, TryClone};
+use inf_base::{NoMemory, Place, Shared, TryClone};
 use std::alloc::Global;
 
 /// An Ask to the server of this number, and what that server replied.
 #[derive(Debug, PartialEq, Drop)]
 pub struct Trip {
     pub number: u32,
-    pub ask: Ask,
+    pub ask: Shared<Ask>,
     pub ask_place: Place,
     pub serve_place: Place,
     pub reply: Reply,

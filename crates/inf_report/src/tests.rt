@@ -38,7 +38,7 @@ fn client(alloc: Global, name: &[u8], caller: Caller, calls: Vec<Call>) -> Resul
     Ok(ClientLine {
         name: Name::from_slice(alloc, name)?,
         caller,
-        calls: Calls::new(calls),
+        calls: Calls::new(alloc, Sequence::new(calls))?,
     })
 }
 
@@ -80,15 +80,16 @@ fn setup(alloc: Global) -> Result<Setup, Fail> {
     })
 }
 
-fn asked(number: u32, client: u32, request: Request) -> Event {
-    Event::Ask {
+fn asked(alloc: Global, number: u32, client: u32, request: Request) -> Result<Event, Fail> {
+    let ask = Ask {
+        from: CallRef { client, number: 1 },
+        caller: Caller { uid: 7, gid: 8 },
+        request,
+    };
+    Ok(Event::Ask {
         number,
-        ask: Ask {
-            from: CallRef { client, number: 1 },
-            caller: Caller { uid: 7, gid: 8 },
-            request,
-        },
-    }
+        ask: Shared::new(alloc, ask)?,
+    })
 }
 
 fn served(number: u32, ask_place: Place, reply: Reply) -> Event {
@@ -101,9 +102,9 @@ fn served(number: u32, ask_place: Place, reply: Reply) -> Event {
 
 fn events(alloc: Global) -> Result<Vec<Event>, Fail> {
     let mut events = Vec::new(alloc);
-    events.push(asked(0, 1, Request::Lookup(LookKey::Top)))?;
+    events.push(asked(alloc, 0, 1, Request::Lookup(LookKey::Top))?)?;
     events.push(served(0, 1, Reply::Gone))?;
-    events.push(asked(2, 0, Request::Release))?;
+    events.push(asked(alloc, 2, 0, Request::Release)?)?;
     events.push(served(2, 3, Reply::Fine))?;
     Ok(events)
 }

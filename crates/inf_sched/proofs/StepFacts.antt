@@ -18,12 +18,12 @@ use Rattle.inf_duty.specs.declared.client_step.ClientStep.TheVariants as step
 use Rattle.inf_message.specs.declared.ask.Ask.{Ask}
 use Rattle.inf_message.specs.declared.event.Event.{Event}
 use Rattle.inf_message.specs.declared.event.Event.TheVariants as event
-use Rattle.inf_message.specs.History.{Own, Posted, asks_of, made_ask, own_ask, posted_ask}
+use Rattle.inf_message.specs.History.{Own, asks_of, made_ask, own_ask, posted_ask}
 use Rattle.inf_message.specs.Shown.{IsOwn}
 use Rattle.inf_message.proofs.ClientLaws.{asks_are_own}
 use Rattle.inf_message.proofs.HistoryLaws.{asked_within}
-use Rattle.inf_client.specs.AskLog.{AskLog, IsLater, asked_first, asked_log}
-use Rattle.inf_client.specs.Client.{Client, AsksNext, Rests, Steps, client_with, wants_to_ask}
+use Rattle.inf_client.specs.AskLog.{IsLater, asked_log}
+use Rattle.inf_client.specs.Client.{Client, AsksNext, asks_left, Rests, Steps, client_with, wants_to_ask}
 use Rattle.inf_sched.specs.Run.{Asked, Did, IsClient, IsGivenUp, IsStateOf, asks_shown, rested}
 use Rattle.inf_sched.specs.Waiting.{posting}
 
@@ -90,22 +90,17 @@ module _ (world : World) (client number : ℕ) (h : List Event) (ask : Ask) (a b
       let count : (client_after world client (event.Ask number ask ∷ h)).counts.messages ≡ b.state.counts.messages + 1 = ap (λ (t : ClientState). t.counts.messages) follows in
       omega (arith, few, count, newest, fits)
 
-first_asked : (place : ℕ) (posted : Posted) (log : AskLog) → slice_get log.ready 0 ≡ Some posted
-    → (asked_log place log).asks ≡ log.asks ++ own_ask (made_ask posted.number posted.ask place) None ∷ []
-first_asked place posted log first = by log.ready first
-  where
-    by : (ready : List Posted) → slice_get ready 0 ≡ Some posted
-        → (asked_first place log ready).asks ≡ log.asks ++ own_ask (made_ask posted.number posted.ask place) None ∷ []
-    by [] none = absurd (cc)
-    by (p ∷ ready) same =
-        let is : p ≡ posted = cc in
-        ap (λ (q : Posted). log.asks ++ own_ask (made_ask q.number q.ask place) None ∷ []) is
+-- the ask as the history shares it
+pub first_made : (digest : List ℕ → Id) (number : ℕ) (ask made : Ask) (a b : Client) → AsksNext digest number ask a b → made ≡ ask
+    → slice_get (asks_left b.state) 0 ≡ Some (posted_ask number made)
+first_made digest number ask made a b next same = next.first ∙ sym (ap (λ (x : Ask). Some (posted_ask number x)) same)
 
-pub asked_did : (world : World) (client number place : ℕ) (h after : List Event) (ask : Ask) (a b c : Client) → client < length world.setup.clients → Legal world after
+pub asked_did : (world : World) (client number place : ℕ) (h after : List Event) (ask made : Ask) (a b c : Client) → client < length world.setup.clients → Legal world after
     → IsClient (client_after world client h) a → AsksNext world.digest number ask a b → place ≡ suc (length h)
-    → after ≡ event.Ask number ask ∷ h → c ≡ client_with (placed place b.state) false (asked_log place b.log) false
+    → made ≡ ask → after ≡ event.Ask number ask ∷ h
+    → c ≡ client_with (placed place b.state) false (asked_log place (posted_ask number made) b.log) false
     → Asked world client (posting place number client) h after a c
-asked_did world client number place h after ask a b c there legal is next newest joins placing =
+asked_did world client number place h after ask made a b c there legal is next newest shared joins placing =
     let same : a.state ≡ client_after world client h = here_state (client_after world client h) a is next.here in
     let is_after : placed place b.state ≡ client_after world client after =
     ap (λ p. placed p b.state) newest ∙ sym (ap (client_after world client) joins ∙ follows world client number h ask a b is next) in
@@ -118,7 +113,7 @@ asked_did world client number place h after ask a b c there legal is next newest
       joins = joins;
       posted = ap (λ p. posting p number client) newest;
       still_here = ap (λ (x : Client). x.gone) placing;
-      asks = ap (λ (x : Client). x.log.asks) placing ∙ first_asked place (posted_ask number ask) b.log next.first
+      asks = ap (λ (x : Client). x.log.asks) placing ∙ ap (λ (x : Ask). b.log.asks ++ own_ask (made_ask number x place) None ∷ []) shared
           ∙ ap (λ owns. owns ++ own_ask (made_ask number ask place) None ∷ []) next.asks
           ∙ ap (λ p. a.log.asks ++ own_ask (made_ask number ask p) None ∷ []) newest;
       idle = ap (λ (x : Client). x.handed) placing;

@@ -43,8 +43,8 @@ pub fn let_ask<R: IdRule>(
     let was_gone = client.has_given_up();
     match client.step(alloc, &core.rule()) {
         ClientStep::Ask(server, ask) => {
-            let place = core.ask(server, ask)?;
-            client.asked(place);
+            let (place, made) = core.ask(server, ask)?;
+            client.asked(place, server, made);
             Ok(Stepped::Asked(Posting {
                 place,
                 number: server,

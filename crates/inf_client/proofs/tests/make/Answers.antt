@@ -9,7 +9,7 @@ asked-requires-clause-room c =
 
 pub returns-clause-later : goal.returns-clause-later
 returns-clause-later c =
-    placed_later c.args.place c.step.new.self.log _ _ c.asked.ensures (asks_later _ c.args.place _ _ _ _ c.in-Ask.ensures c.requires.later)
+    placed_later c.args.place _ c.step.new.self.log _ _ c.asked.ensures (asks_later _ c.args.place _ _ _ _ c.in-Ask.ensures c.requires.later)
 
 pub returns-clause-few : goal.returns-clause-few
 returns-clause-few c =

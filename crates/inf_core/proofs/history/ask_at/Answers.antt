@@ -1,4 +1,4 @@
-use Rattle.std.proofs.Common.{◌≡◌, ℕ, ◌-◌, Some, ap₂, ◌∙◌}
+use Rattle.std.proofs.Common.{◌≡◌, ℕ, ◌-◌, Some, ap₂, sym, ◌∙◌}
 use Rattle.inf_message.specs.declared.ask.Ask.{Ask}
 use Rattle.inf_message.specs.History.{posted_ask}
 use Rattle.inf_core.proofs.CoreFacts.{ask_indexed, asked_there, item_found, item_there}
@@ -29,4 +29,4 @@ returns c =
     let this = item_there c.args.events.now (c.args.ask_place - 1) c.get.result _ c.in-Some.event c.get.ensures.lookup is.event c.in-Some.is in
     let number : there.0.number ≡ c.in-Ask.number = cc (this, c.in-Ask.is) in
     let ask : there.0.ask ≡ c.in-Ask.ask = cc (this, c.in-Ask.is) in
-    there.1 ∙ ap₂ (λ (n : ℕ) (a : Ask). Some (posted_ask n a)) number ask
+    there.1 ∙ ap₂ (λ (n : ℕ) (a : Ask). Some (posted_ask n a)) number (ask ∙ sym c.deref.ensures)

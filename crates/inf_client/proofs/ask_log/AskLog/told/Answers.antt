@@ -8,7 +8,7 @@ use Rattle.inf_client.proofs.ask_log.AskLog.told.Goals as goal
 
 pub unreachable-requires : goal.unreachable-requires
 unreachable-requires c =
-    waits_somewhere c.self.inside.trips.items c.self.inside.waiting.items c.self.inside.ready.items c.self.inside.room c.args.self.now c.self.view_is c.args.ask_place c.requires.waits
+    waits_somewhere c.self.inside.trips.items c.self.inside.waiting.items c.self.inside.room c.args.self.now c.self.view_is c.args.ask_place c.requires.waits
     (ap (position (is_at c.args.ask_place)) (sym c.as_slice.ensures.value) ∙ sym c.index_of.ensures ∙ c.in_default.is)
 
 pub index_for-at-requires : goal.index_for-at-requires
@@ -24,7 +24,6 @@ invariant_of-self c = record {
       c.remove.ensures.value c.remove.ensures.items (search rules) (search rules) (search rules) (search rules) c.self.invariant.places;
   answers = omega (arith, c.in-Ok.ensures.len, c.in-Ok.ensures.capacity);
   asks = omega arith;
-  readies = omega arith;
 }
 
 pub returns : goal.returns
@@ -33,4 +32,4 @@ returns c =
     c.args.ask_place (told_reply c.args.serve_place c.args.reply) c.remove.result c.in-Some.index c.index_for-at.result
     (ap (position (is_at c.args.ask_place)) (sym c.as_slice.ensures.value) ∙ sym c.index_of.ensures ∙ c.in-Some.is)
     c.remove.ensures.value c.remove.ensures.items (search rules) (search rules) (search rules) (search rules) c.self.invariant.places
-    c.self.inside.ready.items c.self.inside.room c.args.self.now c.self.view_is
+    c.self.inside.room c.args.self.now c.self.view_is

@@ -7,4 +7,4 @@ use Rattle.inf_client.proofs.ask_log.AskLog.waits_at.Goals as goal
 pub returns : goal.returns
 returns c =
     c.has_place.ensures ∙ ap (list_any (is_at c.args.place)) c.as_slice.ensures.value
-    ∙ waits_shown c.self.inside.trips.items c.self.inside.waiting.items c.self.inside.ready.items c.self.inside.room _ c.self.view_is c.args.place
+    ∙ waits_shown c.self.inside.trips.items c.self.inside.waiting.items c.self.inside.room _ c.self.view_is c.args.place
