@@ -10,6 +10,7 @@ use Rattle.std.proofs.lemmas.List.Folds.{list_all-append}
 use Rattle.std.proofs.lemmas.List.Sums.{sum_by-append}
 use Rattle.inf_base.specs.Checks.{◌>>=◌}
 use Rattle.inf_base.specs.declared.call.Call.{Call}
+use Rattle.inf_base.specs.Path.{path_of}
 use Rattle.inf_base.specs.declared.call.Call.TheVariants as call
 use Rattle.inf_base.specs.declared.setup.ClientLine.{ClientLine}
 use Rattle.inf_base.specs.declared.limits.TheConstants.{MOST_SERVERS, MOST_DIGEST_BYTES, MOST_CLIENTS, MOST_CALLS}
@@ -21,7 +22,7 @@ use Rattle.inf_script.specs.declared.script.Script.{Script}
 use Rattle.inf_script.specs.declared.section.Section.{Section}
 use Rattle.inf_script.specs.declared.section.Section.TheVariants as section
 use Rattle.inf_script.specs.declared.draft.Draft.{Draft}
-use Rattle.inf_script.specs.Paths.{names_within}
+use Rattle.inf_path.specs.Parsed.{has_names}
 use Rattle.inf_script.specs.Names.{mode_of, number_within}
 use Rattle.inf_script.specs.Draft.{rank, may_stand, servers_of, digest_bytes_of, place_of}
 use Rattle.inf_script.specs.Settings.{no_more, version, first_line, servers_end, servers_number, servers_line, digest_bytes_end, digest_bytes_number, digest_bytes_line}
@@ -29,7 +30,7 @@ use Rattle.inf_script.specs.ClientLine.{new_client, with_client, client_end, cli
 use Rattle.inf_script.specs.CallLine.{path_alone, mode_behind, path_and_mode, mkdir_call, create_call, rmdir_call, stat_call, call_kind, calling, with_call, call_of, call_client, call_line}
 use Rattle.inf_script.specs.Built.{HasNames, IsBuiltCall, IsBuiltClient, IsBuilt}
 use Rattle.inf_script.proofs.NameFacts.{and_both, and_left, and_right, if_both, if_read, mode_of-is_mode, number_within-good}
-use Rattle.inf_script.proofs.PathFacts.{has_names}
+use Rattle.inf_script.proofs.PathFacts.{names_there}
 use Rattle.inf_script.proofs.TableFacts.{none_at, names_of-calling, length-calling, call_count-calling}
 
 pub record IsGoodCall (call : Call) : Type 0 where
@@ -195,13 +196,13 @@ client_line-good draft good words = if_read IsGoodDraft (may_stand section.Clien
 
 -- a call line
 
--- a word that is a path of 1 to `most` names
-record IsGoodPath (most : ℕ) (path : List ℕ) : Type 0 where
+-- a word that is a path with names
+record IsGoodPath (path : List ℕ) : Type 0 where
   word : is_word path ≡ true
-  names : HasNames 1 most path
+  names : HasNames path
 
-record IsGoodPair (most : ℕ) (taken : List ℕ × ℕ) : Type 0 where
-  path : IsGoodPath most taken.0
+record IsGoodPair (taken : List ℕ × ℕ) : Type 0 where
+  path : IsGoodPath taken.0
   mode : is_mode taken.1 ≡ true
 
 -- what follows of a value that was read holds of what is read behind it
@@ -209,38 +210,38 @@ read_next : {A B : Type 0} (P : A → Type 0) (Q : B → Type 0) (r : Result A W
 read_next P Q (Ok a) next holds follows = follows a holds
 read_next P Q (Err reason) next holds follows = tt
 
-path_alone-good : (most : ℕ) (words : List (List ℕ)) → list_all is_word words ≡ true → IfOk (path_alone most words) (IsGoodPath most)
-path_alone-good most [] all = tt
-path_alone-good most (path ∷ words) all = if_read (IsGoodPath most) (names_within 1 most path) (no_more path words) why.BadWord (λ within.
-    no_more-good (IsGoodPath most) path (record { word = and_left _ _ all; names = has_names 1 most path within }) words)
+path_alone-good : (words : List (List ℕ)) → list_all is_word words ≡ true → IfOk (path_alone words) IsGoodPath
+path_alone-good [] all = tt
+path_alone-good (path ∷ words) all = if_read IsGoodPath (has_names (path_of path)) (no_more path words) why.BadWord (λ within.
+    no_more-good IsGoodPath path (record { word = and_left _ _ all; names = names_there path within }) words)
 
-mode_behind-good : (most : ℕ) (path : List ℕ) → IsGoodPath most path → (words : List (List ℕ)) → IfOk (mode_behind path words) (IsGoodPair most)
-mode_behind-good most path good [] = tt
-mode_behind-good most path good (word ∷ words) =
-    read_next (λ mode. is_mode mode ≡ true) (IsGoodPair most) (mode_of word) (λ mode. no_more (path, mode) words) (mode_of-is_mode word) (λ mode fits. no_more-good (IsGoodPair most) (path, mode) (record { path = good; mode = fits }) words)
+mode_behind-good : (path : List ℕ) → IsGoodPath path → (words : List (List ℕ)) → IfOk (mode_behind path words) IsGoodPair
+mode_behind-good path good [] = tt
+mode_behind-good path good (word ∷ words) =
+    read_next (λ mode. is_mode mode ≡ true) IsGoodPair (mode_of word) (λ mode. no_more (path, mode) words) (mode_of-is_mode word) (λ mode fits. no_more-good IsGoodPair (path, mode) (record { path = good; mode = fits }) words)
 
-path_and_mode-good : (most : ℕ) (words : List (List ℕ)) → list_all is_word words ≡ true → IfOk (path_and_mode most words) (IsGoodPair most)
-path_and_mode-good most [] all = tt
-path_and_mode-good most (path ∷ words) all = if_read (IsGoodPair most) (names_within 1 most path) (mode_behind path words) why.BadWord (λ within.
-    mode_behind-good most path (record { word = and_left _ _ all; names = has_names 1 most path within }) words)
+path_and_mode-good : (words : List (List ℕ)) → list_all is_word words ≡ true → IfOk (path_and_mode words) IsGoodPair
+path_and_mode-good [] all = tt
+path_and_mode-good (path ∷ words) all = if_read IsGoodPair (has_names (path_of path)) (mode_behind path words) why.BadWord (λ within.
+    mode_behind-good path (record { word = and_left _ _ all; names = names_there path within }) words)
 
 mkdir_call-good : (words : List (List ℕ)) → list_all is_word words ≡ true → IfOk (mkdir_call words) IsGoodCall
-mkdir_call-good words all = read_next (IsGoodPair 1) IsGoodCall (path_and_mode 1 words) (λ taken. Ok (call.Mkdir taken.0 taken.1)) (path_and_mode-good 1 words all) (λ taken good. record {
+mkdir_call-good words all = read_next IsGoodPair IsGoodCall (path_and_mode words) (λ taken. Ok (call.Mkdir taken.0 taken.1)) (path_and_mode-good words all) (λ taken good. record {
   valid = and_both _ _ good.path.word good.mode;
   built = good.path.names;
 })
 
 create_call-good : (words : List (List ℕ)) → list_all is_word words ≡ true → IfOk (create_call words) IsGoodCall
-create_call-good words all = read_next (IsGoodPair 2) IsGoodCall (path_and_mode 2 words) (λ taken. Ok (call.Create taken.0 taken.1)) (path_and_mode-good 2 words all) (λ taken good. record {
+create_call-good words all = read_next IsGoodPair IsGoodCall (path_and_mode words) (λ taken. Ok (call.Create taken.0 taken.1)) (path_and_mode-good words all) (λ taken good. record {
   valid = and_both _ _ good.path.word good.mode;
   built = good.path.names;
 })
 
 rmdir_call-good : (words : List (List ℕ)) → list_all is_word words ≡ true → IfOk (rmdir_call words) IsGoodCall
-rmdir_call-good words all = read_next (IsGoodPath 1) IsGoodCall (path_alone 1 words) (λ path. Ok (call.Rmdir path)) (path_alone-good 1 words all) (λ path good. record { valid = good.word; built = good.names })
+rmdir_call-good words all = read_next IsGoodPath IsGoodCall (path_alone words) (λ path. Ok (call.Rmdir path)) (path_alone-good words all) (λ path good. record { valid = good.word; built = good.names })
 
 stat_call-good : (words : List (List ℕ)) → list_all is_word words ≡ true → IfOk (stat_call words) IsGoodCall
-stat_call-good words all = read_next (IsGoodPath 2) IsGoodCall (path_alone 2 words) (λ path. Ok (call.Stat path)) (path_alone-good 2 words all) (λ path good. record { valid = good.word; built = good.names })
+stat_call-good words all = read_next IsGoodPath IsGoodCall (path_alone words) (λ path. Ok (call.Stat path)) (path_alone-good words all) (λ path good. record { valid = good.word; built = good.names })
 
 call_kind-good : (words : List (List ℕ)) → list_all is_word words ≡ true → IfOk (call_kind words) IsGoodCall
 call_kind-good [] all = tt

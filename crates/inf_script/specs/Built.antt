@@ -1,25 +1,24 @@
 -- What a script may ask for today.
-use Rattle.std.specs.Prelude.{◌≡◌, ℕ, List, length, Ok, All}
+use Rattle.std.specs.Prelude.{◌≡◌, ℕ, ◌<◌, List, length, Ok, All}
 use Rattle.inf_base.specs.declared.call.Call.{Call}
 use Rattle.inf_base.specs.declared.call.Call.TheVariants as call
 use Rattle.inf_base.specs.declared.setup.ClientLine.{ClientLine}
 use Rattle.inf_base.specs.declared.setup.Setup.{Setup}
 use Rattle.inf_base.specs.Path.{path_of}
-use Rattle.inf_base.specs.Setup.{IsWithin}
 
--- a path of `least` to `most` names, none of which is at fault
-pub record HasNames (least most : ℕ) (path : List ℕ) : Type 0 where
+-- a path with a name, none of whose names is at fault
+pub record HasNames (path : List ℕ) : Type 0 where
   pub names : List (List ℕ)
   pub spelt : path_of path ≡ Ok names
-  pub number : IsWithin least most (length names)
+  pub some : 0 < length names
 
--- mkdir and rmdir of a path of one name, create and stat of a path of one name or two
+-- mkdir, create, rmdir and stat of a path that has names
 abbrev pub IsBuiltCall : Call → Type 0
-IsBuiltCall (call.Mkdir path mode) = HasNames 1 1 path
-IsBuiltCall (call.Create path mode) = HasNames 1 2 path
-IsBuiltCall (call.Rmdir path) = HasNames 1 1 path
+IsBuiltCall (call.Mkdir path mode) = HasNames path
+IsBuiltCall (call.Create path mode) = HasNames path
+IsBuiltCall (call.Rmdir path) = HasNames path
 IsBuiltCall (call.Unlink path) = ⊥
-IsBuiltCall (call.Stat path) = HasNames 1 2 path
+IsBuiltCall (call.Stat path) = HasNames path
 IsBuiltCall (call.List path) = ⊥
 IsBuiltCall (call.Truncate path length) = ⊥
 IsBuiltCall (call.Chmod path mode) = ⊥

@@ -6,7 +6,9 @@ use Rattle.inf_base.specs.declared.call.Call.{Call}
 use Rattle.inf_base.specs.declared.call.Call.TheVariants as call
 use Rattle.inf_base.specs.declared.setup.ClientLine.{ClientLine}
 use Rattle.inf_base.specs.declared.limits.TheConstants.{MOST_CALLS}
+use Rattle.inf_base.specs.Path.{path_of}
 use Rattle.inf_base.specs.Setup.{call_count}
+use Rattle.inf_path.specs.Parsed.{has_names}
 use Rattle.inf_script.specs.declared.refusal.Why.{Why}
 use Rattle.inf_script.specs.declared.refusal.Why.TheVariants as why
 use Rattle.inf_script.specs.declared.section.Section.TheVariants as section
@@ -14,13 +16,12 @@ use Rattle.inf_script.specs.declared.draft.Draft.{Draft}
 use Rattle.inf_script.specs.Draft.{may_stand, place_of}
 use Rattle.inf_script.specs.Faults.{bad_word}
 use Rattle.inf_script.specs.Names.{mode_of}
-use Rattle.inf_script.specs.Paths.{names_within}
 use Rattle.inf_script.specs.Settings.{no_more}
 
--- a path of 1 to `most` names, and no word behind it
-abbrev pub path_alone : ℕ → List (List ℕ) → Result (List ℕ) Why
-path_alone most [] = bad_word
-path_alone most (path ∷ words) = if names_within 1 most path then no_more path words else bad_word
+-- a path that has names, and no word behind it
+abbrev pub path_alone : List (List ℕ) → Result (List ℕ) Why
+path_alone [] = bad_word
+path_alone (path ∷ words) = if has_names (path_of path) then no_more path words else bad_word
 
 abbrev pub mode_behind : List ℕ → List (List ℕ) → Result (List ℕ × ℕ) Why
 mode_behind path [] = bad_word
@@ -28,33 +29,33 @@ mode_behind path (word ∷ words) = do
   mode ← mode_of word
   no_more (path, mode) words
 
--- a path of 1 to `most` names, a mode, and no word behind it
-abbrev pub path_and_mode : ℕ → List (List ℕ) → Result (List ℕ × ℕ) Why
-path_and_mode most [] = bad_word
-path_and_mode most (path ∷ words) = if names_within 1 most path then mode_behind path words else bad_word
+-- a path that has names, a mode, and no word behind it
+abbrev pub path_and_mode : List (List ℕ) → Result (List ℕ × ℕ) Why
+path_and_mode [] = bad_word
+path_and_mode (path ∷ words) = if has_names (path_of path) then mode_behind path words else bad_word
 
--- `PATH MODE` behind `mkdir`: a directory in the root
+-- `PATH MODE` behind `mkdir`
 abbrev pub mkdir_call : List (List ℕ) → Result Call Why
 mkdir_call words = do
-  taken ← path_and_mode 1 words
+  taken ← path_and_mode words
   Ok (call.Mkdir taken.0 taken.1)
 
--- `PATH MODE` behind `create`: a file in the root or one directory below
+-- `PATH MODE` behind `create`
 abbrev pub create_call : List (List ℕ) → Result Call Why
 create_call words = do
-  taken ← path_and_mode 2 words
+  taken ← path_and_mode words
   Ok (call.Create taken.0 taken.1)
 
 -- `PATH` behind `rmdir`
 abbrev pub rmdir_call : List (List ℕ) → Result Call Why
 rmdir_call words = do
-  path ← path_alone 1 words
+  path ← path_alone words
   Ok (call.Rmdir path)
 
 -- `PATH` behind `stat`
 abbrev pub stat_call : List (List ℕ) → Result Call Why
 stat_call words = do
-  path ← path_alone 2 words
+  path ← path_alone words
   Ok (call.Stat path)
 
 abbrev pub call_kind : List (List ℕ) → Result Call Why

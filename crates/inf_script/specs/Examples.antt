@@ -1,5 +1,5 @@
 -- Texts and what they say, and what holds of every text.
-use Rattle.std.specs.Prelude.{◌≡◌, ℕ, ◌+◌, ◌<◌, ◌≤◌, true, false, List, [], ◌∷◌, ◌++◌, length, take, replicate, codes, Some, None, Ok, Err, IsErrAnd, IsOk}
+use Rattle.std.specs.Prelude.{◌≡◌, ℕ, zero, suc, ◌+◌, ◌<◌, ◌≤◌, true, false, List, [], ◌∷◌, ◌++◌, length, take, replicate, codes, Some, None, Ok, Err, IsErrAnd, IsOk}
 use Rattle.std.specs.List.{flat_map}
 use Rattle.std.specs.Str.{is_utf8}
 use Rattle.inf_base.specs.declared.call.Call.{Call}
@@ -189,6 +189,11 @@ pub record WordsAreRefused : Type 0 where
   pub nothing_to_remove : IsRefused 3 why.BadWord (with_line (codes "call a rmdir"))
   pub mode_of_a_removal : IsRefused 3 why.BadWord (with_line (codes "call a rmdir /d 755"))
 
+-- a path of so many names, each of one byte
+abbrev names_of_a_byte : ℕ → List ℕ
+names_of_a_byte zero = []
+names_of_a_byte (suc count) = codes "/a" ++ names_of_a_byte count
+
 pub record PathsAreRefused : Type 0 where
   pub root : IsRefused 3 why.BadWord (with_line (codes "call a stat /"))
   pub root_as_a_file : IsRefused 3 why.BadWord (with_line (codes "call a create // 644"))
@@ -196,11 +201,9 @@ pub record PathsAreRefused : Type 0 where
   pub root_removed : IsRefused 3 why.BadWord (with_line (codes "call a rmdir /"))
   pub no_slash : IsRefused 3 why.BadWord (with_line (codes "call a stat f"))
   pub no_slash_in_front : IsRefused 3 why.BadWord (with_line (codes "call a stat d/f"))
-  pub three_names : IsRefused 3 why.BadWord (with_line (codes "call a stat /d/e/f"))
-  pub three_names_of_a_file : IsRefused 3 why.BadWord (with_line (codes "call a create /d/e/f 644"))
-  pub two_names_made : IsRefused 3 why.BadWord (with_line (codes "call a mkdir /d/e 755"))
-  pub two_names_removed : IsRefused 3 why.BadWord (with_line (codes "call a rmdir //a//b/"))
-  pub path_before_mode : IsRefused 3 why.BadWord (with_line (codes "call a mkdir /d/e 800"))
+  pub too_many_names : IsRefused 3 why.BadWord (with_line (codes "call a stat " ++ names_of_a_byte 33))
+  pub too_many_names_made : IsRefused 3 why.BadWord (with_line (codes "call a mkdir " ++ names_of_a_byte 33 ++ codes " 755"))
+  pub path_before_mode : IsRefused 3 why.BadWord (with_line (codes "call a mkdir / 800"))
   pub dot : IsRefused 3 why.BadWord (with_line (codes "call a stat /."))
   pub dot_dot : IsRefused 3 why.BadWord (with_line (codes "call a stat /.."))
   pub dot_below : IsRefused 3 why.BadWord (with_line (codes "call a create /d/. 644"))

@@ -3,7 +3,6 @@ pub mod Cuts
 pub mod Lines
 pub mod Words
 pub mod Names
-pub mod Paths
 pub mod ClientTable
 pub mod Draft
 pub mod Settings

@@ -8,20 +8,20 @@ ghost use Rattle.inf_script.specs.CallLine.{path_alone, mode_behind, path_and_mo
 use crate::draft::Draft;
 use crate::fault::{BAD_WORD, LineFault, TOO_MANY, UNKNOWN_CLIENT};
 use crate::names::mode_of;
-use crate::paths::names_within;
 use crate::section::Section;
 use crate::words::Words;
 use inf_base::{Call, MOST_CALLS, Text};
+use inf_path::has_names;
 use std::alloc::Global;
 
-/// A path of 1 to `most` names, and no word behind it.
-fn path_alone(alloc: Global, most: usize, words: Words<'_>) -> Result<Text, LineFault>
-    ensures { Gives line_cause result (path_alone most words.entry) }
+/// A path that has names, and no word behind it.
+fn path_alone(alloc: Global, words: Words<'_>) -> Result<Text, LineFault>
+    ensures { Gives line_cause result (path_alone words.entry) }
 {
     let Some((path, words)) = words.split_first() else {
         return Err(BAD_WORD);
     };
-    if !names_within(1, most, path) {
+    if !has_names(path) {
         return Err(BAD_WORD);
     }
     if !words.is_empty() {
@@ -44,14 +44,14 @@ fn mode_behind(alloc: Global, path: &[u8], words: Words<'_>) -> Result<(Text, u1
     Ok((path, mode))
 }
 
-/// A path of 1 to `most` names, a mode, and no word behind it.
-fn path_and_mode(alloc: Global, most: usize, words: Words<'_>) -> Result<(Text, u16), LineFault>
-    ensures { Gives line_cause result (path_and_mode most words.entry) }
+/// A path that has names, a mode, and no word behind it.
+fn path_and_mode(alloc: Global, words: Words<'_>) -> Result<(Text, u16), LineFault>
+    ensures { Gives line_cause result (path_and_mode words.entry) }
 {
     let Some((path, words)) = words.split_first() else {
         return Err(BAD_WORD);
     };
-    if !names_within(1, most, path) {
+    if !has_names(path) {
         return Err(BAD_WORD);
     }
     mode_behind(alloc, path, words)
@@ -60,28 +60,28 @@ fn path_and_mode(alloc: Global, most: usize, words: Words<'_>) -> Result<(Text, 
 fn mkdir_call(alloc: Global, words: Words<'_>) -> Result<Call, LineFault>
     ensures { Gives line_cause result (mkdir_call words.entry) }
 {
-    let (path, mode) = path_and_mode(alloc, 1, words)?;
+    let (path, mode) = path_and_mode(alloc, words)?;
     Ok(Call::Mkdir { path, mode })
 }
 
 fn create_call(alloc: Global, words: Words<'_>) -> Result<Call, LineFault>
     ensures { Gives line_cause result (create_call words.entry) }
 {
-    let (path, mode) = path_and_mode(alloc, 2, words)?;
+    let (path, mode) = path_and_mode(alloc, words)?;
     Ok(Call::Create { path, mode })
 }
 
 fn rmdir_call(alloc: Global, words: Words<'_>) -> Result<Call, LineFault>
     ensures { Gives line_cause result (rmdir_call words.entry) }
 {
-    let path = path_alone(alloc, 1, words)?;
+    let path = path_alone(alloc, words)?;
     Ok(Call::Rmdir { path })
 }
 
 fn stat_call(alloc: Global, words: Words<'_>) -> Result<Call, LineFault>
     ensures { Gives line_cause result (stat_call words.entry) }
 {
-    let path = path_alone(alloc, 2, words)?;
+    let path = path_alone(alloc, words)?;
     Ok(Call::Stat { path })
 }
 

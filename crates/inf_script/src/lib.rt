@@ -12,7 +12,6 @@ mod lines;
 mod names;
 mod open_line;
 mod order_line;
-mod paths;
 mod reader;
 mod refusal;
 mod script;

@@ -107,8 +107,8 @@ fn read_lines(alloc: Global, bytes: &[u8], more: bool) -> Result<Script, ScriptF
 /// `#` are passed over. The lines are `infinifs 1`, then `servers N` (from 1 to 64; one where it is left out) and
 /// `digest-bytes N` (from 1 to 32; 32 where it is left out), then up to 64 of `client NAME 0 0`, up to 20,000 of
 /// `call NAME mkdir PATH MODE`, `call NAME create PATH MODE`, `call NAME rmdir PATH` and `call NAME stat PATH`, lines
-/// `order MOVE ..` with up to 1,000,000 moves, and `end`. The paths of mkdir and rmdir have one name, those of create
-/// and stat one or two. The first line at fault refuses the text. The form is our own.
+/// `order MOVE ..` with up to 1,000,000 moves, and `end`. A path has 1 to 32 names, of
+/// which none is at fault. The first line at fault refuses the text. The form is our own.
 /// `more` tells that the text goes on behind these bytes, which are then the most that a script may have.
 pub fn read_script(alloc: Global, bytes: &[u8], more: bool) -> Result<Script, ScriptFault>
     requires { IsTrue more → MOST_SCRIPT_BYTES ≤ length bytes.now }

@@ -10,6 +10,8 @@ mod directory_tests;
 mod input;
 #[cfg(test)]
 mod largest_tests;
+#[cfg(test)]
+mod path_tests;
 mod sched;
 mod status;
 #[cfg(test)]

@@ -13,6 +13,9 @@ const ROOT: &[u8] = b"e3b0c44298fc1c149afbf4c8996fb92427ae41e4649b934ca495991b78
 /// That of the directory `a` of the root, of version 0. Of two servers the second keeps it.
 const A: &[u8] = b"410ec5e84667f26908f606f90ae032b1dc4a7ca38764924c858e9a4b5b195fe9";
 
+/// That of the directory `b` in that, of version 0, which the first keeps.
+const B: &[u8] = b"4541bd3695a5c62660dd7b59a6d5fa94a3086c736902989f4ffa6bd9fb1008eb";
+
 /// A source of these bytes in pieces of `piece`, of whose calls those of the numbers in `fails` fail.
 pub fn source(alloc: Global, bytes: &[u8], piece: usize, fails: &[u64]) -> Result<MemSource, Fail>
     requires { 0 < piece }
@@ -28,13 +31,15 @@ pub fn words_of(alloc: Global, words: &[&str]) -> Result<Vec<String>, Fail> {
     Ok(all)
 }
 
-/// A text in which `@` stands for the root's identifier, and `%` for that of its directory `a`.
+/// A text in which `@` stands for the root's identifier, `%` for that of its directory `a`, and `&` for that of `b` in
+/// `a`.
 pub fn spelt(alloc: Global, text: &[u8]) -> Result<Vec<u8>, Fail> {
     let mut bytes = Vec::new(alloc);
     for byte in text {
         match *byte {
             b'@' => bytes.extend_from_slice(ROOT)?,
             b'%' => bytes.extend_from_slice(A)?,
+            b'&' => bytes.extend_from_slice(B)?,
             other => bytes.push(other)?,
         }
     }
